@@ -1,4 +1,4 @@
-//! What a chart is to be of, and the words that say it.
+//! The range of a chart, and the words that give it.
 
 ghost use Rattle.std.specs.Prelude.{◌≡◌, ◌==◌, ℕ, ◌<◌, IfOk, IfErr, IfSome, MatchOption, Option, length, option_map};
 ghost use Rattle.std.specs.List.{position_or_len};
@@ -9,12 +9,12 @@ ghost use Rattle.tl_command.specs.statement.ChartWords.{digit_named, seven_named
 
 use crate::number::decimal;
 
-/// The lines that a chart is of, and the block.
+/// The range of a chart: its lines, and its block.
 #[derive(Clone, Copy, Debug, PartialEq, Eq)]
 pub struct Range {
-    /// The first line and the last, where they are given.
+    /// The first line and the last, if they are given.
     pub lines: Option<(u64, u64)>,
-    /// The block, where it is given.
+    /// The block, if it is given.
     pub block: Option<u32>,
 }
 
@@ -34,7 +34,7 @@ impl ChartOption {
         }
     }
 
-    /// What its word has to be.
+    /// The form of its word.
     pub fn wanted(self) -> &'static str {
         match self {
             ChartOption::Lines => {
@@ -47,7 +47,7 @@ impl ChartOption {
     }
 }
 
-/// What stands before the first dash of a word, and behind it.
+/// The parts of a word before its first dash and after it.
 fn parts(word: &str) -> Option<(&str, &str)>
     ensures { MatchOption result (position_or_len (λ c. c == 45) word.now ≡ length word.now)
         (λ x. AreParts word.now x.0.now x.1.now) }
@@ -55,7 +55,7 @@ fn parts(word: &str) -> Option<(&str, &str)>
     word.split_once('-')
 }
 
-/// These numbers, where the first is from 1 on and not above the second.
+/// These numbers, if the first is from 1 on and not above the second.
 fn ordered(first: u64, last: u64) -> Option<(u64, u64)>
     ensures { MatchOption result (¬ AreOrdered first last) (λ x. (x ≡ (first, last)) × AreOrdered first last) }
 {
@@ -68,8 +68,7 @@ fn ordered(first: u64, last: u64) -> Option<(u64, u64)>
     Some((first, last))
 }
 
-/// The lines that a word names: two numbers in decimal with a dash between them, from 1 on, the first not
-/// above the second.
+/// The lines of a word: two decimal numbers with a dash between them, from 1 on, the first not above the second.
 fn lines_named(word: &str) -> Option<(u64, u64)>
     ensures { MatchOption result ((lines : ℕ × ℕ) → ¬ SpellsLines word.now lines) (SpellsLines word.now) }
 {
@@ -91,7 +90,7 @@ fn digit(byte: u8) -> Option<u32>
     }
 }
 
-/// The number that three digits name.
+/// The number of three hexadecimal digits.
 fn three(high: u8, middle: u8, low: u8) -> Option<u32>
     ensures named { result ≡ three_named high middle low }
     ensures below { IfSome result (λ n. n < 4096) }
@@ -102,7 +101,7 @@ fn three(high: u8, middle: u8, low: u8) -> Option<u32>
     Some(256 * high + 16 * middle + low)
 }
 
-/// The number of these values of three digits, one, and three.
+/// The number of seven digits, from the values of the first three, the fourth, and the last three.
 fn seven(high: u32, middle: u32, low: u32) -> u32
     requires { (high < 4096) × (middle < 16) × (low < 4096) }
     ensures { result ≡ seven_named high middle low }
@@ -110,7 +109,7 @@ fn seven(high: u32, middle: u32, low: u32) -> u32
     65536 * high + 4096 * middle + low
 }
 
-/// The block that a word of three digits or of seven names.
+/// The block of a word of three or seven digits.
 fn block_named(word: &str) -> Option<u32>
     ensures { result ≡ block_named word.now }
 {
@@ -126,7 +125,7 @@ fn block_named(word: &str) -> Option<u32>
     }
 }
 
-/// What the words of the options name, or the option whose word stands for nothing.
+/// The range that the words of the options give, or the option whose word has no meaning.
 pub fn range_named(lines: Option<&str>, block: Option<&str>) -> Result<Range, ChartOption>
     ensures named { IfOk result (IsRange (option_map (λ s. s.now) lines.entry) (option_map (λ s. s.now) block.entry)) }
     ensures wrong { IfErr result (λ _. (range : Range) → ¬ IsRange (option_map (λ s. s.now) lines.entry)
@@ -137,7 +136,7 @@ pub fn range_named(lines: Option<&str>, block: Option<&str>) -> Result<Range, Ch
     Ok(Range { lines, block })
 }
 
-/// The lines that a word names, or none where there is no word; nothing where the word names none.
+/// The lines of the word, or no lines without a word. None if the word has no meaning.
 fn named_lines(word: Option<&str>) -> Option<Option<(u64, u64)>>
     ensures { MatchOption result ((lines : Option (ℕ × ℕ)) → ¬ AreLines (option_map (λ s. s.now) word.entry) lines)
         (AreLines (option_map (λ s. s.now) word.entry)) }
@@ -151,7 +150,7 @@ fn named_lines(word: Option<&str>) -> Option<Option<(u64, u64)>>
     }
 }
 
-/// The block that a word names, or none where there is no word; nothing where the word names none.
+/// The block of the word, or no block without a word. None if the word has no meaning.
 fn named_block(word: Option<&str>) -> Option<Option<u32>>
     ensures { MatchOption result ((block : Option ℕ) → ¬ IsBlock (option_map (λ s. s.now) word.entry) block)
         (IsBlock (option_map (λ s. s.now) word.entry)) }

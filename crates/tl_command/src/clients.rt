@@ -10,7 +10,7 @@ use arrayvec::ArrayVec;
 use tl_params::config::{ClientConfig, MOST_CLIENTS};
 use tl_params::level::Level;
 
-/// The level at the front of a word, and what follows it.
+/// The level at the front of a word, and the rest after it.
 fn level(word: &[u8]) -> Option<(Level, &[u8])>
     ensures { Gives result (level_at word.now) }
 {
@@ -22,7 +22,7 @@ fn level(word: &[u8]) -> Option<(Level, &[u8])>
     }
 }
 
-/// The number of sources at the front of a word, from 1 to 8 and behind a colon, and what follows it.
+/// The number of sources at the front of a word, 1 to 8 after a colon, and the rest after it.
 fn sources(word: &[u8]) -> Option<(u8, &[u8])>
     ensures { Gives result (sources_at word.now) }
 {
@@ -32,7 +32,7 @@ fn sources(word: &[u8]) -> Option<(u8, &[u8])>
     }
 }
 
-/// The client at the front of a word, and what follows it.
+/// The client at the front of a word, and the rest after it.
 fn client(word: &[u8]) -> Option<(ClientConfig, &[u8])>
     ensures { Gives result (client_at word.now) }
 {
@@ -41,7 +41,7 @@ fn client(word: &[u8]) -> Option<(ClientConfig, &[u8])>
     Some((ClientConfig { level, sources }, rest))
 }
 
-/// What follows a comma at the front of a word.
+/// The rest of a word after a comma at its front.
 fn behind_comma(word: &[u8]) -> Option<&[u8]>
     ensures { MatchOption result ((rest : List ℕ) → word.now ≢ 44 ∷ rest) (λ rest. word.now ≡ 44 ∷ rest.now) }
 {
@@ -67,7 +67,7 @@ fn clients(word: &[u8]) -> Option<ArrayVec<ClientConfig, MOST_CLIENTS>>
     None
 }
 
-/// The clients that a word spells, 1 to 16 of them.
+/// The clients that a word spells, 1 to 16.
 pub(crate) fn clients_spelled(word: &str) -> Option<ArrayVec<ClientConfig, MOST_CLIENTS>>
     ensures { MatchOption result ((clients : List ClientConfig) →
         ¬ SpellsClients word.now clients) (λ clients. SpellsClients word.now clients.items) }

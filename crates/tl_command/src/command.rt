@@ -1,8 +1,8 @@
-//! What the program can be asked to do.
+//! The commands of the program.
 
 pub use tl_params::width::Width;
 
-/// What the program does with its input.
+/// A command of the program over its input.
 #[derive(Clone, Copy, Debug, PartialEq, Eq)]
 pub enum Command {
     /// Writes a readable line for each beat line of this width.
@@ -11,8 +11,8 @@ pub enum Command {
     Monitor,
     /// Judges a recorded trace of all links of a manager together.
     Coherent,
-    /// Judges a recorded trace, each link by itself or all together, and says why its first line at fault is so.
+    /// Judges a recorded trace, each link by itself or all together, and explains its first line at fault.
     Explain { coherent: bool },
-    /// Plays a schedule: writes what comes of each event, or the trace of it.
+    /// Plays a schedule: writes the outcome of each event, or the trace of all.
     Run { trace: bool },
 }

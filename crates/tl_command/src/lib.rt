@@ -1,4 +1,4 @@
-//! What the program can be asked to do: for those who read it from words, and for those who do it.
+//! The tasks of the program, for the crate that reads them from words and for those that carry them out.
 #![tactic(auto)]
 
 pub mod chart;

@@ -1,4 +1,4 @@
-//! Reads the words that name what links may do beyond the first profile.
+//! Reads the words that name the liberties of links.
 
 ghost use Rattle.std.specs.Prelude.{◌≡◌, ◌≢◌, ◌++◌, ℕ, List, MatchOption, IfSome, codes, option_map};
 ghost use Rattle.tl_command.specs.code.LibertyReading.{liberties_at, mark_at, names_at, standard_at};
@@ -9,11 +9,11 @@ ghost use Rattle.tl_params.specs.declared.liberties.Liberties.{Liberties};
 
 use tl_params::liberties::{Liberties, Liberty};
 
-/// What the word of liberties has to be.
+/// The form of a word of liberties.
 pub const LIBERTIES_WANTED: &str =
     "none, standard, or names of ids, sinks, writer, early, drops, reports, denied and uncorrupt, in this order, with a comma between them";
 
-/// What stands behind this word, where it stands at the front.
+/// The rest of the bytes after this word, if the word is at their front.
 fn behind<'a>(word: &[u8], bytes: &'a [u8]) -> Option<&'a [u8]>
     ensures { MatchOption result ((rest : List ℕ) → bytes.now ≢ word.now ++ rest) (λ rest. bytes.now
         ≡ word.now ++ rest.now) }
@@ -21,15 +21,15 @@ fn behind<'a>(word: &[u8], bytes: &'a [u8]) -> Option<&'a [u8]>
     bytes.strip_prefix(word)
 }
 
-/// The same, as reading from left to right has it.
+/// The same, in reading from left to right.
 fn after<'a>(word: &[u8], bytes: &'a [u8]) -> Option<&'a [u8]>
     ensures { IsAfter word.now bytes.now result }
 {
     behind(word, bytes)
 }
 
-/// Whether the name of a liberty stands at the front, where one may; and whether another may come, which is so behind a
-/// comma, and what is left.
+/// Reads the name of a liberty at the front, if one may be there. Returns whether it is there, whether another may
+/// follow, which is so after a comma, and the rest.
 fn mark(liberty: Liberty, more: bool, bytes: &[u8]) -> (bool, bool, &[u8])
     ensures { GivesMark result (mark_at liberty more bytes.now) }
 {
@@ -45,7 +45,7 @@ fn mark(liberty: Liberty, more: bool, bytes: &[u8]) -> (bool, bool, &[u8])
     }
 }
 
-/// The liberties whose names stand at the front, one or more in their order with a comma between them, and what is left.
+/// The liberties whose names are at the front, one or more in their order with a comma between them, and the rest.
 fn names(bytes: &[u8]) -> Option<(Liberties, &[u8])>
     ensures { Gives result (names_at bytes.now) }
 {
@@ -73,7 +73,7 @@ fn names(bytes: &[u8]) -> Option<(Liberties, &[u8])>
     Some((liberties, rest))
 }
 
-/// What `standard` stands for, with what follows it, and what is left.
+/// The liberties of `standard` with these bytes after it, and the rest.
 fn standard(rest: &[u8]) -> (Liberties, &[u8])
     ensures { (result.0, result.1.now) ≡ standard_at rest.now (after_word (codes ",uncorrupt") rest.now) }
 {
@@ -83,7 +83,7 @@ fn standard(rest: &[u8]) -> (Liberties, &[u8])
     }
 }
 
-/// The liberties at the front, and what is left, from left to right.
+/// The liberties at the front, and the rest, from left to right.
 fn read_liberties(bytes: &[u8]) -> Option<(Liberties, &[u8])>
     ensures { Gives result (liberties_at bytes.now) }
 {
@@ -96,7 +96,7 @@ fn read_liberties(bytes: &[u8]) -> Option<(Liberties, &[u8])>
     }
 }
 
-/// The liberties that are named at the front, and what follows them.
+/// The liberties that are named at the front, and the rest after them.
 pub fn front_liberties(bytes: &[u8]) -> Option<(Liberties, &[u8])>
     // What is read is spelled at the front, and whatever is spelled there is read, where no comma follows it.
     ensures spelled { IfSome result (λ x. (word : List ℕ) × SpellsLiberties word x.0 × (bytes.now ≡ word ++ x.1.now)) }
@@ -119,7 +119,7 @@ pub fn liberties_named(word: &str) -> Option<Liberties>
     }
 }
 
-/// The liberties that the word of `--allow` names; none without the word.
+/// The liberties that the word of `--allow` names; no liberties without the word.
 pub fn allowed_named(word: Option<&str>) -> Option<Liberties>
     ensures { MatchOption result
         ((liberties : Liberties) → ¬ AreAllowed (option_map (λ s. s.now) word.entry) liberties)

@@ -21,7 +21,7 @@ pub(crate) fn decimal(word: &str) -> Option<u64>
     }
 }
 
-/// The number that a word spells, or where there is no word the default.
+/// The number that the word spells; the default without a word.
 fn named(word: Option<&str>, default: Option<u64>) -> Option<u64>
     ensures { MatchOption result ((n : ℕ) → n < 2 ^ 64 → ¬ IsNamed (option_map (λ s. s.now) word.entry) default n)
         (IsNamed (option_map (λ s. s.now) word.entry) default) }
@@ -39,8 +39,7 @@ fn is_within(number: u64, least: u64, most: u64) -> bool
     least <= number && number <= most
 }
 
-/// The number of an option from `least` to `most`: that of its word, or where it isn't given the
-/// default.
+/// The number of an option, from `least` to `most`: that of its word, or the default without a word.
 pub(crate) fn number(word: Option<&str>, default: Option<u64>, least: u64, most: u64) -> Option<u64>
     ensures { MatchOption result ((n : ℕ) → ¬ IsNumber (option_map (λ s. s.now) word.entry) default least most n)
         (IsNumber (option_map (λ s. s.now) word.entry) default least most) }

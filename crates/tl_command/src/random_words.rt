@@ -13,7 +13,7 @@ use tl_params::header::Version;
 use tl_params::profile::Profile;
 use tl_params::width::Width;
 
-/// The words of the options of `random`, of those that are given.
+/// The words of the options of `random`; None for an option that isn't given.
 #[derive(Clone, Copy)]
 pub struct RandomWords<'a> {
     pub seed: Option<&'a str>,
@@ -70,7 +70,7 @@ impl RandomOption {
         }
     }
 
-    /// What its word has to be.
+    /// The form of its word.
     pub fn wanted(self) -> &'static str {
         match self {
             RandomOption::Seed | RandomOption::Events => {
@@ -88,10 +88,10 @@ impl RandomOption {
     }
 }
 
-/// Three caches and a client of TL-UH, which stand for the clients that aren't named.
+/// The default of the clients: three caches and a client of TL-UH.
 const DEFAULT_CLIENTS: &str = "C:2,C:2,C:2,UH:1";
 
-/// The profile that a word stands for, the first where there is no word.
+/// The profile of the word; the first without a word.
 fn profile_named(word: Option<&str>) -> Option<Profile>
     ensures { result ≡ profile_named (text_of word.entry) }
 {
@@ -113,7 +113,7 @@ fn version_with(width: Width, profile: Profile) -> Version
     }
 }
 
-/// Of how many blocks most operations speak: of two where no word says it, or of the only one.
+/// The number of contended blocks, by its word. Without a word it is two, or one of one block.
 fn contended(word: Option<&str>, blocks: u64) -> Option<u64>
     ensures { MatchOption result ((n : ℕ) → ¬ contend_named (text_of word.entry) blocks n)
         (contend_named (text_of word.entry) blocks) }
@@ -125,8 +125,7 @@ fn contended(word: Option<&str>, blocks: u64) -> Option<u64>
     }
 }
 
-/// What a random schedule is drawn from, by the words of its options, or the first option whose word
-/// stands for nothing.
+/// The options that the words give, or the first option whose word has no meaning.
 pub fn options_named(words: &RandomWords) -> Result<Options, RandomOption>
     ensures named { IfOk result (AreOptions (words_of words.now)) }
     ensures wrong { IfErr result (IsWrong (words_of words.now)) }

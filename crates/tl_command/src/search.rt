@@ -1,4 +1,4 @@
-//! What is looked for in a trace, and the word that says how much.
+//! The aim of a search in a trace, and the word that gives its number of lines.
 
 ghost use Rattle.std.specs.Prelude.{◌≡◌, ℕ, IfSome, MatchOption, option_map};
 ghost use Rattle.tl_command.specs.declared.search.Inquiry.{Inquiry};
@@ -7,18 +7,18 @@ ghost use Rattle.tl_command.specs.statement.SearchWords.{IsBehind, IsInquiry};
 use crate::number::number;
 use tl_params::liberties::Liberties;
 
-/// What is looked for in a trace.
+/// The aim of a search in a trace.
 #[derive(Clone, Copy, Debug, PartialEq, Eq)]
 pub struct Aim {
     /// Whether all links are judged together, or each by itself.
     pub together: bool,
-    /// How many lines at fault are looked for behind the first.
+    /// The number of lines at fault to look for after the first.
     pub behind: u64,
-    /// What links may do besides what the header names, each judged by itself.
+    /// The liberties of the links beyond those that the header names.
     pub allow: Liberties,
 }
 
-/// How many lines at fault are looked for behind the first, by the word of `--all`.
+/// The number of lines at fault to look for after the first, by the word of `--all`.
 pub fn behind_named(word: &str) -> Option<u64>
     ensures { MatchOption result ((n : ℕ) → ¬ IsBehind word.now n) (IsBehind word.now) }
 {
@@ -26,17 +26,18 @@ pub fn behind_named(word: &str) -> Option<u64>
     Some(most - 1)
 }
 
-/// What is asked of a trace whose judgement is reported.
+/// The inquiry for the report of a judgement.
 #[derive(Clone, Copy, Debug, PartialEq, Eq)]
 pub struct Inquiry {
-    /// What is looked for.
+    /// The aim of the search.
     pub aim: Aim,
-    /// Whether all lines at fault are written that are found, and how many they are; or the first, as without a search.
+    /// Whether all lines at fault that are found are written, with their number, or only the first, as without a
+    /// search.
     pub all: bool,
 }
 
-/// What is asked by the word of `--all`, or without it, of all links together or of each by itself, which may do this
-/// besides what the header names.
+/// The inquiry by the word of `--all`, or without it, for all links together or each by itself. `allow` has the
+/// liberties beyond those that the header names. None if the word has no meaning.
 pub fn inquiry_named(together: bool, word: Option<&str>, allow: Liberties) -> Option<Inquiry>
     ensures named { MatchOption result ((q : Inquiry) → ¬ IsInquiry together (option_map (λ s. s.now) word.entry) q)
         (IsInquiry together (option_map (λ s. s.now) word.entry)) }
@@ -65,5 +66,5 @@ pub fn inquiry_named(together: bool, word: Option<&str>, allow: Liberties) -> Op
     }
 }
 
-/// What the word of `--all` has to be.
+/// The form of the word of `--all`.
 pub const ALL_WANTED: &str = "a number from 1 to 18446744073709551615, without leading zeros";

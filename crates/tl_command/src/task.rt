@@ -1,19 +1,25 @@
-//! What the words of the program ask for.
+//! The tasks of the program.
 
 use crate::chart::Range;
 use crate::command::Command;
 use crate::random::Options;
 use crate::search::{Aim, Inquiry};
 use tl_params::liberties::Liberties;
+use tl_wide::width::WideWidth;
 
-/// What the words of the program ask for.
+/// A task of the program.
 #[derive(Drop)]
 pub enum Task {
-    /// A command over the file of this name, or over standard input. What links may do besides what the header names
-    /// is asked by `monitor`, `coherent` and `explain`.
+    /// A command over the file of this name, or over standard input. `allow` has the liberties of the links beyond
+    /// those that the header names, for `monitor`, `coherent` and `explain`.
     Read {
         command: Command,
         allow: Liberties,
+        file: Option<String>,
+    },
+    /// A readable line for each line of a wide beat of this width in the file of this name, or on standard input.
+    DecodeWide {
+        width: WideWidth,
         file: Option<String>,
     },
     /// The lines at fault of the trace in the file of this name, or on standard input.
@@ -21,25 +27,26 @@ pub enum Task {
         aim: Aim,
         file: Option<String>,
     },
-    /// The judgement of the trace in the file of this name, or on standard input, and files of these names with its report,
-    /// in JSON and as JUnit has it.
+    /// The judgement of the trace in the file of this name, or on standard input, and its report in files of these
+    /// names, as JSON and as JUnit.
     Report {
         inquiry: Inquiry,
         file: Option<String>,
         report: Option<String>,
         junit: Option<String>,
     },
-    /// A chart of the trace in the file of this name, or on standard input, whose links may do this besides what the header
-    /// names.
+    /// A chart of the trace in the file of this name, or on standard input. `allow` has the liberties of the links
+    /// beyond those that the header names.
     Chart {
         range: Range,
         allow: Liberties,
         file: Option<String>,
     },
-    /// The situations that the trace in the file of this name, or on standard input, has been in, as text or in JSON.
+    /// The situations in the traces of the files of these names, or without a name in the trace on standard input, as
+    /// text or as JSON.
     Cover {
         json: bool,
-        file: Option<String>,
+        files: Vec<String>,
     },
     /// A random schedule.
     Draw {

@@ -19,7 +19,8 @@ use tl_monitor::monitor::Monitor;
 use tl_params::liberties::{Liberties, Liberty};
 use tl_params::width::Width;
 
-/// A monitor of a trace's links, monitors that have a liberty more, and what would allow the first beat at fault.
+/// A monitor of a trace's links, monitors with one liberty more each, and the liberties that would allow the first beat
+/// at fault.
 #[derive(Drop)]
 pub struct Watch<const W: usize> {
     alloc: Global,
@@ -28,7 +29,7 @@ pub struct Watch<const W: usize> {
     allowing: Vec<Liberty>,
 }
 
-/// What watches the links of a trace, by the bytes of a beat.
+/// The watch over the links of a trace, by the bytes of a beat.
 #[derive(Drop)]
 pub enum Watching {
     /// The header hasn't been read.
@@ -41,7 +42,7 @@ pub enum Watching {
 /// Judges the lines of a trace up to its first fault.
 #[derive(Drop)]
 pub struct AllowLines {
-    /// What the links may do besides what the header names.
+    /// The liberties of the links beyond those that the header names.
     pub allow: Liberties,
     pub watching: Watching,
 }
@@ -63,7 +64,7 @@ impl<const W: usize> Watch<W> {
         })
     }
 
-    /// Judges a beat, and takes it where it isn't at fault; else it is found what would allow it.
+    /// Judges a beat, and takes it if it isn't at fault. Otherwise finds the liberties that would allow it.
     fn take(&mut self, link: Link, beat: &Beat<W>) -> Result<Option<Fault>, AllocError>
         requires { IsWidth W }
         ensures { IfOk result (TakesBeat self.old self.new link beat.now) }
@@ -93,7 +94,7 @@ impl<const W: usize> Watch<W> {
     }
 }
 
-/// Watches the links that a header names, which may do this besides. A line of another form names none.
+/// Watches the links that a header names; these liberties are allowed too. None if the line is no header.
 fn begin(alloc: Global, allow: Liberties, line: &[u8]) -> Result<Option<Watching>, AllocError>
     ensures { IfOk result (Begins allow line.now) }
 {
@@ -109,7 +110,7 @@ fn begin(alloc: Global, allow: Liberties, line: &[u8]) -> Result<Option<Watching
 }
 
 impl AllowLines {
-    /// No line has been read. The links may do this besides what the header names.
+    /// No line has been read. The links have the liberties that the header names and those that are allowed.
     pub fn new(alloc: Global, allow: Liberties) -> AllowLines
         ensures knows { KnowsLines result [] [] }
         ensures allowed { result.allow ≡ allow }
@@ -120,7 +121,7 @@ impl AllowLines {
         }
     }
 
-    /// What was found.
+    /// The liberties that were found.
     pub fn allowing(&self) -> &[Liberty]
         ensures { result.now ≡ found_in self.now }
     {

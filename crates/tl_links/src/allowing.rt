@@ -1,4 +1,4 @@
-//! Says which liberties would allow the first beat at fault of a trace.
+//! Names the liberties that would allow the first beat at fault of a trace.
 
 ghost use Rattle.std.specs.Prelude.{◌≡◌, ◌≢◌, ◌++◌, List, IfErr, IfOk, OnOk};
 ghost use Rattle.tl_engine.specs.declared.status.ToolFault.{ToolFault};
@@ -14,7 +14,8 @@ use tl_engine::lines::Lines;
 use tl_engine::status::ToolFault;
 use tl_params::liberties::{Liberties, Liberty};
 
-/// Appends the line that names these liberties; nothing where there are none. Without memory a part of it is appended.
+/// Appends the line that names these liberties; nothing if there are none. After an error only a front of it may be
+/// appended.
 fn append_line(liberties: &[Liberty], out: &mut Vec<u8>) -> Result<(), AllocError>
     ensures { OnOk result (out.new.items ≡ out.old.items ++ allowed_line liberties.now) }
 {
@@ -27,11 +28,11 @@ fn append_line(liberties: &[Liberty], out: &mut Vec<u8>) -> Result<(), AllocErro
     Ok(())
 }
 
-/// Reads a trace to its first line at fault, or to its end. Links may do this besides what the header names. Appends the
-/// line that names each further liberty which alone would allow the beat at fault.
+/// Reads a trace to its first line at fault, or to its end. The links have the liberties that the header names and
+/// those that are allowed. Appends the line that names each further liberty which alone would allow the beat at fault.
 ///
-/// Nothing is appended if no liberty would, if no line is at fault, or if that line spells no beat. At an error a part of
-/// the line may be appended.
+/// Nothing is appended if no liberty would, if no line is at fault, or if that line spells no beat. After an error a
+/// front of the line may be appended.
 pub fn append_allowed<R: Read>(
     alloc: Global,
     allow: Liberties,

@@ -1,4 +1,4 @@
-//! What a header that names no liberties means, as a law.
+//! A law of headers that name no liberties.
 
 ghost use Rattle.std.specs.Prelude.{◌∷◌, ℕ, List, false, true};
 ghost use Rattle.tl_engine.specs.declared.status.Status.{Status};
@@ -11,8 +11,8 @@ ghost use Rattle.tl_params.specs.declared.profile.Profile.{Profile};
 ghost use Rattle.tl_params.specs.declared.width.Width.{Width};
 ghost use Rattle.tl_params.specs.statement.Liberties.{no_liberties};
 
-/// A trace whose header is of the first three versions, and whose links are allowed nothing besides, is judged as
-/// `monitor` judges it, and all its links together as `coherent` does.
+/// A trace with a header of the first three versions, whose links are allowed no more, has the judgement of `monitor`;
+/// with all links together, that of `coherent`.
 pub fn judged_by_profile()
     ensures links { (line : List ℕ) (lines : List (List ℕ)) (text : List ℕ) (status : Status) (width : Width)
         (p : Profile) (levels : List Level) → SpellsHeader line width p levels →

@@ -1,4 +1,4 @@
-//! Judges recorded traces whose headers name what their links may do beyond the first profile.
+//! Judges recorded traces whose headers name the liberties of their links.
 #![tactic(auto)]
 
 mod allow_lines;

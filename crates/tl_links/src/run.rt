@@ -1,4 +1,4 @@
-//! Runs a monitor over an input whose header names what the links may do.
+//! Runs a monitor over an input whose header names the liberties of the links.
 
 ghost use Rattle.std.specs.Prelude.{IfErr, IfOk, OnErr};
 ghost use Rattle.tl_engine.specs.code.GivenUp.{GivesUpFor};
@@ -12,13 +12,13 @@ use tl_engine::link_lines::LinkLines;
 use tl_engine::status::{Status, ToolFault};
 use tl_params::liberties::Liberties;
 
-/// Judges a recorded trace, each link by itself or all together: reads the input to its end or to the first line at fault,
-/// and writes `clean N`, of all together `coherent N`, or `line N X`.
+/// Judges a recorded trace, each link by itself or all together. Reads the input to its end or to the first line at
+/// fault, and writes `clean N`, for all together `coherent N`, or `line N X`.
 ///
-/// The header may be of any version: the fourth names what the links may do beyond the first profile (liberties). They
-/// may do what `allow` has besides. Links that are judged together may not have `early`: a header that names it, and
-/// whatever header where `allow` has it, is at fault. If `allow` is nothing, and the header is of the first three
-/// versions, the text is that of `run_tool` with `Command::Monitor`, or `Command::Coherent`.
+/// The header may be of any version; the fourth names liberties. The links have those and the ones in `allow`. With all
+/// links together, `early` isn't possible: a header that names it is at fault, and any header is if `allow` has it. If
+/// `allow` is empty and the header is of the first three versions, the text is that of `run_tool` with
+/// `Command::Monitor` or `Command::Coherent`.
 ///
 /// The status and the faults are those of `tl_engine::tool::run_tool`.
 pub fn run_links<R: Read, W: Write>(

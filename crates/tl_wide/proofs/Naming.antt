@@ -7,7 +7,7 @@ use Rattle.std.proofs.lemmas.Bool.{eq-eqb, eqb-true, le-ltb, ltb-true}
 use Rattle.std.proofs.lemmas.Bool.Decides.{nat_tests}
 use Rattle.std.proofs.lemmas.List.{length-append}
 use Rattle.tl_rules.specs.statement.Legality.{is_one_of}
-use Rattle.tl_wide.specs.code.Numbers.{KnowsNumbers, found_in, is_past, place_among, place_found}
+use Rattle.tl_wide.specs.statement.Numbers.{KnowsNumbers, found_in, is_past, place_among, place_found}
 use Rattle.tl_wide.specs.declared.numbers.Numbers.{Numbers}
 use Rattle.tl_wide.specs.statement.Naming.{place_in, with_number}
 

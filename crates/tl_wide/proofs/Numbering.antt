@@ -8,8 +8,10 @@ use Rattle.tl_beat.specs.declared.beat.Link.{Link}
 use Rattle.tl_rules.specs.statement.History.{block_at}
 use Rattle.tl_rules.specs.statement.Legality.{is_one_of}
 use Rattle.tl_wide.proofs.Naming.{among-more}
-use Rattle.tl_wide.specs.code.Narrowing.{Asks, Follows, IsNamed, IsNumberedBeat, KnowsNames, asked_found, key_of}
-use Rattle.tl_wide.specs.code.Numbers.{AreNumbered, IsNumbered, KnowsNumbers, is_past}
+use Rattle.tl_wide.specs.statement.Narrowing.{Asks, Follows, KnowsNames, asked_found, key_of}
+use Rattle.tl_wide.specs.code.Narrowing.{IsNamed, IsNumberedBeat}
+use Rattle.tl_wide.specs.statement.Numbers.{IsNumbered, KnowsNumbers, is_past}
+use Rattle.tl_wide.specs.code.Numbers.{AreNumbered}
 use Rattle.tl_wide.specs.code.Pieces.{pieces_of}
 use Rattle.tl_wide.specs.declared.beat.WideBeat.{WideBeat}
 use Rattle.tl_wide.specs.declared.beat.WideBeat.TheVariants as wide

@@ -14,7 +14,7 @@ use Rattle.tl_burst.specs.statement.Burst.{bit}
 use Rattle.tl_rules.proofs.Masks.{bit_at_mod}
 use Rattle.tl_rules.specs.statement.Legality.{each_below, is_lane, is_one_of}
 use Rattle.tl_wide.proofs.Naming.{among-more}
-use Rattle.tl_wide.specs.code.Pieces.{from}
+use Rattle.tl_wide.specs.statement.Pieces.{from}
 use Rattle.tl_wide.specs.statement.Parts.{below, common_mask, has_stray, part_mask, parts_of, reaches_part}
 use Rattle.tl_wide.specs.statement.Width.{IsWideWidth, part_width}
 

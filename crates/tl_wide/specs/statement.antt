@@ -1,6 +1,9 @@
 pub mod Line
 pub mod Naming
 pub mod Narrowed
+pub mod Narrowing
+pub mod Numbers
 pub mod Parts
+pub mod Pieces
 pub mod Verdict
 pub mod Width

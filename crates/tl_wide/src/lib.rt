@@ -1,4 +1,4 @@
-//! Wide beats: beats of up to 64 bytes, with addresses of 64 bits and ids of 16, and what they mean.
+//! Wide beats, of up to 64 bytes, with addresses of 64 bits and ids of 16, and their meaning.
 #![tactic(auto)]
 
 pub mod beat;
@@ -8,5 +8,6 @@ pub mod parts;
 pub mod read;
 #[cfg(test)]
 mod tests;
-pub(crate) mod text;
+pub mod text;
+pub mod width;
 pub mod write;

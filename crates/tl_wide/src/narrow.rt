@@ -1,12 +1,14 @@
-//! What the beats of a wide trace become, one after another.
+//! The beats that the beats of a wide trace become, one after another.
 
 ghost use Rattle.std.specs.Prelude.{ℕ, List, Some, None, [], ◌∷◌, ◌≡◌, ◌<◌, ◌/◌, ◌^◌, ◌==◌, true, if◌then◌else◌};
 ghost use Rattle.std.specs.Prelude.{◌≤◌, ◌≢◌, length, slice_index_or, IfOk, OnOk, OnErr};
-ghost use Rattle.tl_wide.specs.code.Numbers.{AreNumbered, KnowsNumbers};
+ghost use Rattle.tl_wide.specs.statement.Numbers.{KnowsNumbers};
+ghost use Rattle.tl_wide.specs.code.Numbers.{AreNumbered};
 ghost use Rattle.tl_wide.specs.declared.numbers.Numbers.{Numbers};
 ghost use Rattle.tl_beat.specs.declared.beat.Link.{Link};
-ghost use Rattle.tl_wide.specs.code.Narrowing.{Follows, IsNamed, IsNarrowed, IsNumberedBeat, KnowsNames, MessageNamed};
-ghost use Rattle.tl_wide.specs.code.Narrowing.{ResponseNamed, SinkNamed, asked_found, asked_room, key_of};
+ghost use Rattle.tl_wide.specs.statement.Narrowing.{Follows, IsNarrowed, KnowsNames, asked_found, key_of};
+ghost use Rattle.tl_wide.specs.code.Narrowing.{IsNamed, IsNumberedBeat, MessageNamed, ResponseNamed, SinkNamed};
+ghost use Rattle.tl_wide.specs.code.Narrowing.{asked_room};
 ghost use Rattle.tl_wide.specs.declared.beat.WideBeat.{WideBeat};
 ghost use Rattle.tl_wide.specs.declared.beat.WideBeat.TheVariants as wide;
 ghost use Rattle.tl_wide.specs.declared.beat.WideBeatA.{WideBeatA};
@@ -21,10 +23,10 @@ use std::array;
 use std::collections::BTreeMap;
 use tl_beat::beat::Link;
 
-/// How many blocks have numbers at most.
+/// The most blocks that have numbers.
 const MOST_BLOCKS: u32 = 1 << 26;
 
-/// How many sources of a link, and how many sinks, have numbers at most.
+/// The most sources of a link, and the most sinks, that have numbers.
 const MOST_IDS: u32 = 256;
 
 /// The address in the block of this number.
@@ -34,14 +36,14 @@ fn address_in(block: u32, address: u64) -> u32
     block.wrapping_mul(64).wrapping_add((address % 64) as u32)
 }
 
-/// The number of a source or a sink, as a beat of the rules has it.
+/// The number of a source or a sink as a byte.
 fn id_of(number: u32) -> u8
     ensures { number < 2 ^ 8 → result ≡ number }
 {
     (number % 256) as u8
 }
 
-/// A table for each link, of which 0 is the first source.
+/// A table for each link, with 0 as its first source.
 fn no_sources(alloc: Global) -> [Numbers; 256]
     ensures known { (i : ℕ) (d : Numbers) → i < 256 → KnowsNumbers (slice_index_or result i d) (0 ∷ []) }
     ensures long { length result ≡ 256 }
@@ -53,7 +55,7 @@ fn no_sources(alloc: Global) -> [Numbers; 256]
     )
 }
 
-/// The numbers of a block and of a source of a link.
+/// The numbers of a block and of a source of a link. None if one has none and its limit is reached.
 fn number_message(
     blocks: &mut Numbers,
     sources: &mut [Numbers; 256],
@@ -78,7 +80,7 @@ fn number_message(
     )
 }
 
-/// The numbers of a source of a link and of a sink.
+/// The numbers of a source of a link and of a sink. None if one has none and its limit is reached.
 fn number_response(
     sources: &mut [Numbers; 256],
     link: Link,
@@ -104,7 +106,7 @@ fn number_response(
     )
 }
 
-/// What the names of a trace have become so far.
+/// The numbers of a trace's blocks, sources and sinks so far.
 #[derive(Drop)]
 struct Names {
     blocks: Numbers,
@@ -113,7 +115,7 @@ struct Names {
 }
 
 impl Names {
-    /// The numbers that the block and the source of a beat of channel A, B or C become.
+    /// The numbers for the block and the source of a beat of channel A, B or C.
     fn message(
         &mut self,
         link: Link,
@@ -142,7 +144,7 @@ impl Names {
         }))
     }
 
-    /// The numbers that the source and the sink of a beat of channel D become.
+    /// The numbers for the source and the sink of a beat of channel D.
     fn response(&mut self, link: Link, source: u16, sink: u16) -> Result<Option<Named>, AllocError>
         ensures { (w : ℕ) (x : WideBeat w) (t : WideTrace w) → block_named (link, x) ≡ None →
             source_of x ≡ Some source → sink_named (link, x) ≡ Some sink → KnowsNames self.old t →
@@ -160,7 +162,7 @@ impl Names {
         }))
     }
 
-    /// The number that the sink of a beat of channel E becomes.
+    /// The number for the sink of a beat of channel E.
     fn acknowledgement(&mut self, link: Link, sink: u16) -> Result<Option<Named>, AllocError>
         ensures { (w : ℕ) (x : WideBeat w) (t : WideTrace w) → block_named (link, x) ≡ None →
             source_of x ≡ None → sink_named (link, x) ≡ Some sink → KnowsNames self.old t →
@@ -178,14 +180,14 @@ impl Names {
     }
 }
 
-/// The place of a link's source among all.
+/// The key of a link's source.
 fn key_of(link: Link, source: u16) -> u32
     ensures { result ≡ key_of link source }
 {
     65536 * u32::from(link.0) + u32::from(source)
 }
 
-/// The address that stands under a key, 0 if none does.
+/// The address under a key, 0 if there is none.
 fn asked_at(asked: &BTreeMap<u32, u64>, key: u32) -> u64
     ensures { result ≡ asked_found asked.now.entries key }
 {
@@ -195,7 +197,7 @@ fn asked_at(asked: &BTreeMap<u32, u64>, key: u32) -> u64
     }
 }
 
-/// Makes room under a key. The addresses stay as they were.
+/// Makes an entry for a key. The addresses stay as they were.
 fn make_room(asked: &mut BTreeMap<u32, u64>, key: u32) -> Result<(), AllocError>
     ensures same { (k : ℕ) → asked_found asked.new.entries k ≡ asked_found asked.old.entries k }
     ensures room { OnOk result (asked_room asked.new.entries key ≡ true) }
@@ -209,7 +211,7 @@ fn make_room(asked: &mut BTreeMap<u32, u64>, key: u32) -> Result<(), AllocError>
     }
 }
 
-/// Keeps an address under a key that has room.
+/// Keeps an address under a key that has an entry.
 fn keep(asked: &mut BTreeMap<u32, u64>, key: u32, address: u64)
     requires { asked_room asked.old.entries key ≡ true }
     ensures { (k : ℕ) → asked_found asked.new.entries k
@@ -218,7 +220,7 @@ fn keep(asked: &mut BTreeMap<u32, u64>, key: u32, address: u64)
     let _ = asked.insert(key, address);
 }
 
-/// What a wide trace has named so far. From it each next beat becomes beats of at most 16 bytes.
+/// The names of a wide trace so far. With them each next beat becomes beats of at most 16 bytes.
 #[derive(Drop)]
 pub struct Narrower {
     names: Names,
@@ -226,7 +228,7 @@ pub struct Narrower {
 }
 
 impl Narrower {
-    /// What the trace of no beats has named.
+    /// The names of an empty trace.
     pub fn new(alloc: Global) -> Self
         ensures { (w : ℕ) → Follows {w = w} result [] }
     {
@@ -240,7 +242,7 @@ impl Narrower {
         }
     }
 
-    /// The numbers that the names of a beat of channel A become. Its address is kept for the beats that answer it.
+    /// The numbers for the names of a beat of channel A. Its address is kept for the beats that answer it.
     fn request<const W: usize>(
         &mut self,
         link: Link,
@@ -257,7 +259,7 @@ impl Narrower {
         Ok(Some(named))
     }
 
-    /// The numbers that the names of a beat become, and the address of the request that a beat of channel D answers.
+    /// The numbers for the names of a beat, and the address of the request that a beat of channel D answers.
     fn name<const W: usize>(
         &mut self,
         link: Link,
@@ -280,9 +282,9 @@ impl Narrower {
         }
     }
 
-    /// The beats that the next beat of the trace becomes, or `None` where it names a block, a source or a sink for
-    /// which
-    /// no number is left. Then, and where there is no memory, nothing changes. `P` is 16, or `W` where that is less.
+    /// The beats that the next beat of the trace becomes. `None` if it names a block, a source or a sink for which no
+    /// number is left. The error means that there is no memory left. In both cases nothing changes. `P` is the smaller
+    /// of 16 and `W`.
     pub fn narrow<const W: usize, const P: usize>(
         &mut self,
         link: Link,

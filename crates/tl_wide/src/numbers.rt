@@ -1,8 +1,9 @@
-//! Numbers that names have by their first appearance.
+//! Numbers of names, by their first appearance.
 
 ghost use Rattle.std.specs.Prelude.{ℕ, List, Option, [], ◌∷◌, ◌≡◌, ◌≤◌, ◌<◌, ◌==◌, ◌&&◌, ◌||◌, ◌-◌, ◌^◌};
 ghost use Rattle.std.specs.Prelude.{true, false, if◌then◌else◌, is_some, length, nat_lt, Some, IfSome, OnOk, OnErr};
-ghost use Rattle.tl_wide.specs.code.Numbers.{AreNumbered, HasRoom, IsNumbered, KnowsNumbers, found_in, place_found};
+ghost use Rattle.tl_wide.specs.statement.Numbers.{IsNumbered, KnowsNumbers, found_in, place_found};
+ghost use Rattle.tl_wide.specs.code.Numbers.{AreNumbered, HasRoom};
 ghost use Rattle.tl_wide.specs.code.Numbers.{room_found};
 ghost use Rattle.tl_rules.specs.statement.Legality.{is_one_of};
 ghost use Rattle.tl_wide.specs.statement.Naming.{place_in, with_number};
@@ -10,7 +11,7 @@ ghost use Rattle.tl_wide.specs.statement.Naming.{place_in, with_number};
 use std::alloc::{AllocError, Global};
 use std::collections::BTreeMap;
 
-/// Makes room for a name that has none yet.
+/// Makes an entry for a name that has none yet.
 fn insert_room(places: &mut BTreeMap<u64, Option<u32>>, name: u64) -> Result<(), AllocError>
     requires { room_found places.old.entries name ≡ false }
     ensures same { (k : ℕ) → place_found places.new.entries k ≡ place_found places.old.entries k }
@@ -22,7 +23,7 @@ fn insert_room(places: &mut BTreeMap<u64, Option<u32>>, name: u64) -> Result<(),
     }
 }
 
-/// Keeps the number of a name that has room.
+/// Keeps the number of a name that has an entry.
 fn set_place(places: &mut BTreeMap<u64, Option<u32>>, name: u64, place: u32)
     requires { room_found places.old.entries name ≡ true }
     ensures { (k : ℕ) → place_found places.new.entries k
@@ -31,8 +32,8 @@ fn set_place(places: &mut BTreeMap<u64, Option<u32>>, name: u64, place: u32)
     let _ = places.insert(name, Some(place));
 }
 
-/// The numbers that names have by their first appearance: 0, 1, 2 and so on. A name may have room in the
-/// table before it has a number.
+/// Numbers of names by their first appearance: 0, 1, 2 and so on. A name may have an entry in the table before it has a
+/// number.
 #[derive(Drop)]
 pub struct Numbers {
     places: BTreeMap<u64, Option<u32>>,
@@ -41,7 +42,7 @@ pub struct Numbers {
 }
 
 impl Numbers {
-    /// The numbers of no names.
+    /// A table without names.
     pub fn new(alloc: Global) -> Self
         ensures { KnowsNumbers result [] }
     {
@@ -52,7 +53,7 @@ impl Numbers {
         }
     }
 
-    /// The numbers of names of which 0 is the first.
+    /// A table whose first name is 0.
     pub fn from_zero(alloc: Global) -> Self
         ensures { KnowsNumbers result (0 ∷ []) }
     {
@@ -83,7 +84,7 @@ impl Numbers {
         self.count < limit || self.place(name).is_some()
     }
 
-    /// Makes room for a name. The numbers stay as they were.
+    /// Makes an entry for a name. The numbers stay as they were. The error means that there is no memory left.
     fn make_room(&mut self, name: u64) -> Result<(), AllocError>
         ensures same { (k : ℕ) → found_in self.new k ≡ found_in self.old k }
         ensures count { self.new.count ≡ self.old.count }
@@ -95,7 +96,7 @@ impl Numbers {
         insert_room(&mut self.places, name)
     }
 
-    /// The number of a name that has room: its own, or the next.
+    /// The number of a name that has an entry: its own, or the next.
     fn give(&mut self, name: u64) -> u32
         requires { HasRoom self.old name }
         ensures { (names : List ℕ) → KnowsNumbers self.old names →
@@ -112,8 +113,8 @@ impl Numbers {
         place
     }
 
-    /// The number of a name. One that has none yet gets the next, if fewer than `limit` names have one;
-    /// otherwise the answer is `None`. Where there is no memory no number changes.
+    /// The number of a name. One that has none yet gets the next, if fewer than `limit` names have one, and otherwise
+    /// the answer is `None`. The error means that there is no memory left; then no number changes.
     pub fn number(&mut self, name: u64, limit: u32) -> Result<Option<u32>, AllocError>
         ensures { (names : List ℕ) → KnowsNumbers self.old names → length names ≤ limit →
             IsNumbered limit names name result self.new }
@@ -126,7 +127,7 @@ impl Numbers {
     }
 }
 
-/// The numbers of two names in two tables, where both have one.
+/// The numbers of two names in two tables, if both have one.
 fn known_both(first: &Numbers, name: u64, second: &Numbers, second_name: u64) -> Option<(u32, u32)>
     ensures { IfSome result (λ known. (found_in first.now name ≡ Some known.0)
         × (found_in second.now second_name ≡ Some known.1)) }
@@ -136,8 +137,8 @@ fn known_both(first: &Numbers, name: u64, second: &Numbers, second_name: u64) ->
     Some((place, other))
 }
 
-/// The numbers of two names in two tables. Where one of them has none and too many names have one, the answer is
-/// `None`; then, and where there is no memory, no number changes.
+/// The numbers of two names in two tables. `None` if one of them has none and too many names have one. The error means
+/// that there is no memory left. In both cases no number changes.
 pub(crate) fn number_both(
     first: &mut Numbers,
     name: u64,

@@ -3,8 +3,9 @@
 ghost use Rattle.std.specs.Prelude.{ℕ, ◌≡◌, ◌≤◌, ◌<◌, ◌+◌, ◌*◌, ◌/◌, ◌^◌, ◌%◌, ◌==◌};
 ghost use Rattle.std.specs.Prelude.{◌||◌, false, if◌then◌else◌, bit_and, is_some};
 ghost use Rattle.tl_beat.specs.statement.Opcode.{a_carries_data, b_carries_data, c_carries_data, d_carries_data};
-ghost use Rattle.tl_wide.specs.code.Pieces.{carries_of, in_front, left_of, mask_in, piece_of};
-ghost use Rattle.tl_wide.specs.code.Pieces.{pieces_of, reached_at, size_in};
+ghost use Rattle.tl_wide.specs.statement.Pieces.{carries_of, in_front, left_of, mask_in, piece_of};
+ghost use Rattle.tl_wide.specs.statement.Pieces.{reached_at, size_in};
+ghost use Rattle.tl_wide.specs.code.Pieces.{pieces_of};
 ghost use Rattle.tl_rules.specs.statement.Legality.{is_one_of};
 ghost use Rattle.tl_wide.specs.statement.Narrowed.{lone_mask};
 ghost use Rattle.tl_wide.specs.statement.Parts.{common_mask, has_stray, part_lanes, part_mask, parts_of, reaches_part};
@@ -15,7 +16,7 @@ use crate::beat::WideBeat;
 use tl_beat::beat::{Beat, BeatA, BeatB, BeatC, BeatD, BeatE};
 use tl_beat::opcode::OpA;
 
-/// What the names of a beat become, and the address of the request that a response answers.
+/// The numbers for the names of a beat, and the address of the request that a response answers.
 #[derive(Clone, Copy)]
 pub(crate) struct Named {
     pub(crate) source: u8,
@@ -24,7 +25,7 @@ pub(crate) struct Named {
     pub(crate) asked: u64,
 }
 
-/// The message that a beat belongs to: how many bytes it has, at which address, and which lanes the beat's mask has.
+/// The message of a beat: its size and its address, and the beat's mask.
 #[derive(Clone, Copy)]
 struct Reach {
     size: u8,
@@ -32,7 +33,7 @@ struct Reach {
     mask: u64,
 }
 
-/// How many bytes a message of this size has.
+/// The number of bytes of a message of this size.
 fn bytes_of(size: u8) -> usize
     requires { size < 6 }
     ensures value { result ≡ 2 ^ size }
@@ -59,7 +60,7 @@ fn reaches<const W: usize, const P: usize>(reach: Reach, part: usize) -> bool
     first < P * part + P && P * part < first + bytes
 }
 
-/// The bits of a mask that a part has.
+/// The bits of a mask in a part.
 fn mask_of<const P: usize>(mask: u64, part: usize) -> u16
     requires width { P ≤ 16 }
     requires part { P * part < 64 }
@@ -69,7 +70,7 @@ fn mask_of<const P: usize>(mask: u64, part: usize) -> u16
     (bits % (1 << P)) as u16
 }
 
-/// Whether the message has a part.
+/// Whether a part is one of the message's.
 fn has_part<const W: usize, const P: usize>(reach: Reach, part: usize) -> bool
     requires width { IsWideWidth W }
     requires parts { P ≡ part_width W }
@@ -81,7 +82,7 @@ fn has_part<const W: usize, const P: usize>(reach: Reach, part: usize) -> bool
     reaches::<W, P>(reach, part)
 }
 
-/// Whether a part's lanes in the mask are none, where the message hasn't the part.
+/// Whether the mask has no lane in a part, or the part is one of the message's.
 fn is_clear<const W: usize, const P: usize>(reach: Reach, part: usize) -> bool
     requires width { IsWideWidth W }
     requires parts { P ≡ part_width W }
@@ -92,7 +93,7 @@ fn is_clear<const W: usize, const P: usize>(reach: Reach, part: usize) -> bool
     has_part::<W, P>(reach, part) | (mask_of::<P>(reach.mask, part) == 0)
 }
 
-/// Whether the mask has a lane that no part of the message has.
+/// Whether the mask has a lane in no part of the message.
 fn has_stray<const W: usize, const P: usize>(reach: Reach) -> bool
     requires width { IsWideWidth W }
     requires parts { P ≡ part_width W }
@@ -105,7 +106,7 @@ fn has_stray<const W: usize, const P: usize>(reach: Reach) -> bool
     !clear
 }
 
-/// These lanes, without those that a part doesn't have in the mask, if the message has the part.
+/// These lanes that a part has in the mask too, or all of them if the part isn't one of the message's.
 fn common_with<const W: usize, const P: usize>(reach: Reach, part: usize, common: u16) -> u16
     requires width { IsWideWidth W }
     requires parts { P ≡ part_width W }
@@ -243,7 +244,7 @@ fn piece<const W: usize, const P: usize>(
     }
 }
 
-/// What a beat has of its message.
+/// The message of a beat.
 fn reach_of<const W: usize>(beat: &WideBeat<W>, asked: u64) -> Reach
     ensures size { result.size ≡ size_in beat.now }
     ensures address { result.address ≡ reached_at beat.now asked }
@@ -276,7 +277,7 @@ fn carries<const W: usize>(beat: &WideBeat<W>) -> bool
     }
 }
 
-/// The beats that a wide beat becomes, those that are still to come.
+/// The beats that a wide beat becomes, from the next one on.
 #[derive(Clone, Copy)]
 pub struct Parts {
     named: Named,
@@ -313,7 +314,7 @@ impl Parts {
         Some(piece(beat, self.named, self.stray, mask, 0))
     }
 
-    /// The next part of the beat, which must be the one that they are parts of. `P` is 16, or `W` where that is less.
+    /// The next part of the beat, which must be the one that these are parts of. `P` is the smaller of 16 and `W`.
     pub fn next<const W: usize, const P: usize>(&mut self, beat: &WideBeat<W>) -> Option<Beat<P>>
         requires width { IsWideWidth W }
         requires parts { P ≡ part_width W }

@@ -18,7 +18,7 @@ use tl_beat::beat::Link;
 use tl_beat::fault::LineFault;
 use tl_beat::read::{after_space, letter, spaces};
 
-/// The line of a channel with this letter, which has this many spaces, read over a beat: its link.
+/// Reads the line of a channel with this letter, which has this many spaces, into `beat`, and returns its link.
 #[tactic(auto, unfolding(crate::specs::code::FromLeft::line_a_at, crate::specs::code::FromLeft::line_b_at, crate::specs::code::FromLeft::line_c_at, crate::specs::code::FromLeft::line_d_at))]
 fn line_with<const W: usize>(
     letter: Option<u8>,
@@ -90,7 +90,7 @@ fn spelled_body<const W: usize>(bytes: &[u8], beat: &mut WideBeat<W>) -> Option<
     }
 }
 
-/// A line without its line feed. Where it spells no beat, its first fault is looked for.
+/// A line without its line feed. If it spells no beat, its first fault is looked for.
 #[inline(always)]
 fn body<const W: usize>(bytes: &[u8], beat: &mut WideBeat<W>) -> Result<Link, LineFault>
     requires { IsWideWidth W }
@@ -119,9 +119,9 @@ fn place_line<const W: usize>(line: &[u8], beat: &mut WideBeat<W>) -> Result<Lin
     }
 }
 
-/// Reads a line of text, its line feed included, over a wide beat, and answers its link. A line that
-/// spells no wide beat is refused by its first fault, and leaves the beat as it was. It reads
-/// any bytes and takes no memory, and a line of more than 256 bytes is refused unread.
+/// Reads a line of text, with its line feed, into a wide beat, and returns its link. The error for a line that spells
+/// no wide beat is its first fault, and the beat stays as it was. It takes any bytes and allocates no memory. A line of
+/// more than 256 bytes is refused by its length alone.
 #[inline(always)]
 pub fn read_wide_into<const W: usize>(
     line: &[u8],

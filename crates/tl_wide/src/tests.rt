@@ -1,4 +1,4 @@
-//! Calls whose clauses also hold of a body that always gives up.
+//! Tests of calls whose contracts a body that always fails would meet too.
 
 use crate::beat::{WideBeat, WideBeatA};
 use crate::narrow::Narrower;
@@ -11,7 +11,7 @@ use tl_beat::opcode::OpA;
 const LINE: &[u8] =
     b"01 A 0 0 5 01ff 0000000180000020 ffffffff 5a5a5a5a5a5a5a5a5a5a5a5a5a5a5a5a3c3c3c3c3c3c3c3c3c3c3c3c3c3c3c3c 0\n";
 
-/// A Put of 32 bytes whose first sixteen are others than its last.
+/// A Put of 32 bytes whose first sixteen differ from its last.
 fn put() -> WideBeat<32> {
     let mut lanes = [0x5a; 32];
     lanes[..16].fill(0x3c);
@@ -62,7 +62,7 @@ fn reads_a_line(rt: HostRuntime) {
     assert!(rt; beat == put());
 }
 
-/// A part of that Put, the first block and the second source of its link.
+/// A part of that Put, with the first block and the second source of its link.
 fn part_of_put(byte: u8) -> Option<Beat<16>> {
     Some(Beat::A(BeatA {
         opcode: OpA::PutFullData,

@@ -1,4 +1,4 @@
-//! The text of a wide beat, put together from digits, lanes and bits.
+//! The text of a wide beat, built from digits, lanes and bits.
 
 ghost use Rattle.std.specs.Prelude.{◌≡◌, ◌<◌, ◌≤◌, ◌+◌, ◌-◌, ◌*◌, ◌/◌, ◌%◌, ◌++◌, ◌∷◌, [], length};
 ghost use Rattle.tl_beat.specs.statement.Digits.{bit_text, digits, lane_digits, lanes_text};
@@ -8,8 +8,8 @@ use arrayvec::ArrayVec;
 use tl_beat::lanes::sixteen_digits;
 use tl_beat::text::{append_data, append_digits};
 
-/// Appends the lowest `count` hexadecimal digits of a number, the highest of them first.
-pub(crate) fn append_long(text: &mut ArrayVec<u8, 64>, number: u64, count: u8)
+/// Appends the lowest `count` hexadecimal digits of a number, from the highest on.
+pub fn append_long(text: &mut ArrayVec<u8, 64>, number: u64, count: u8)
     requires count { count ≤ 16 }
     requires room { length text.old.items + count ≤ 64 }
     ensures text { text.new.items ≡ text.old.items ++ digits count number }
@@ -39,10 +39,7 @@ fn append_eights(line: &mut ArrayVec<u8, 192>, lanes: &[u8])
 }
 
 /// Appends the data of a wide beat: the digits of its lanes, the last lane first, or a dash.
-pub(crate) fn append_wide_data<const W: usize>(
-    line: &mut ArrayVec<u8, 192>,
-    lanes: &Option<[u8; W]>,
-)
+pub fn append_wide_data<const W: usize>(line: &mut ArrayVec<u8, 192>, lanes: &Option<[u8; W]>)
     requires width { IsWideWidth W }
     requires room { length line.old.items ≤ 62 }
     ensures text { line.new.items ≡ line.old.items ++ lanes_text lanes.now }

@@ -196,9 +196,9 @@ fn append_e<const W: usize>(line: &mut ArrayVec<u8, 192>, link: Link, beat: Wide
     let _ = line.try_extend_from_slice(fields.as_slice());
 }
 
-/// Appends the line of a wide beat on a link, its line feed included. Its param must have room in the
-/// channel's field (3 bits on channels A to C, 2 on D), its size in 4 bits and its mask in `W` bits.
-/// Where there is no memory the vector stays as it was.
+/// Appends the line of a wide beat on a link, with its line feed. Its param must fit into the channel's field (3 bits
+/// on channels A to C, 2 on D), its size into 4 bits and its mask into `W` bits. The error means that there is no
+/// memory left; then the vector stays as it was.
 pub fn write_wide_line<const W: usize>(
     link: Link,
     beat: &WideBeat<W>,

@@ -2,7 +2,7 @@
 use Rattle.std.specs.Prelude.{◌≡◌, ◌≤◌, ◌<◌, ◌==◌, ℕ, List, length}
 use Rattle.std.specs.List.{after_first, before_first, position_or_len}
 
--- what stands before the first dash of a word and behind it
+-- the parts of a word before its first dash and after it
 pub record AreParts (word front back : List ℕ) : Type 0 where
   pub dash : position_or_len (λ c. c == 45) word < length word
   pub front_is : front ≡ before_first (λ c. c == 45) word

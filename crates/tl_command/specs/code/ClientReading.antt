@@ -15,7 +15,7 @@ level_at (a ∷ b ∷ rest) =
     if (a == 85) && (b == 72) then Some (level.UH, rest) else
     if a == 67 then Some (level.C, b ∷ rest) else None
 
--- a number of sources at the front, behind a colon
+-- a number of sources at the front, after a colon
 abbrev pub sources_at : List ℕ → Option (ℕ × List ℕ)
 sources_at [] = None
 sources_at (a ∷ []) = None
@@ -28,7 +28,7 @@ client_of level x = Some (record { level = level; sources = x.0 }, x.1)
 abbrev pub client_at : List ℕ → Option (ClientConfig × List ℕ)
 client_at word = option_and_then (λ l. option_and_then (client_of l.0) (sources_at l.1)) (level_at word)
 
--- what is read behind a client: nothing at the end, others behind a comma
+-- what is read after a client: nothing at the end, others after a comma
 abbrev pub behind_client : (List ℕ → Option (List ClientConfig)) → List ℕ → Option (List ClientConfig)
 behind_client read [] = Some []
 behind_client read (c ∷ rest) = if c == 44 then read rest else None

@@ -8,7 +8,7 @@ use Rattle.tl_params.specs.declared.liberties.Liberty.{Liberty}
 use Rattle.tl_params.specs.declared.liberties.Liberty.TheVariants.{Uncorrupt}
 use Rattle.tl_params.specs.statement.Liberties.{liberty_name, no_liberties, standard_liberties, with_liberty}
 
--- what was returned is what stands behind a word
+-- what was returned is what follows a word
 abbrev pub IsAfter : List ℕ → List ℕ → Option (Bor (List ℕ)) → Type 0
 IsAfter word bytes None = after_word word bytes ≡ None
 IsAfter word bytes (Some rest) = after_word word bytes ≡ Some rest.now
@@ -17,17 +17,17 @@ IsAfter word bytes (Some rest) = after_word word bytes ≡ Some rest.now
 abbrev pub GivesMark : Bool × Bool × Bor (List ℕ) → Bool × (Bool × List ℕ) → Type 0
 GivesMark given mark = (given.0, (given.1, given.2.now)) ≡ mark
 
--- whether another name may come, and what is left: behind a comma one may
+-- whether another name may come, and what is left: after a comma one may
 abbrev pub comma_at : List ℕ → Bool × List ℕ
 comma_at [] = (false, [])
 comma_at (c ∷ rest) = if c == 44 then (true, rest) else (false, c ∷ rest)
 
--- whether a name stands at the front, given what stands behind it
+-- whether a name is at the front, given the text after it
 abbrev pub named_at : List ℕ → Option (List ℕ) → Bool × (Bool × List ℕ)
 named_at bytes None = (false, (true, bytes))
 named_at bytes (Some after) = (true, comma_at after)
 
--- whether the name of a liberty stands at the front, where one may
+-- whether the name of a liberty is at the front, if one may come
 abbrev pub mark_at : Liberty → Bool → List ℕ → Bool × (Bool × List ℕ)
 mark_at x false bytes = (false, (false, bytes))
 mark_at x true bytes = named_at bytes (after_word (liberty_name x) bytes)
@@ -54,7 +54,7 @@ names_taken (marks, (false, rest)) = Some (set_of marks, rest)
 abbrev pub names_at : List ℕ → Option (Liberties × List ℕ)
 names_at bytes = names_taken (marks_at all_liberties (true, bytes))
 
--- what stands behind `standard`
+-- what follows `standard`
 abbrev pub standard_at : List ℕ → Option (List ℕ) → Liberties × List ℕ
 standard_at rest None = (standard_liberties, rest)
 standard_at rest (Some after) = (with_liberty Uncorrupt standard_liberties, after)

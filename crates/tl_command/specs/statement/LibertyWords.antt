@@ -1,4 +1,4 @@
--- The words that name what links may do beyond the first profile, in a header and on the command line.
+-- The words that name the liberties of links, in a header and on the command line.
 use denote.Ref.{Bor}
 use Rattle.std.specs.Prelude.{Option, Some, None, ◌≡◌, ◌≢◌, ◌⊎◌, ◌++◌, ℕ, List, [], ◌∷◌, codes, map}
 use Rattle.std.specs.List.{filter}
@@ -9,7 +9,7 @@ use Rattle.tl_params.specs.declared.liberties.Liberty.TheVariants.{Ids, Sinks, W
 use Rattle.tl_params.specs.declared.liberties.Liberty.TheVariants.{Uncorrupt}
 use Rattle.tl_params.specs.statement.Liberties.{allows, liberty_name, no_liberties, standard_liberties, with_liberty}
 
--- all of them, in the order in which they are named
+-- all liberties, in the order of their names in a word
 abbrev pub all_liberties : List Liberty
 all_liberties = Ids ∷ Sinks ∷ Writer ∷ Early ∷ Drops ∷ Reports ∷ Denied ∷ Uncorrupt ∷ []
 
@@ -19,12 +19,12 @@ joined [] = []
 joined (name ∷ []) = name
 joined (name ∷ next ∷ names) = name ++ 44 ∷ joined (next ∷ names)
 
--- the names of those that a set has
+-- the names of the liberties in a set
 abbrev pub names_of : Liberties → List (List ℕ)
 names_of l = map liberty_name (filter (allows l) all_liberties)
 
--- The word names this set: `none`; `standard`, which stands for all but the last, or all eight with it; or the names of
--- one or more.
+-- The word names this set: `none`; `standard`, all but the last; `standard,uncorrupt`, all eight; or the names of one
+-- or more.
 abbrev pub SpellsLiberties : List ℕ → Liberties → Type 0
 SpellsLiberties word l =
     ((word ≡ codes "none") × (l ≡ no_liberties))
@@ -32,16 +32,16 @@ SpellsLiberties word l =
     ⊎ ((word ≡ codes "standard,uncorrupt") × (l ≡ with_liberty Uncorrupt standard_liberties))
     ⊎ ((names_of l ≢ []) × (word ≡ joined (names_of l)))
 
--- no comma stands at the front
+-- the first byte isn't a comma
 abbrev pub LacksComma : List ℕ → Type 0
 LacksComma bytes = (rest : List ℕ) → bytes ≢ 44 ∷ rest
 
--- these liberties were read, and this is left
+-- these liberties were read, and these bytes are left
 abbrev pub IsRead : Option (Liberties × Bor (List ℕ)) → Liberties → List ℕ → Type 0
 IsRead None l rest = ⊥
 IsRead (Some x) l rest = (x.0 ≡ l) × (x.1.now ≡ rest)
 
--- these are what `--allow` adds to what a header names, by its word; nothing without it
+-- the liberties that `--allow` adds to those of the header, by its word; none without it
 abbrev pub AreAllowed : Option Text → Liberties → Type 0
 AreAllowed None l = l ≡ no_liberties
 AreAllowed (Some word) l = SpellsLiberties word l

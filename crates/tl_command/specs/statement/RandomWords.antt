@@ -1,4 +1,4 @@
--- What the words of `random` stand for.
+-- The meaning of the words of `random`.
 use denote.Ref.{Bor}
 use Rattle.std.specs.Prelude.{◌≡◌, ◌^◌, ◌-◌, ℕ, List, Option, Some, None, option_map, if◌then◌else◌, nat_le}
 use Rattle.std.specs.Prelude.{codes}
@@ -19,7 +19,7 @@ use Rattle.tl_command.specs.statement.Words.{IsNumber, SpellsClients, Text, widt
 
 -- ---- the words
 
--- the words of the options, of those that are given
+-- the words of the options; None for an option that isn't given
 pub record Words : Type 0 where
   pub seed : Option Text
   pub events : Option Text
@@ -30,10 +30,11 @@ pub record Words : Type 0 where
   pub profile : Option Text
   pub contend : Option Text
 
+-- the text of a word, if there is one
 abbrev pub text_of : Option (Bor (List ℕ)) → Option Text
 text_of word = option_map (λ s. s.now) word
 
--- the words that a struct of them has
+-- the words in a struct of them
 abbrev pub words_of : RandomWords → Words
 words_of w = record {
   seed = text_of w.seed;
@@ -46,36 +47,41 @@ words_of w = record {
   contend = text_of w.contend;
 }
 
--- ---- what each stands for
+-- ---- the meaning of each
 
+-- the largest number of 64 bits
 abbrev pub most : ℕ
 most = 2 ^ 64 - 1
 
--- there is no other seed for one that isn't given
+-- the seed, a number of 64 bits; there is no default
 abbrev pub IsSeed : Words → ℕ → Type 0
 IsSeed w = IsNumber w.seed None 0 most
 
+-- the number of events, a number of 64 bits, 1,000 by default
 abbrev pub AreEvents : Words → ℕ → Type 0
 AreEvents w = IsNumber w.events (Some 1000) 0 most
 
+-- the number of blocks, 1 to 1,024, 2 by default
 abbrev pub AreBlocks : Words → ℕ → Type 0
 AreBlocks w = IsNumber w.blocks (Some 2) 1 1024
 
+-- the number of trackers, 1 to 8, 2 by default
 abbrev pub AreTrackers : Words → ℕ → Type 0
 AreTrackers w = IsNumber w.trackers (Some 2) 1 8
 
--- of so many blocks at most; where it isn't said of two, if there are two
+-- the number of contended blocks, from 1 to this many; 2 by default, or 1 of 1 block
 abbrev pub contend_named : Option Text → ℕ → ℕ → Type 0
 contend_named word blocks = IsNumber word (Some (if nat_le 2 blocks then 2 else 1)) 1 blocks
 
+-- the number of contended blocks by the word of its option
 abbrev pub IsContended : Words → ℕ → ℕ → Type 0
 IsContended w blocks = contend_named w.contend blocks
 
--- three caches and a client of TL-UH where none are given
+-- the clients; three caches and a client of TL-UH by default
 abbrev pub AreClients : Words → List ClientConfig → Type 0
 AreClients w = SpellsClients (unwrap_or w.clients (codes "C:2,C:2,C:2,UH:1"))
 
--- the profile that a word stands for, the first where there is no word
+-- the profile of the word; the first without a word
 abbrev pub profile_named : Option Text → Option Profile
 profile_named None = Some One
 profile_named (Some word) = if bytes_eq word (codes "1") then Some One else if bytes_eq word (codes "2") then Some Two
@@ -87,9 +93,9 @@ version_with width Two = Third width Two
 version_with Eight One = First
 version_with width One = Second width
 
--- ---- all of them
+-- ---- all words
 
--- the words stand for these options
+-- the words mean these options
 pub record AreOptions (w : Words) (o : Options) : Type 0 where
   pub seed_is : IsSeed w o.seed
   pub events_are : AreEvents w o.events
@@ -102,7 +108,7 @@ pub record AreOptions (w : Words) (o : Options) : Type 0 where
   pub profile_is : profile_named w.profile ≡ Some o.config.profile
   pub version_is : o.version ≡ version_with width o.config.profile
 
--- the word of this option stands for nothing
+-- the word of this option has no meaning
 abbrev pub IsWrong : Words → RandomOption → Type 0
 IsWrong w option.Seed = (n : ℕ) → ¬ IsSeed w n
 IsWrong w option.Events = (n : ℕ) → ¬ AreEvents w n

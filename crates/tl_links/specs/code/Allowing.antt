@@ -48,7 +48,7 @@ Watches {w} old new line (Some fault) =
     (levels : List Level) (may : Liberties) (t : Trace w) → KnowsBeats old levels may t
     → (more : List (List ℕ)) → AllowedAfter levels may t (line ∷ more) new.allowing.items
 
--- these lines, a header and beats that aren't at fault, were read: what is found behind them is found of all
+-- these lines, a header and beats that aren't at fault, were read: what is found after them is found of all
 pub record KnowsTrace {w : ℕ} (allow : Liberties) (v : Watch w) (lines : List (List ℕ)) : Type 0 where
   pub levels : List Level
   pub may : Liberties
@@ -80,7 +80,7 @@ found_in h = found_by h.watching
 abbrev pub EndsLines : AllowLines → List (List ℕ) → Type 0
 EndsLines h lines = Allowed h.allow lines (found_in h)
 
--- what the first line begins: a watch behind a header, or none where it is no header
+-- what the first line begins: a watch after a header, or none if it is no header
 abbrev pub Begins : Liberties → List ℕ → Option Watching → Type 0
 Begins allow line None = (width : Width) (may : Liberties) (levels : List Level)
     → ¬ NamesAllowed allow line width may levels

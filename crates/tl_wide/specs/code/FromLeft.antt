@@ -32,7 +32,7 @@ head_at bytes = do
 
 -- ---- a line that is read over a beat
 
--- the link and the beat that stand there then, or the fault
+-- the link and the beat that are read there, or the fault
 abbrev pub placed : {w : ℕ} → Result Link LineFault → WideBeat w → Result (Link × WideBeat w) LineFault
 placed (Ok link) beat = Ok (link, beat)
 placed (Err fault) beat = Err fault

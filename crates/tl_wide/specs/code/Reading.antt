@@ -1,4 +1,4 @@
--- What a wide line is read as, by the pieces between its spaces.
+-- How a wide line is read, by the pieces between its spaces.
 use Rattle.std.specs.Prelude.{ℕ, ◌/◌, Bool, not, ◌||◌, List, [], ◌∷◌, length, Option, Some, None, is_some, Result, Ok}
 use Rattle.std.specs.Prelude.{Err, nat_lt, ok_or, if◌then◌else◌}
 use Rattle.std.specs.Io.BufRead.{ends_with_byte}
@@ -18,7 +18,7 @@ use Rattle.tl_wide.specs.declared.beat.WideBeatB.{WideBeatB}
 use Rattle.tl_wide.specs.declared.beat.WideBeatC.{WideBeatC}
 use Rattle.tl_wide.specs.declared.beat.WideBeatD.{WideBeatD}
 
--- ---- a beat of numbers: opcode in use, param at most the channel's greatest, data where the opcode has it
+-- ---- a beat of numbers: opcode in use, param at most the channel's greatest, data if the opcode has it
 
 abbrev pub made_a : {w : ℕ} → ℕ → ℕ → ℕ → ℕ → ℕ → ℕ → Option (List ℕ) → Bool → Result (WideBeatA w) LineFault
 made_a opcode param size source address mask lanes corrupt = do
@@ -175,7 +175,7 @@ reading_on (Some channel.E) fields = reading_e fields
 unfoldable pub reading_fields : {w : ℕ} → List (List ℕ) → Result (Link × WideBeat w) LineFault
 reading_fields fields = if nat_lt (length fields) 2 then Err F1 else reading_on (channel_named (field fields 1)) fields
 
--- what a line with its line feed is read as, where wide beats have w bytes
+-- how a line with its line feed is read, if wide beats have w bytes
 unfoldable pub reading : (w : ℕ) → List ℕ → Result (Link × WideBeat w) LineFault
 reading w line =
     if nat_lt 256 (length line) || not (ends_with_byte 10 line) then Err F1 else reading_fields

@@ -1,4 +1,4 @@
--- The one line of text that spells a wide beat, and what is wrong with a line that spells none.
+-- The one line of text that spells a wide beat, and the fault of a line that spells none.
 use Rattle.std.specs.Prelude.{◌≡◌, ◌<◌, ◌^◌, ◌/◌, ℕ, Bool, not, ◌||◌, List, [], ◌∷◌, ◌++◌, length, Option, Some, None, nat_lt}
 use Rattle.std.specs.Prelude.{◌==◌, ⊤}
 use Rattle.std.specs.Io.BufRead.{ends_with_byte}
@@ -42,7 +42,7 @@ wide_fields link (wide.E x) = digits 2 link.0 ∷ letter channel.E ∷ digits 4 
 abbrev pub wide_line : {w : ℕ} → Link → WideBeat w → List ℕ
 wide_line link beat = spaced (wide_fields link beat) ++ 10 ∷ []
 
--- param, size and mask have room in their fields
+-- param, size and mask fit into their fields
 abbrev pub IsWideWritable : {w : ℕ} → WideBeat w → Type 0
 IsWideWritable {w} (wide.A x) = (x.param < 8) × (x.size < 16) × (x.mask < 2 ^ w)
 IsWideWritable {w} (wide.B x) = (x.param < 8) × (x.size < 16) × (x.mask < 2 ^ w)
@@ -50,7 +50,7 @@ IsWideWritable (wide.C x) = (x.param < 8) × (x.size < 16)
 IsWideWritable (wide.D x) = (x.param < 4) × (x.size < 16)
 IsWideWritable (wide.E x) = ⊤
 
--- each number is within its type, as those of a program's values are
+-- each number is within its type, as a program's values are
 abbrev pub IsWideInRange : {w : ℕ} → WideBeat w → Type 0
 IsWideInRange {w} (wide.A x) = (x.source < 2 ^ 16) × (x.address < 2 ^ 64) × AreLanes w x.lanes
 IsWideInRange {w} (wide.B x) = (x.source < 2 ^ 16) × (x.address < 2 ^ 64) × AreLanes w x.lanes
@@ -65,13 +65,13 @@ pub record WideSpells {w : ℕ} (line : List ℕ) (link : Link) (beat : WideBeat
   pub writable : IsWideWritable beat
   pub in_range : IsWideInRange beat
 
--- ---- what is wrong with a line
+-- ---- the fault of a line
 
 -- the forms of the fields that lines of channels A to D begin with
 abbrev pub head_forms : List (List ℕ → Bool)
 head_forms = is_digits 2 ∷ is_any ∷ is_digits 1 ∷ is_digits 1 ∷ is_digits 1 ∷ is_digits 4 ∷ []
 
--- the forms of a channel's fields, where beats have w bytes
+-- the forms of a channel's fields, for beats of w bytes
 abbrev pub wide_forms : ℕ → Channel → List (List ℕ → Bool)
 wide_forms w channel.A = head_forms ++ (is_digits 16 ∷ is_digits (w / 4) ∷ is_data w ∷ is_bit ∷ [])
 wide_forms w channel.B = head_forms ++ (is_digits 16 ∷ is_digits (w / 4) ∷ is_data w ∷ is_bit ∷ [])
@@ -86,12 +86,12 @@ wide_channel_fault w (Some channel) fields =
     first_if (not (length fields == length (wide_forms w channel))) F1
     (first_if (not (are_of_form (wide_forms w channel) fields)) F3 (value_fault channel fields))
 
--- the first fault of a line of these fields
+-- the first fault of a line with these fields
 abbrev pub wide_fields_fault : ℕ → List (List ℕ) → Option LineFault
 wide_fields_fault w fields =
     first_if (nat_lt (length fields) 2) F1 (wide_channel_fault w (channel_named (field fields 1)) fields)
 
--- the first fault of a line, where beats have w bytes; None where it spells a wide beat
+-- the first fault of a line, for beats of w bytes; None if it spells a wide beat
 abbrev pub wide_line_fault : ℕ → List ℕ → Option LineFault
 wide_line_fault w line = first_if (nat_lt 256 (length line) || not (ends_with_byte 10 line)) F1
     (wide_fields_fault w (pieces (without_last line)))

@@ -1,4 +1,4 @@
--- What a wide trace means: the trace of beats of the rules that its beats become.
+-- The meaning of a wide trace: the trace of the beats of at most 16 bytes that its beats become.
 use Rattle.std.specs.Prelude.{ℕ, Bool, ◌==◌, ◌&&◌, if◌then◌else◌, List, [], ◌∷◌, map}
 use Rattle.tl_beat.specs.declared.beat.Beat.{Beat}
 use Rattle.tl_beat.specs.declared.beat.Beat.TheVariants as beat
@@ -22,6 +22,7 @@ use Rattle.tl_wide.specs.statement.Width.{part_width}
 
 -- ---- one part of a beat, the newest of the trace t
 
+-- a part of a beat of channel A, with this mask
 abbrev pub a_part : {w : ℕ} → Link → WideBeatA w → WideTrace w → Bool → ℕ → ℕ → BeatA (part_width w)
 a_part {w} link x t stray mask part = record {
   opcode = shown_opcode stray x.opcode;
@@ -36,6 +37,7 @@ a_part {w} link x t stray mask part = record {
       (shown_carries stray x.opcode x.lanes x.carries);
 }
 
+-- a part of a beat of channel B, with this mask
 abbrev pub b_part : {w : ℕ} → Link → WideBeatB w → WideTrace w → ℕ → ℕ → BeatB (part_width w)
 b_part {w} link x t mask part = record {
   opcode = x.opcode;
@@ -49,6 +51,7 @@ b_part {w} link x t mask part = record {
   carries = part_carries w part x.lanes (b_carries_data x.opcode) x.carries;
 }
 
+-- a part of a beat of channel C
 abbrev pub c_part : {w : ℕ} → Link → WideBeatC w → WideTrace w → ℕ → BeatC (part_width w)
 c_part {w} link x t part = record {
   opcode = x.opcode;
@@ -61,6 +64,7 @@ c_part {w} link x t part = record {
   carries = part_carries w part x.lanes (c_carries_data x.opcode) x.carries;
 }
 
+-- a part of a beat of channel D
 abbrev pub d_part : {w : ℕ} → Link → WideBeatD w → WideTrace w → ℕ → BeatD (part_width w)
 d_part {w} link x t part = record {
   opcode = x.opcode;
@@ -76,20 +80,22 @@ d_part {w} link x t part = record {
 
 -- ---- all parts of a beat, the newest of the trace t
 
--- the parts of a beat that carries data, by these parts of its message; a beat without data has one part, the first
+-- the parts of a beat that carries data, by the parts of its message; a beat without data has one part, the first
 abbrev pub parts_where : {w : ℕ} → Bool → (ℕ → Beat w) → List ℕ → Beat w → List (Beat w)
 parts_where carries of parts alone = if carries then map of parts else alone ∷ []
 
--- the mask of a beat without data has the lanes that each part of its message has
+-- the mask of a beat without data: the lanes that each part of its message has, or none if the mask has a stray lane
 abbrev pub lone_mask : ℕ → Bool → List ℕ → ℕ → ℕ
 lone_mask w stray parts mask = if stray then 0 else common_mask w parts mask
 
+-- the parts of a beat of channel A
 abbrev pub a_parts : {w : ℕ} → Link → WideBeatA w → WideTrace w → Bool → List ℕ → List (Beat (part_width w))
 a_parts {w} link x t stray parts =
     parts_where (a_carries_data x.opcode)
     (λ part. beat.A (a_part link x t stray (shown_mask stray w x.mask part) part)) parts
     (beat.A (a_part link x t stray (lone_mask w stray parts x.mask) 0))
 
+-- the parts of a beat of channel B
 abbrev pub b_parts : {w : ℕ} → Link → WideBeatB w → WideTrace w → Bool → List ℕ → List (Beat (part_width w))
 b_parts {w} link x t stray parts =
     parts_where (b_carries_data x.opcode)
@@ -103,8 +109,8 @@ asked_address link source ((on, wide.A x) ∷ t) =
     if (on.0 == link.0) && (x.source == source) then x.address else asked_address link source t
 asked_address link source (_ ∷ t) = asked_address link source t
 
--- The beats of the rules that a beat becomes, the first first. Which parts of a message a beat of channel D carries
--- follows from the address of the request.
+-- The beats that a wide beat becomes, in their order. For a beat of channel D the address of its request says which
+-- parts of a message it carries.
 abbrev pub beats_of : {w : ℕ} → Link → WideBeat w → WideTrace w → List (Beat (part_width w))
 beats_of {w} link (wide.A x) t =
     a_parts link x t (has_stray w (parts_of w x.size x.address) x.mask) (parts_of w x.size x.address)
@@ -124,13 +130,14 @@ beats_of link (wide.E x) t = beat.E (record { sink = place_in (sinks t) x.sink }
 abbrev pub on_one_link : {w : ℕ} → Link → List (Beat w) → Trace w
 on_one_link link beats = map (λ x. (link, x)) beats
 
--- What each beat of a wide trace becomes, up to the first that names a block, a source or a sink for which no number is
--- left: `before` has the beats so far, the newest first, and the trace those to come, the next first.
+-- The beats of each beat of `trace`, up to the first that names a block, a source or a sink for which no number is
+-- left. `before` has the beats before these, the newest first; in `trace` the next one is first.
 unfoldable pub narrowed_from : {w : ℕ} → WideTrace w → WideTrace w → List (Trace (part_width w))
 narrowed_from before [] = []
 narrowed_from before (x ∷ trace) =
     if is_beyond x.0 (x ∷ before) then []
     else on_one_link x.0 (beats_of x.0 x.1 (x ∷ before)) ∷ narrowed_from (x ∷ before) trace
 
+-- the beats of each beat of a trace
 abbrev pub narrowed : {w : ℕ} → WideTrace w → List (Trace (part_width w))
 narrowed trace = narrowed_from [] trace

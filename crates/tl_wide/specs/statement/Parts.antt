@@ -1,4 +1,4 @@
--- The parts of a wide beat, of as many bytes as a beat of the rules holds at most.
+-- The parts of a wide beat, of at most 16 bytes each.
 use Rattle.std.specs.Prelude.{ℕ, zero, suc, Bool, true, false, not, ◌||◌, ◌+◌, ◌-◌, ◌*◌, ◌/◌, ◌%◌, ◌^◌, ◌≡◌}
 use Rattle.std.specs.Prelude.{bit_and, filter, is_some, List, [], ◌∷◌, ◌++◌, option_map, Option, Some, None}
 use Rattle.std.specs.Prelude.{slice_range}
@@ -9,7 +9,7 @@ use Rattle.tl_burst.specs.statement.Burst.{bit}
 use Rattle.tl_rules.specs.statement.Legality.{each_below, is_lane, is_one_of}
 use Rattle.tl_wide.specs.statement.Width.{part_width}
 
--- ---- which parts a message reaches
+-- ---- the parts of a message
 
 -- the numbers below n
 unfoldable pub below : ℕ → List ℕ
@@ -27,10 +27,12 @@ parts_of w size address = filter (reaches_part w size address) (below (w / part_
 
 -- ---- the lanes and the mask of a part
 
+-- the lanes of a part
 abbrev pub part_lanes : ℕ → ℕ → Option (List ℕ) → Option (List ℕ)
 part_lanes w part lanes =
     option_map (λ bytes. slice_range bytes (part_width w * part) (part_width w * part + part_width w)) lanes
 
+-- the mask of a part, from that of its beat
 abbrev pub part_mask : ℕ → ℕ → ℕ → ℕ
 part_mask w mask part = mask / 2 ^ (part_width w * part) % 2 ^ part_width w
 
@@ -38,14 +40,14 @@ part_mask w mask part = mask / 2 ^ (part_width w * part) % 2 ^ part_width w
 abbrev pub has_stray : ℕ → List ℕ → ℕ → Bool
 has_stray w parts mask = not (each_below 64 (λ lane. not (bit mask lane) || is_one_of (lane / part_width w) parts))
 
--- The mask of a part: no lane where the beat's mask has one that no part has, which no opcode allows but that which
--- shown_opcode replaces.
+-- The mask of a part: none if the beat's mask has a stray lane, in no part of the message. An empty mask breaks a rule
+-- for each opcode but PutPartialData, which `shown_opcode` replaces.
 abbrev pub shown_mask : Bool → ℕ → ℕ → ℕ → ℕ
 shown_mask true w mask part = 0
 shown_mask false w mask part = part_mask w mask part
 
--- PutPartialData may have no lane: where the beat's mask is wrong, its parts are those of a PutFullData, which must
--- have all
+-- the opcode of a part: a PutPartialData, whose parts may have no lane, becomes a PutFullData, whose parts must have
+-- all, if the beat's mask has a stray lane
 abbrev pub shown_opcode : Bool → OpA → OpA
 shown_opcode true a.PutPartialData = a.PutFullData
 shown_opcode _ opcode = opcode
@@ -55,13 +57,15 @@ abbrev pub common_mask : ℕ → List ℕ → ℕ → ℕ
 common_mask w [] mask = 2 ^ part_width w - 1
 common_mask w (part ∷ parts) mask = bit_and (part_mask w mask part) (common_mask w parts mask)
 
--- ---- that a part carries data where its beat does
+-- ---- a part carries data exactly if its beat does
 
+-- lanes that fit an opcode fit the one that is shown
 unfoldable pub shown_carries : (stray : Bool) (opcode : OpA) (lanes : Option (List ℕ))
     → is_some lanes ≡ a_carries_data opcode → is_some lanes ≡ a_carries_data (shown_opcode stray opcode)
 shown_carries true a.PutPartialData lanes e = e
 shown_carries stray opcode lanes e = e
 
+-- there are lanes of a part exactly if its beat has lanes
 unfoldable pub part_carries : (w part : ℕ) (lanes : Option (List ℕ)) (carries : Bool) → is_some lanes ≡ carries
     → is_some (part_lanes w part lanes) ≡ carries
 part_carries w part None carries e = e

@@ -215,7 +215,7 @@ fn place_d<const W: usize>(
     Ok(Link(head.link))
 }
 
-/// The line of a beat of channel A, without its line feed, read over a beat: its link.
+/// Reads the line of a beat of channel A, without its line feed, into `beat`, and returns its link.
 #[tactic(auto, unfolding(crate::specs::code::FromLeft::line_a_at))]
 #[inline(always)]
 pub(crate) fn line_a<const W: usize>(
@@ -233,7 +233,7 @@ pub(crate) fn line_a<const W: usize>(
     place_a(head, address, mask, tail, beat)
 }
 
-/// The line of a beat of channel B, without its line feed, read over a beat: its link.
+/// Reads the line of a beat of channel B, without its line feed, into `beat`, and returns its link.
 #[tactic(auto, unfolding(crate::specs::code::FromLeft::line_b_at))]
 #[inline(always)]
 pub(crate) fn line_b<const W: usize>(
@@ -251,7 +251,7 @@ pub(crate) fn line_b<const W: usize>(
     place_b(head, address, mask, tail, beat)
 }
 
-/// The line of a beat of channel C, without its line feed, read over a beat: its link.
+/// Reads the line of a beat of channel C, without its line feed, into `beat`, and returns its link.
 #[tactic(auto, unfolding(crate::specs::code::FromLeft::line_c_at))]
 #[inline(always)]
 pub(crate) fn line_c<const W: usize>(
@@ -268,7 +268,7 @@ pub(crate) fn line_c<const W: usize>(
     place_c(head, address, tail, beat)
 }
 
-/// The line of a beat of channel D, without its line feed, read over a beat: its link.
+/// Reads the line of a beat of channel D, without its line feed, into `beat`, and returns its link.
 #[tactic(auto, unfolding(crate::specs::code::FromLeft::line_d_at))]
 #[inline(always)]
 pub(crate) fn line_d<const W: usize>(
@@ -286,7 +286,7 @@ pub(crate) fn line_d<const W: usize>(
     place_d(head, sink, denied, tail, beat)
 }
 
-/// The line of a beat of channel E, without its line feed, read over a beat: its link.
+/// Reads the line of a beat of channel E, without its line feed, into `beat`, and returns its link.
 #[tactic(auto, unfolding(crate::specs::code::FromLeft::line_e_at))]
 #[inline(always)]
 pub(crate) fn line_e<const W: usize>(

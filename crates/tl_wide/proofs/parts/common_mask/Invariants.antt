@@ -1,6 +1,6 @@
 use Rattle.std.proofs.Common.{◌≡◌, ◌-◌, ◌/◌}
 use Rattle.std.specs.Prelude.{filter}
-use Rattle.tl_wide.specs.code.Pieces.{from}
+use Rattle.tl_wide.specs.statement.Pieces.{from}
 use Rattle.tl_wide.specs.statement.Parts.{common_mask, reaches_part}
 use Rattle.tl_wide.proofs.parts.common_mask.Given as goal
 

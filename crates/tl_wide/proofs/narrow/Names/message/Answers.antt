@@ -3,7 +3,7 @@ use Rattle.std.proofs.lemmas.Result.{err_from_is_err_and}
 use Rattle.std.specs.Prelude.{slice_index_or}
 use Rattle.tl_wide.proofs.Numbering.{block-becomes, given, kept, message-beyond, message-known, place-fits, refused}
 use Rattle.tl_wide.proofs.Numbering.{source-becomes}
-use Rattle.tl_wide.specs.code.Numbers.{KnowsNumbers}
+use Rattle.tl_wide.specs.statement.Numbers.{KnowsNumbers}
 use Rattle.tl_wide.specs.declared.numbers.Numbers.{Numbers}
 use Rattle.tl_wide.specs.statement.Naming.{blocks, sources}
 use Rattle.tl_wide.proofs.narrow.Names.message.Goals as goal

@@ -2,7 +2,7 @@ use Rattle.std.proofs.Common.{◌≡◌, ◌∙◌, ◌+◌, ◌^◌, ◌<◌, N
 use Rattle.std.proofs.lemmas.Grind.{common_steps}
 use Rattle.std.proofs.Math.Nat.{mod-eq_of_lt}
 use Rattle.tl_wide.proofs.Naming.{found-none, one-known, place-last}
-use Rattle.tl_wide.specs.code.Numbers.{found_in}
+use Rattle.tl_wide.specs.statement.Numbers.{found_in}
 use Rattle.tl_wide.proofs.numbers.Numbers.give.Goals as goal
 
 pub returns : goal.returns

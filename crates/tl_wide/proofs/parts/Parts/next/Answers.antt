@@ -1,6 +1,6 @@
 use Rattle.std.proofs.Common.{rules, sym, true, ◌≡◌, ◌∙◌, ◌/◌}
 use Rattle.tl_wide.proofs.Cut.{next-none, next-one, next-passed}
-use Rattle.tl_wide.specs.code.Pieces.{carries_of}
+use Rattle.tl_wide.specs.statement.Pieces.{carries_of}
 use Rattle.tl_wide.specs.statement.Parts.{reaches_part}
 use Rattle.tl_wide.proofs.parts.Parts.next.Goals as goal
 

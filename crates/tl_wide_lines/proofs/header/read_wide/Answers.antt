@@ -1,0 +1,22 @@
+use Rattle.tl_wide_lines.proofs.WideHeaders.{fifth_behind, front_taken}
+use Rattle.tl_wide_lines.proofs.header.read_wide.Goals as goal
+
+pub returns-in_err-may-clause-every_spelling : goal.returns-in_err-may-clause-every_spelling
+returns-in_err-may-clause-every_spelling c = λ width may levels h.
+    let (w, named) = fifth_behind c.args.line.now width may levels h (c.in_ok-width.width, c.in_ok-width.rest.now)
+    c.in_ok-width.ensures in
+    absurd (c.in_err-may.ensures.every_spelling may levels named)
+
+pub returns-clause-spelled : goal.returns-clause-spelled
+returns-clause-spelled c = (
+  c.in_ok-width.rest.now,
+  front_taken c.args.line.now (c.in_ok-width.width, c.in_ok-width.rest.now) c.in_ok-width.ensures,
+  c.in_ok-may.ensures.spelled,
+)
+
+pub returns-clause-every_spelling : goal.returns-clause-every_spelling
+returns-clause-every_spelling c = λ width may levels h.
+    let (w, named) = fifth_behind c.args.line.now width may levels h (c.in_ok-width.width, c.in_ok-width.rest.now)
+    c.in_ok-width.ensures in
+    let (m, l) = c.in_ok-may.ensures.every_spelling may levels named in
+    (w, m, l)

@@ -1,0 +1,5 @@
+pub mod FirstFault
+pub mod HeadReading
+pub mod WideDecoding
+pub mod WideJudging
+pub mod WideWatching

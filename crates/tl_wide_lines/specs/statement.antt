@@ -1,0 +1,5 @@
+pub mod JudgedTrace
+pub mod PartFaults
+pub mod WideDecoded
+pub mod WideHeader
+pub mod WideText

@@ -1,0 +1,11 @@
+//! Judges recorded traces with a header of any version, those of wide beats among them.
+#![tactic(auto)]
+
+pub mod decode;
+pub mod decoder;
+pub mod header;
+pub mod judge;
+pub mod law;
+pub mod lines;
+pub mod run;
+pub mod text;

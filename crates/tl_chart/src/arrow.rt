@@ -7,7 +7,7 @@ ghost use Rattle.tl_chart.specs.code.Lasting;
 ghost use Rattle.tl_chart.specs.code.Moment.{IsMoment};
 ghost use Rattle.tl_chart.specs.statement.Drawn;
 ghost use Rattle.tl_chart.specs.statement.Messages.{continued, is_of};
-ghost use Rattle.tl_explain.specs.code.Recorded.{channel_in};
+ghost use Rattle.tl_chart.specs.statement.Messages.{channel_in};
 ghost use Rattle.tl_rules.specs.statement.Conformance.{Trace};
 
 use crate::window::is_same_block;
@@ -15,14 +15,14 @@ use tl_beat::beat::{Beat, Link};
 use tl_beat::control::Control;
 use tl_rules::kind::{is_grant, is_probe, is_probe_ack, is_release, is_release_ack};
 
-/// A message of a trace: the control fields of its beats, its block, and the lines of its first beat and
-/// of its last so far.
+/// A message of a trace: the control fields of its beats, its block, and the lines of its first beat and of its last so
+/// far.
 #[derive(Clone, Copy)]
 pub struct Arrow {
     pub link: Link,
     pub control: Control,
     pub block: Option<u32>,
-    /// How many beats the message has.
+    /// The number of beats of the message.
     pub beats: u8,
     pub first: u64,
     pub last: u64,
@@ -31,8 +31,7 @@ pub struct Arrow {
     pub answered: bool,
 }
 
-/// A beat of a trace: its link, the number of its line, whether it begins a message, and whether one is
-/// complete with it.
+/// A beat of a trace: its link, the number of its line, and whether it begins and completes a message.
 #[derive(Clone, Copy)]
 pub struct Moment {
     pub link: Link,
@@ -55,7 +54,7 @@ fn is_of_channel<const W: usize>(control: &Control, beat: &Beat<W>) -> bool
     }
 }
 
-/// Whether a message wants an answer.
+/// Whether a message needs an answer.
 pub fn wants_answer(control: &Control) -> bool
     ensures { result ≡ Drawn.wants_answer control.now }
 {
@@ -68,7 +67,7 @@ pub fn wants_answer(control: &Control) -> bool
     }
 }
 
-/// Whether a beat is of a message that wants an answer, and answers nothing.
+/// Whether a beat is of a message that needs an answer, and answers none.
 fn asks<const W: usize>(beat: &Beat<W>) -> bool
     ensures { result ≡ Lasting.asks beat.now }
 {
@@ -80,7 +79,7 @@ fn asks<const W: usize>(beat: &Beat<W>) -> bool
     }
 }
 
-/// Whether a message of this block that is complete with a beat answers an earlier one.
+/// Whether a message of this block, completed by a beat, answers an earlier message.
 fn answers<const W: usize>(
     beat: &Beat<W>,
     block: Option<u32>,
@@ -103,8 +102,8 @@ fn answers<const W: usize>(
 }
 
 impl Moment {
-    /// Whether something may be let go behind its beat: a message is complete with it, but not one that is
-    /// this beat alone and asks.
+    /// Whether messages may become closed by this beat: it completes a message, but not one of this beat alone that
+    /// needs an answer.
     pub fn lets_go<const W: usize>(&self, beat: &Beat<W>) -> bool
         ensures { result ≡ Lasting.lets_go self.now beat.now }
     {
@@ -113,14 +112,14 @@ impl Moment {
 }
 
 impl Arrow {
-    /// Whether a beat of a link is of the message: of its link and channel, where beats of it are missing.
+    /// Whether a beat of a link is of the message: it has its link and channel, and beats of the message are missing.
     fn is_of<const W: usize>(&self, link: Link, beat: &Beat<W>) -> bool
         ensures { result ≡ is_of (link, beat.now) self.now }
     {
         self.link.0 == link.0 && is_of_channel(&self.control, beat) && !self.complete
     }
 
-    /// The message with one more beat, where that is of it.
+    /// The message after one more beat, changed if the beat is of it.
     pub fn with<const W: usize>(self, moment: &Moment, beat: &Beat<W>) -> Arrow
         ensures { (t : Trace W) → IsMoment moment.now (moment.now.link, beat.now) t →
             result ≡ continued (moment.now.link, beat.now) t self }
@@ -136,7 +135,7 @@ impl Arrow {
         }
     }
 
-    /// The message, which a beat may answer, whose message is of this block.
+    /// The message, marked as answered if this beat completes an answer to it. `block` is that of the beat's message.
     pub fn noted<const W: usize>(self, moment: &Moment, beat: &Beat<W>, block: Option<u32>) -> Arrow
         ensures { result ≡ Drawn.noted_by moment.now.link moment.now.last beat.now block self }
     {
@@ -149,7 +148,7 @@ impl Arrow {
         }
     }
 
-    /// Whether a beat of the message is missing, or its answer.
+    /// Whether beats of the message are missing, or its answer.
     pub fn is_open(&self) -> bool
         ensures { result ≡ Drawn.is_open self.now }
     {

@@ -22,7 +22,7 @@ pub struct LinkBlocks {
 }
 
 impl LinkBlocks {
-    /// There was no message.
+    /// No message has come.
     pub fn new() -> Self
         ensures { (w : ℕ) → KnowsBlocks {w = w} result [] }
     {
@@ -32,7 +32,7 @@ impl LinkBlocks {
         }
     }
 
-    /// The block of a beat's message; for an answer that of what it answers.
+    /// The block of a beat's message; for an answer the block of the message that it answers.
     pub fn of<const W: usize>(&self, beat: &Beat<W>) -> Option<u32>
         ensures { (t : History W) → KnowsBlocks self.now t → result ≡ message_block beat.now t }
     {
@@ -42,7 +42,7 @@ impl LinkBlocks {
         }
     }
 
-    /// Takes a beat, which begins a message or doesn't: the block of its message.
+    /// Takes a beat, and returns the block of its message. `first` says that it begins the message.
     pub fn take<const W: usize>(&mut self, beat: &Beat<W>, first: bool) -> Option<u32>
         ensures known { (t : History W) → KnowsBlocks self.old t → first ≡ begins beat.now t →
             KnowsBlocks self.new (beat.now ∷ t) }
@@ -55,7 +55,7 @@ impl LinkBlocks {
     }
 }
 
-/// The block of a beat's message on a link that has carried nothing before it.
+/// The block of a beat's message on a link without earlier beats.
 pub fn first_block<const W: usize>(beat: &Beat<W>) -> Option<u32>
     ensures { result ≡ message_block beat.now [] }
 {
@@ -68,7 +68,7 @@ pub fn first_block<const W: usize>(beat: &Beat<W>) -> Option<u32>
     }
 }
 
-/// Notes the block of a Grant that begins, under its sink.
+/// Records the block of a Grant that begins, under its sink.
 fn grant<const W: usize>(
     granted: &mut ByteTable<u32>,
     beat: &Beat<W>,

@@ -1,4 +1,4 @@
-//! A chart of what was gathered of a trace.
+//! Writes the chart of a drawing.
 
 ghost use Rattle.std.specs.Prelude.{◌≡◌, ◌++◌, ◌≤◌, OnOk, IfOk, option_to_list};
 ghost use Rattle.tl_chart.specs.code.Gathered.{drawn_of};
@@ -15,18 +15,18 @@ use crate::text::{append_block, append_byte, append_escaped, append_number, appe
 use std::alloc::{AllocError, Global};
 use tl_params::perm::Perm;
 
-/// What a trace is judged.
+/// The verdict on a trace.
 #[derive(Drop)]
 pub struct Verdict<'a> {
-    /// The line of `monitor`.
+    /// The text of `monitor`.
     pub text: &'a [u8],
-    /// The beat at fault, where it is drawn.
+    /// The beat at fault, if it is drawn.
     pub fault: Option<Arrow>,
     /// Whether a line is at fault.
     pub broken: bool,
 }
 
-/// Appends a text at a place, of a class.
+/// Appends a text at a place, with a class.
 fn append_label(
     class: &str,
     x: u64,
@@ -43,7 +43,7 @@ fn append_label(
     out.extend_from_slice(b"</text>\n")
 }
 
-/// Appends a lifeline, with its head: a box of this width about a place, with a text in it.
+/// Appends a lifeline, with its head: a box of this width around a place, with a text in it.
 fn append_lifeline(
     x: u64,
     head: u64,
@@ -74,7 +74,7 @@ fn append_links(arrows: &[Arrow], links: &mut Vec<u8>) -> Result<(), AllocError>
     Ok(())
 }
 
-/// Appends the title: which lines, and which block.
+/// Appends the title: the lines and the block.
 fn append_title(gatherer: &Gatherer, end: u64, out: &mut Vec<u8>) -> Result<(), AllocError> {
     if end < gatherer.window.first {
         return out.extend_from_slice(b"Messages of a trace that ends before these lines");
@@ -88,7 +88,7 @@ fn append_title(gatherer: &Gatherer, end: u64, out: &mut Vec<u8>) -> Result<(), 
     Ok(())
 }
 
-/// Appends a line for a message, for readers that don't see the picture.
+/// Appends a line about a message, for readers who don't see the picture.
 fn append_told(arrow: &Arrow, out: &mut Vec<u8>) -> Result<(), AllocError> {
     append_with("Line ", arrow.first, out)?;
     out.extend_from_slice(b": ")?;
@@ -96,7 +96,7 @@ fn append_told(arrow: &Arrow, out: &mut Vec<u8>) -> Result<(), AllocError> {
     out.extend_from_slice(b".\n")
 }
 
-/// What a client is that holds so much.
+/// The text for a client with this permission.
 fn holder(held: Perm) -> &'static str {
     match held {
         Perm::None => " holds nothing",
@@ -105,7 +105,7 @@ fn holder(held: Perm) -> &'static str {
     }
 }
 
-/// Appends a line for what is held, for the same readers.
+/// Appends a line about a permission held, for the same readers.
 fn append_held(mark: &Mark, out: &mut Vec<u8>) -> Result<(), AllocError> {
     append_with("With line ", mark.line, out)?;
     out.extend_from_slice(b" ")?;
@@ -126,7 +126,7 @@ fn append_size(width: u64, height: u64, out: &mut Vec<u8>) -> Result<(), AllocEr
     out.extend_from_slice(b"' style='max-width:100%;height:auto'>\n")
 }
 
-/// Appends what readers are told that don't see the picture.
+/// Appends the texts for readers who don't see the picture.
 fn append_texts(
     gatherer: &Gatherer,
     arrows: &[Arrow],
@@ -148,7 +148,7 @@ fn append_texts(
     out.extend_from_slice(b"</desc>\n")
 }
 
-/// Appends the title and what the colours are.
+/// Appends the title and the meaning of the colours.
 fn append_key(gatherer: &Gatherer, end: u64, out: &mut Vec<u8>) -> Result<(), AllocError> {
     let mut title = Vec::new(*out.allocator());
     append_title(gatherer, end, &mut title)?;
@@ -183,7 +183,7 @@ fn append_said(y: u64, text: &[u8], out: &mut Vec<u8>) -> Result<(), AllocError>
     out.extend_from_slice(b"</text>\n")
 }
 
-/// The class of a verdict, red where a line is at fault.
+/// The class of a verdict, red if a line is at fault.
 fn verdict_class(broken: bool) -> &'static str
     ensures { result.now ≡ Picture.verdict_class broken }
 {
@@ -191,7 +191,7 @@ fn verdict_class(broken: bool) -> &'static str
 }
 
 #[tactic(auto, unfolding(crate::specs::statement::Picture::verdict_text))]
-/// Appends the line of a verdict, red where a line is at fault.
+/// Appends the line of a verdict, red if a line is at fault.
 fn append_verdict(broken: bool, text: &[u8], y: u64, out: &mut Vec<u8>) -> Result<(), AllocError>
     ensures { OnOk result (out.new.items ≡ out.old.items ++ Picture.verdict_text y broken text.now) }
 {
@@ -202,7 +202,7 @@ fn append_verdict(broken: bool, text: &[u8], y: u64, out: &mut Vec<u8>) -> Resul
     out.extend_from_slice(b"</g>\n")
 }
 
-/// Appends a note, where it is to be seen. Answers where the next one stands.
+/// Appends a note if `shown`, and returns the place of the next.
 fn append_note(shown: bool, y: u64, text: &[u8], out: &mut Vec<u8>) -> Result<u64, AllocError> {
     if !shown {
         return Ok(y);
@@ -211,7 +211,7 @@ fn append_note(shown: bool, y: u64, text: &[u8], out: &mut Vec<u8>) -> Result<u6
     Ok(y.saturating_add(18))
 }
 
-/// Appends how many messages follow, and what dashes and bars are.
+/// Appends the number of messages that follow, and the meaning of dashes and bars.
 fn append_notes(gatherer: &Gatherer, y: u64, out: &mut Vec<u8>) -> Result<(), AllocError> {
     let mut more = Vec::new(*out.allocator());
     append_with("messages that follow: ", gatherer.more, &mut more)?;
@@ -223,7 +223,7 @@ fn append_notes(gatherer: &Gatherer, y: u64, out: &mut Vec<u8>) -> Result<(), Al
     Ok(())
 }
 
-/// The messages that are drawn, and behind them the beat at fault.
+/// The messages that are drawn, and then the beat at fault.
 fn rows_of(gatherer: &Gatherer, verdict: &Verdict) -> Result<Vec<Arrow>, AllocError>
     ensures { IfOk result (λ rows. rows.items ≡ gatherer.now.arrows.items ++ option_to_list verdict.now.fault) }
 {
@@ -235,7 +235,7 @@ fn rows_of(gatherer: &Gatherer, verdict: &Verdict) -> Result<Vec<Arrow>, AllocEr
     Ok(arrows)
 }
 
-/// The line of the beat at fault, 0 where none is drawn.
+/// The line of the beat at fault; 0 if it isn't drawn.
 fn fault_line(verdict: &Verdict) -> u64
     ensures { result ≡ fault_line verdict.now.fault }
 {
@@ -270,7 +270,7 @@ fn append_all_bars(
     Ok(())
 }
 
-/// What stands before the bars and the messages.
+/// The part before the bars and the messages.
 fn front_of(
     gatherer: &Gatherer,
     arrows: &[Arrow],
@@ -290,7 +290,7 @@ fn front_of(
     Ok(front)
 }
 
-/// What stands behind the verdict.
+/// The part after the verdict.
 fn end_of(gatherer: &Gatherer, bottom: u64, alloc: Global) -> Result<Vec<u8>, AllocError>
     requires { bottom ≤ 1000000 }
 {
@@ -300,7 +300,7 @@ fn end_of(gatherer: &Gatherer, bottom: u64, alloc: Global) -> Result<Vec<u8>, Al
     Ok(end)
 }
 
-/// Appends a chart of what was gathered of a trace, with what it is judged.
+/// Appends the chart of a drawing, with the verdict.
 pub fn append_chart(
     gatherer: &Gatherer,
     verdict: &Verdict,

@@ -23,7 +23,7 @@ fn append(text: &str, out: &mut Vec<u8>) -> Result<(), AllocError>
     out.extend_from_slice(text.as_bytes())
 }
 
-/// Appends the words of a message, as they stand in SVG.
+/// Appends the words of a message, escaped for SVG.
 pub fn append_escaped_words(arrow: &Arrow, out: &mut Vec<u8>) -> Result<(), AllocError>
     ensures { OnOk result (out.new.items ≡ out.old.items ++ escaped (words_of arrow.now)) }
 {
@@ -32,7 +32,7 @@ pub fn append_escaped_words(arrow: &Arrow, out: &mut Vec<u8>) -> Result<(), Allo
     append_escaped(&words, out)
 }
 
-/// The class of an arrow, which has its colour.
+/// The class for an arrow's colour.
 fn class(arrow: &Arrow, fault: u64) -> &'static str
     ensures { result.now ≡ Picture.colour_class fault arrow.now }
 {
@@ -43,7 +43,7 @@ fn class(arrow: &Arrow, fault: u64) -> &'static str
     }
 }
 
-/// The class of dashes, of an arrow that begins before the window.
+/// The class for dashes, of an arrow that begins before the window.
 fn dashes(arrow: &Arrow, first: u64) -> &'static str
     ensures { result.now ≡ Picture.dash_class first arrow.now }
 {
@@ -84,7 +84,7 @@ fn append_told(arrow: &Arrow, y: u64, out: &mut Vec<u8>) -> Result<(), AllocErro
 }
 
 #[tactic(auto, unfolding(crate::specs::statement::Picture::row_text))]
-/// Appends what stands of a message in its row: the number of its first line, and its words.
+/// Appends the row of a message: the number of its first line, and its words.
 fn append_row(arrow: &Arrow, y: u64, out: &mut Vec<u8>) -> Result<(), AllocError>
     requires { y ≤ 1000000 }
     ensures { OnOk result (out.new.items ≡ out.old.items ++ Picture.row_text y arrow.now) }
@@ -104,7 +104,7 @@ fn append_shaft(from: u64, to: u64, y: u64, out: &mut Vec<u8>) -> Result<(), All
 }
 
 #[tactic(auto, unfolding(crate::specs::statement::Picture::point_place))]
-/// Appends the place of the point where an arrow begins.
+/// Appends the place of the point at the start of an arrow.
 fn append_point_place(x: u64, y: u64, out: &mut Vec<u8>) -> Result<(), AllocError>
     ensures { OnOk result (out.new.items ≡ out.old.items ++ Picture.point_place x y) }
 {
@@ -113,7 +113,7 @@ fn append_point_place(x: u64, y: u64, out: &mut Vec<u8>) -> Result<(), AllocErro
 }
 
 #[tactic(auto, unfolding(crate::specs::statement::Picture::point_text))]
-/// Appends the point where an arrow begins.
+/// Appends the point at the start of an arrow.
 fn append_point(x: u64, y: u64, out: &mut Vec<u8>) -> Result<(), AllocError>
     ensures { OnOk result (out.new.items ≡ out.old.items ++ Picture.point_text x y) }
 {
@@ -166,7 +166,7 @@ fn append_across(arrow: &Arrow, x: u64, y: u64, out: &mut Vec<u8>) -> Result<(),
 }
 
 #[tactic(auto, unfolding(crate::specs::statement::Picture::close_text))]
-/// Appends the last stroke of a bracket, where the message is complete.
+/// Appends the last stroke of a bracket, if the message is complete.
 fn append_close(arrow: &Arrow, out: &mut Vec<u8>) -> Result<(), AllocError>
     ensures { OnOk result (out.new.items ≡ out.old.items ++ Picture.close_text arrow.now) }
 {
@@ -188,8 +188,8 @@ fn append_side(x: u64, from: u64, to: u64, out: &mut Vec<u8>) -> Result<(), Allo
 }
 
 #[tactic(auto, unfolding(crate::specs::statement::Picture::bracket_text))]
-/// Appends the bracket from a message's first beat down to its last, beside the client's lifeline. It is
-/// open where beats are missing.
+/// Appends the bracket from a message's first beat down to its last, beside the client's lifeline. It stays open if
+/// beats are missing.
 fn append_bracket(
     arrow: &Arrow,
     x: u64,
@@ -206,7 +206,7 @@ fn append_bracket(
 }
 
 #[tactic(auto, unfolding(crate::specs::statement::Picture::extent_text))]
-/// Appends the extent of a message that has more than one beat: its bracket.
+/// Appends the bracket of a message with more than one beat.
 fn append_extent(
     arrow: &Arrow,
     arrows: &[Arrow],
@@ -224,7 +224,7 @@ fn append_extent(
 }
 
 #[tactic(auto, unfolding(crate::specs::statement::Picture::arrow_text))]
-/// Appends a message: its row, its arrow, and its bracket where it has more than one beat.
+/// Appends a message: its row, its arrow, and its bracket if it has more than one beat.
 fn append_arrow(
     arrow: &Arrow,
     arrows: &[Arrow],
@@ -283,7 +283,7 @@ fn append_bar_side(class: &str, x: u64, out: &mut Vec<u8>) -> Result<(), AllocEr
 }
 
 #[tactic(auto, unfolding(crate::specs::statement::Picture::bar_size))]
-/// Appends the places of a bar from above.
+/// Appends the place and height of a bar.
 fn append_bar_size(from: u64, to: u64, out: &mut Vec<u8>) -> Result<(), AllocError>
     ensures { OnOk result (out.new.items ≡ out.old.items ++ Picture.bar_size from to) }
 {
@@ -293,7 +293,7 @@ fn append_bar_size(from: u64, to: u64, out: &mut Vec<u8>) -> Result<(), AllocErr
 }
 
 #[tactic(auto, unfolding(crate::specs::statement::Picture::bar_of))]
-/// Appends a bar of a class beside a lifeline, between two places from above.
+/// Appends a bar of a class beside a lifeline, between two places from the top.
 fn append_bar_of(
     class: &str,
     x: u64,
@@ -309,7 +309,7 @@ fn append_bar_of(
 }
 
 #[tactic(auto, unfolding(crate::specs::statement::Picture::bar_text))]
-/// Appends the bar of what is held; nothing where nothing is held.
+/// Appends the bar of a permission; there is none for None.
 fn append_bar(held: Perm, x: u64, from: u64, to: u64, out: &mut Vec<u8>) -> Result<(), AllocError>
     requires { x ≤ 1000000 }
     ensures { OnOk result (out.new.items ≡ out.old.items ++ Picture.bar_text held x from to) }
@@ -322,7 +322,7 @@ fn append_bar(held: Perm, x: u64, from: u64, to: u64, out: &mut Vec<u8>) -> Resu
 }
 
 #[tactic(auto, unfolding(crate::specs::statement::Picture::mark_place))]
-/// Where what is held changes, from above: at the top where it did before the window.
+/// The place at which a permission changes, from the top; the top itself if that was before the window.
 fn mark_place(mark: &Mark, arrows: &[Arrow], first: u64) -> u64
     ensures { result ≡ Picture.mark_place arrows.now first mark.now }
 {
@@ -333,7 +333,7 @@ fn mark_place(mark: &Mark, arrows: &[Arrow], first: u64) -> u64
     }
 }
 
-/// What is held, and from which place on.
+/// A permission, and the place from which it is held.
 #[derive(Clone, Copy)]
 struct Bar {
     held: Perm,
@@ -341,7 +341,7 @@ struct Bar {
 }
 
 #[tactic(auto, unfolding(crate::specs::statement::Picture::bars_text))]
-/// Appends the bar that a mark ends, where it is one of the link at x. Answers the bar that goes on.
+/// Appends the bar that a mark ends, if the mark is of the link at x. Returns the bar that goes on.
 fn append_mark(
     bar: Bar,
     link: u8,
@@ -368,7 +368,7 @@ fn append_mark(
 }
 
 #[tactic(auto, unfolding(crate::specs::statement::Picture::bars_text))]
-/// Appends the bars of a link, from what it is marked to hold.
+/// Appends the bars of a link, from its marks.
 pub fn append_bars(
     link: u8,
     marks: &[Mark],

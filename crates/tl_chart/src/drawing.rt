@@ -1,4 +1,4 @@
-//! Draws beats among the messages, and what is held.
+//! Draws beats as parts of messages, and the permissions held.
 
 ghost use Rattle.std.specs.Prelude.{ℕ, [], ◌∷◌, ◌++◌, ◌≡◌, not, ◌==◌, OnOk, map, filter};
 ghost use Rattle.tl_beat.specs.declared.beat.Beat.{Beat};
@@ -20,7 +20,7 @@ use tl_burst::burst::burst_length;
 use tl_explain::bursts::is_small;
 use tl_params::perm::Perm;
 
-/// The beats of a beat's message; one where it has a size that no message has.
+/// The number of beats of a beat's message; 1 for a size above 6.
 fn beats_of<const W: usize>(beat: &Beat<W>) -> u8
     requires { IsWidth W }
     ensures { result ≡ beats_in beat.now }
@@ -32,7 +32,7 @@ fn beats_of<const W: usize>(beat: &Beat<W>) -> u8
     }
 }
 
-/// The message that begins with a beat, of this block.
+/// The message that begins with a beat, for this block.
 fn arrow_from<const W: usize>(moment: &Moment, beat: &Beat<W>, block: Option<u32>) -> Arrow
     requires { IsWidth W }
     ensures { (t : Trace W) → IsMoment moment.now (moment.now.link, beat.now) t →
@@ -51,7 +51,7 @@ fn arrow_from<const W: usize>(moment: &Moment, beat: &Beat<W>, block: Option<u32
     }
 }
 
-/// A beat that is at fault, whose message is of this block.
+/// A beat at fault, whose message is of this block.
 pub fn fault_from<const W: usize>(
     link: Link,
     line: u64,
@@ -85,7 +85,7 @@ fn continue_arrows<const W: usize>(arrows: &mut [Arrow], moment: &Moment, beat: 
     }
 }
 
-/// The messages of which something is still to come.
+/// Keeps the messages that are open.
 fn keep_open<const W: usize>(
     arrows: &mut Vec<Arrow>,
     moment: &Moment,
@@ -107,7 +107,7 @@ fn keep_open<const W: usize>(
     );
 }
 
-/// What is held of the block on other links.
+/// Keeps the permissions of other links.
 fn keep_others(marks: &mut Vec<Mark>, link: Link)
     ensures { marks.new.items ≡ filter (λ m. not (m.link.0 == link.0)) marks.old.items }
 {
@@ -155,8 +155,7 @@ fn draw_beat<const W: usize>(
     Ok(())
 }
 
-/// Draws a beat before the window, but for one that is a whole message and wants no answer: nothing of it
-/// is left there.
+/// Draws a beat before the window. A beat that is a whole message and needs no answer is left out.
 fn draw_open<const W: usize>(
     window: Window,
     arrows: &mut Vec<Arrow>,
@@ -177,7 +176,7 @@ fn draw_open<const W: usize>(
     draw_beat(window, arrows, moment, beat, block)
 }
 
-/// Draws a beat, and lets go what is complete and answered before the window.
+/// Draws a beat. Before the window, removes the messages that are complete and answered.
 pub fn draw_message<const W: usize>(
     window: Window,
     arrows: &mut Vec<Arrow>,
@@ -201,7 +200,7 @@ pub fn draw_message<const W: usize>(
     draw_beat(window, arrows, moment, beat, block)
 }
 
-/// Marks that a link holds so much of the block from now on.
+/// Records that a link holds this permission of the block from this line on.
 #[inline(never)]
 fn mark(
     window: Window,
@@ -219,7 +218,7 @@ fn mark(
     Ok(())
 }
 
-/// Marks what a link holds of the block, where that is another permission than before.
+/// Records the permission that a link holds of the block, if it changes.
 #[inline(always)]
 pub fn draw_change(
     window: Window,

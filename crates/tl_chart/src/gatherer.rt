@@ -1,4 +1,4 @@
-//! Gathers what is drawn of a trace, beat by beat.
+//! Gathers the drawing of a trace, beat by beat.
 
 ghost use Rattle.std.specs.Prelude.{ℕ, [], ◌∷◌, ◌≡◌, ◌<◌, IfOk, OnOk, length};
 ghost use Rattle.std.specs.Prelude.{◌&&◌, false, true};
@@ -22,13 +22,13 @@ use std::alloc::{AllocError, Global};
 use tl_beat::beat::{Beat, Link};
 use tl_params::perm::Perm;
 
-/// What is drawn of a trace: the messages and what is held, in the order of their lines.
+/// The drawing of a trace: messages and permissions, in the order of their lines.
 #[derive(Drop)]
 pub struct Gatherer {
     pub window: Window,
     pub arrows: Vec<Arrow>,
     pub marks: Vec<Mark>,
-    /// How many messages follow those that are drawn.
+    /// The number of messages that follow those that are drawn.
     pub more: u64,
     /// The last line that is drawn.
     pub end: u64,
@@ -36,7 +36,7 @@ pub struct Gatherer {
     links: Vec<LinkBlocks>,
 }
 
-/// The blocks of so many links, on which there was no message.
+/// The blocks of this many links, without any message.
 fn new_links(alloc: Global, count: usize) -> Result<Vec<LinkBlocks>, AllocError>
     ensures known { IfOk result (λ links. (w : ℕ) → KnowLinks {w = w} links.items []) }
     ensures many { IfOk result (λ links. length links.items ≡ count) }
@@ -48,7 +48,7 @@ fn new_links(alloc: Global, count: usize) -> Result<Vec<LinkBlocks>, AllocError>
     Ok(links)
 }
 
-/// Takes a beat among the blocks of its link: the block of its message.
+/// Takes a beat of its link, and returns the block of its message.
 fn take_block<const W: usize>(
     links: &mut Vec<LinkBlocks>,
     moment: &Moment,
@@ -76,7 +76,7 @@ fn is_start(window: Window, moment: &Moment, block: Option<u32>) -> bool
 }
 
 impl Gatherer {
-    /// Nothing has been read but the header of a trace with so many links.
+    /// A gatherer after the header of a trace with this many links.
     pub fn new(alloc: Global, count: usize, window: Window) -> Result<Self, AllocError>
         ensures gathers { IfOk result (λ g. (w : ℕ) (held : Holding w) → Gathers held g []) }
         ensures window { IfOk result (λ g. g.window ≡ window) }
@@ -104,21 +104,22 @@ impl Gatherer {
         }
     }
 
-    /// Whether nothing is drawn any more, and each message is counted, whatever its block.
+    /// Whether drawing has ended, and each message counts, whatever its block.
     pub fn is_over(&self) -> bool
         ensures { result ≡ is_over self.now }
     {
         self.closed && self.window.block.is_none()
     }
 
-    /// The block of which it is drawn what is held; none where nothing is drawn any more.
+    /// The block whose permissions are drawn; `None` once drawing has ended.
     pub fn watched(&self) -> Option<u32>
         ensures { result ≡ watched self.now }
     {
         if self.closed { None } else { self.window.block }
     }
 
-    /// Whether a beat of this line is drawn no more; a message that begins with it is one too many.
+    /// Whether a beat of this line isn't drawn: drawing has ended, the line is after the window, or its message is one
+    /// too many.
     fn closes(&self, line: u64, begins: bool) -> bool
         ensures { result ≡ closes self.now.window (drawn_of self.now) line begins }
     {
@@ -126,7 +127,7 @@ impl Gatherer {
         self.closed || line > self.window.last || begins && full && line >= self.window.first
     }
 
-    /// Draws no more, and counts a message that begins. There is no number behind 2^64 - 1.
+    /// Ends drawing, and counts a message that begins. The error comes after message 2^64 - 1.
     fn skip(&mut self, begins: bool) -> Result<(), AllocError>
         ensures skipped { OnOk result (drawn_of self.new ≡ skipped begins (drawn_of self.old)) }
         ensures window { self.new.window ≡ self.old.window }
@@ -163,8 +164,8 @@ impl Gatherer {
         Ok(())
     }
 
-    /// Takes the next beat of the trace, which breaks no rule, where nothing is drawn any more: whether it
-    /// begins a message of its link.
+    /// Takes the next beat of the trace, which breaks no rule, after drawing has ended. `first` says that it begins a
+    /// message of its link.
     pub fn count(&mut self, first: bool) -> Result<(), AllocError>
         ensures gathers { OnOk result ((w : ℕ) (held : Holding w) (x : Link × Beat w) (t : Trace w) →
             is_over self.old ≡ true → first ≡ begins x.1 (on_link x.0.0 t) → Gathers held self.old t →
@@ -175,9 +176,9 @@ impl Gatherer {
         self.skip(first)
     }
 
-    /// Takes the next beat of the trace, which breaks no rule: whether it begins a message of its link, and
-    /// whether one is complete with it; and, of the block that is watched, what the link holds with the beat
-    /// where that is another permission than before it.
+    /// Takes the next beat of the trace, which breaks no rule. `moment` says whether it begins and completes a message
+    /// of its link. `change` is the permission that the link holds of the watched block after the beat, if that is
+    /// another than before.
     #[inline(never)]
     pub fn take<const W: usize>(
         &mut self,
@@ -205,7 +206,7 @@ impl Gatherer {
         }
     }
 
-    /// The beat of the next line, which is at fault, where it is drawn.
+    /// The beat of the next line, which is at fault, if it is drawn.
     pub fn fault_of<const W: usize>(&self, link: Link, line: u64, beat: &Beat<W>) -> Option<Arrow>
         requires { IsWidth W }
         ensures { (held : Holding W) (t : Trace W) → line ≡ next_line t → Gathers held self.now t →

@@ -1,4 +1,4 @@
-//! What is drawn of a trace, as laws.
+//! Laws of the drawing of a trace.
 
 ghost use Rattle.std.specs.Prelude.{◌≡◌, ℕ};
 ghost use Rattle.tl_chart.specs.declared.window.Window.{Window};
@@ -9,7 +9,7 @@ ghost use Rattle.tl_rules.specs.statement.Conformance.{Trace};
 ghost use Rattle.tl_rules.specs.statement.History.{held};
 ghost use Rattle.tl_rules.specs.statement.Liberties.{held_under};
 
-/// What is drawn of links of a profile is what is drawn of links without liberties.
+/// The drawing under the liberties of a profile is the one without liberties.
 pub fn drawn_by_profile()
     ensures { (w : ℕ) (p : Profile) (window : Window) (t : Trace w) →
         drawn (held_under (liberties_of p)) window t ≡ drawn held window t }

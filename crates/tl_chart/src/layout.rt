@@ -1,9 +1,9 @@
-//! Where the parts of a chart stand.
+//! The places of a chart's parts.
 
 ghost use Rattle.std.specs.Prelude.{◌≡◌, ◌≤◌};
 ghost use Rattle.tl_beat.specs.statement.Line.{letter};
 ghost use Rattle.tl_chart.specs.statement.Picture;
-ghost use Rattle.tl_explain.specs.code.Recorded.{channel_in};
+ghost use Rattle.tl_chart.specs.statement.Messages.{channel_in};
 
 use crate::arrow::Arrow;
 use tl_beat::control::Control;
@@ -11,7 +11,7 @@ use tl_beat::control::Control;
 /// The place of the manager's lifeline, from the left.
 pub const MANAGER: u64 = 526;
 
-/// The place of a row from above, of which the first is 1.
+/// The place of a row, from the top. The first row is 1.
 pub fn row_place(row: usize) -> u64
     ensures place { result ≡ Picture.row_place row }
     ensures near { result ≤ 80072 }
@@ -19,7 +19,7 @@ pub fn row_place(row: usize) -> u64
     72 + 20 * (row.min(4000) as u64)
 }
 
-/// How far from the manager's lifeline a column stands, of so many.
+/// The distance of a column from the manager's lifeline, among this many columns.
 fn column_place(count: usize, column: u64) -> u64
     requires { column ≤ 256 }
     ensures place { result ≡ Picture.column_place count column }
@@ -34,14 +34,14 @@ fn column_place(count: usize, column: u64) -> u64
     }
 }
 
-/// How many of these links have lower numbers.
+/// The number of these links with lower numbers.
 fn lower(links: &[u8], link: u8) -> usize
     ensures { result ≡ Picture.lower links.now link }
 {
     links.iter().filter(|other| **other < link).count()
 }
 
-/// The place of a link's lifeline from the left, among those that are drawn.
+/// The place of a link's lifeline, from the left, among those that are drawn.
 pub fn link_place(links: &[u8], link: u8) -> u64
     ensures place { result ≡ Picture.link_place links.now link }
     ensures near { result ≤ 30000 }
@@ -57,7 +57,7 @@ pub fn row_of(arrows: &[Arrow], line: u64) -> usize
     arrows.iter().filter(|arrow| arrow.first <= line).count()
 }
 
-/// Where a message ends, or what is held changes, from above.
+/// The place, from the top, for the end of a message or a change of permission.
 pub fn end_place(arrows: &[Arrow], line: u64) -> u64
     ensures { result ≡ Picture.end_place arrows.now line }
 {
@@ -84,7 +84,7 @@ pub fn letter(control: &Control) -> &'static str
     }
 }
 
-/// How far from the client's lifeline the bracket of a message stands.
+/// The distance of a message's bracket from the client's lifeline.
 pub fn bracket_width(control: &Control) -> u64
     ensures { result ≡ Picture.bracket_width control.now }
 {

@@ -1,4 +1,5 @@
-//! A trace as a picture: a sequence chart of its messages, in SVG.
+//! A trace as a picture: a sequence chart of its messages, in SVG. An error means that there is no memory left; a part
+//! may then have been appended.
 #![tactic(auto)]
 
 pub mod arrow;

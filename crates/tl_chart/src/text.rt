@@ -16,7 +16,7 @@ pub fn append_number(number: u64, out: &mut Vec<u8>) -> Result<(), AllocError>
     out.extend_from_slice(digits.format(number).as_bytes())
 }
 
-/// Appends a text, and a number behind it.
+/// Appends a text, and then a number.
 pub fn append_with(text: &str, number: u64, out: &mut Vec<u8>) -> Result<(), AllocError>
     ensures { OnOk result (out.new.items ≡ out.old.items ++ (text.now ++ decimal number)) }
 {
@@ -24,7 +24,7 @@ pub fn append_with(text: &str, number: u64, out: &mut Vec<u8>) -> Result<(), All
     append_number(number, out)
 }
 
-/// Appends a byte so that it stands in SVG as it is.
+/// Appends a byte, escaped for SVG.
 fn append_escaped_byte(byte: u8, out: &mut Vec<u8>) -> Result<(), AllocError>
     ensures { OnOk result (out.new.items ≡ out.old.items ++ escaped_byte byte) }
 {
@@ -39,7 +39,7 @@ fn append_escaped_byte(byte: u8, out: &mut Vec<u8>) -> Result<(), AllocError>
     }
 }
 
-/// Appends bytes so that they stand in SVG as they are.
+/// Appends bytes, escaped for SVG.
 pub fn append_escaped(bytes: &[u8], out: &mut Vec<u8>) -> Result<(), AllocError>
     ensures { OnOk result (out.new.items ≡ out.old.items ++ escaped bytes.now) }
 {
@@ -94,7 +94,7 @@ fn append_seven(number: u32, out: &mut Vec<u8>) -> Result<(), AllocError>
     ])
 }
 
-/// Appends the number of a block in three hexadecimal digits, or in seven where it has more.
+/// Appends the number of a block in three hexadecimal digits, or in seven if it needs more.
 pub fn append_block(block: u32, out: &mut Vec<u8>) -> Result<(), AllocError>
     ensures { OnOk result (out.new.items ≡ out.old.items ++ block_digits block) }
 {

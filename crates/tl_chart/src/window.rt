@@ -1,22 +1,22 @@
-//! Which lines of a trace are drawn.
+//! The lines of a trace that are drawn.
 
 ghost use Rattle.std.specs.Prelude.{◌≡◌, true};
 ghost use Rattle.tl_chart.specs.statement.Drawn.{same_block, shows};
 
-/// The lines of a trace that are drawn, and the block that is.
+/// The lines of a trace that are drawn, and the block.
 #[derive(Clone, Copy)]
 pub struct Window {
     /// The first line.
     pub first: u64,
     /// The last line.
     pub last: u64,
-    /// At most so many messages.
+    /// The most messages.
     pub most: u16,
-    /// The one block, where only what speaks of it is drawn.
+    /// The one block that is drawn; `None` for all blocks.
     pub block: Option<u32>,
 }
 
-/// Whether these are blocks, and the same one.
+/// Whether there are two blocks, and they are the same.
 pub fn is_same_block(one: Option<u32>, other: Option<u32>) -> bool
     ensures { result ≡ same_block one other }
 {
@@ -27,7 +27,7 @@ pub fn is_same_block(one: Option<u32>, other: Option<u32>) -> bool
 }
 
 impl Window {
-    /// Whether this is the other one.
+    /// True only if the windows are the same.
     pub fn is(&self, other: &Window) -> bool
         ensures { result ≡ true → self.now ≡ other.now }
     {

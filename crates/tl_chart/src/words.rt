@@ -24,7 +24,7 @@ fn name(control: &Control) -> &'static str
     }
 }
 
-/// The name of its param, where it has one.
+/// The name of a message's param, if it has one.
 fn param(control: &Control) -> Option<&'static str>
     ensures { option_map (λ s. s.now) result ≡ Words.message_param control.now }
 {
@@ -37,7 +37,7 @@ fn param(control: &Control) -> Option<&'static str>
     }
 }
 
-/// Appends a word behind a space, where there is one.
+/// Appends a word after a space, if there is one.
 fn append_word(word: Option<&str>, out: &mut Vec<u8>) -> Result<(), AllocError>
     ensures { OnOk result (out.new.items ≡ out.old.items
         ++ Words.word_text (option_map (λ s. s.now) word.entry)) }
@@ -65,7 +65,7 @@ fn append_name(arrow: &Arrow, out: &mut Vec<u8>) -> Result<(), AllocError>
 }
 
 #[tactic(auto, unfolding(crate::specs::statement::Words::block_text))]
-/// Appends the block, where there is one.
+/// Appends the block, if there is one.
 fn append_block_word(block: Option<u32>, out: &mut Vec<u8>) -> Result<(), AllocError>
     ensures { OnOk result (out.new.items ≡ out.old.items ++ Words.block_text block) }
 {
@@ -105,7 +105,7 @@ fn append_both(source: u8, sink: u8, out: &mut Vec<u8>) -> Result<(), AllocError
 }
 
 #[tactic(auto, unfolding(crate::specs::statement::Words::ends_text))]
-/// Appends source and sink, where the message has them.
+/// Appends source and sink, if the message has them.
 fn append_ends(control: &Control, out: &mut Vec<u8>) -> Result<(), AllocError>
     ensures { OnOk result (out.new.items ≡ out.old.items ++ Words.ends_text control.now) }
 {
@@ -125,7 +125,7 @@ fn append_ends(control: &Control, out: &mut Vec<u8>) -> Result<(), AllocError>
 }
 
 #[tactic(auto, unfolding(crate::specs::statement::Words::count_text))]
-/// Appends how many beats the message has, where it has more than one.
+/// Appends the number of beats of the message, if it is more than one.
 fn append_count(beats: u8, out: &mut Vec<u8>) -> Result<(), AllocError>
     ensures { OnOk result (out.new.items ≡ out.old.items ++ Words.count_text beats) }
 {
@@ -138,7 +138,7 @@ fn append_count(beats: u8, out: &mut Vec<u8>) -> Result<(), AllocError>
 }
 
 #[tactic(auto, unfolding(crate::specs::statement::Words::beats_text))]
-/// Appends how many beats the message has, and whether some are missing.
+/// Appends the number of beats of the message, and whether beats are missing.
 fn append_beats(beats: u8, complete: bool, out: &mut Vec<u8>) -> Result<(), AllocError>
     ensures { OnOk result (out.new.items ≡ out.old.items ++ Words.beats_text beats complete) }
 {

@@ -3,4 +3,3 @@ pub mod Cuts
 pub mod Recorded
 pub mod Said
 pub mod Saying
-pub mod Spelled

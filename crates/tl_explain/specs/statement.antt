@@ -6,3 +6,5 @@ pub mod Sentences
 pub mod Since
 pub mod Text
 pub mod OrderRules
+pub mod Subject
+pub mod Spelled

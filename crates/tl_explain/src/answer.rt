@@ -1,4 +1,4 @@
-//! What makes a rule broken by a message on channel D.
+//! Reasons for the rules that a message on channel D breaks.
 
 ghost use Rattle.std.specs.Prelude.{◌≡◌};
 ghost use Rattle.tl_explain.specs.code.Chosen;
@@ -16,7 +16,7 @@ use tl_params::liberties::Liberties;
 use tl_params::rule::Rule;
 use tl_rules::kind::{answers, is_grant, is_release_ack};
 
-/// Where a request may not be answered so.
+/// The reason if the message may not answer this request.
 fn where_other_kind<const W: usize>(x: &BeatD<W>, request: Option<Told>) -> Option<Reason>
     ensures { result ≡ Chosen.kind_by x.now request }
 {
@@ -33,7 +33,7 @@ fn where_other_kind<const W: usize>(x: &BeatD<W>, request: Option<Told>) -> Opti
     }
 }
 
-/// Where no complete request with the source is pending, or it may not be answered so.
+/// The reason if no complete request with the source is pending, or the message may not answer it.
 fn where_not_asked<const W: usize>(
     liberties: Liberties,
     x: &BeatD<W>,
@@ -55,7 +55,7 @@ fn where_not_asked<const W: usize>(
     )
 }
 
-/// The request or Release that a message on D answers, where it is pending.
+/// The request or Release that a message on D answers, if it is pending.
 fn asked<const W: usize>(x: &BeatD<W>, recorder: &Recorder) -> Option<Told>
     ensures { result ≡ Chosen.asked_by x.now recorder.now }
 {
@@ -66,7 +66,7 @@ fn asked<const W: usize>(x: &BeatD<W>, recorder: &Recorder) -> Option<Told>
     }
 }
 
-/// Where the request or Release has another size.
+/// The reason if the request or Release has another size.
 fn where_other_size<const W: usize>(x: &BeatD<W>, request: Option<Told>) -> Option<Reason>
     ensures { result ≡ Chosen.size_by x.now request }
 {
@@ -90,7 +90,7 @@ fn where_other_size<const W: usize>(x: &BeatD<W>, request: Option<Told>) -> Opti
     }
 }
 
-/// Where a Grant isn't one for its request.
+/// The reason if a Grant doesn't fit its request.
 fn where_misgranted<const W: usize>(
     liberties: Liberties,
     x: &BeatD<W>,
@@ -116,6 +116,7 @@ fn where_misgranted<const W: usize>(
     Some(Reason::Probed(request, probe))
 }
 
+/// The reason why a message on channel D breaks this rule, if there is one.
 pub fn for_answer<const W: usize>(
     liberties: Liberties,
     rule: Rule,

@@ -18,7 +18,7 @@ pub struct Blocks {
 }
 
 impl Blocks {
-    /// There was no message.
+    /// No message has come.
     pub fn new() -> Self
         ensures { (w : ℕ) → AreBlocks {w = w} result [] }
     {
@@ -28,7 +28,7 @@ impl Blocks {
         }
     }
 
-    /// The block of a beat's message; for an answer that of its request or Release.
+    /// The block of a beat's message; for an answer the block of its request or Release.
     pub fn of<const W: usize>(&self, beat: &Beat<W>) -> Option<u32>
         ensures { (t : History W) → AreBlocks self.now t → result ≡ block_of beat.now t }
     {
@@ -47,7 +47,7 @@ impl Blocks {
         }
     }
 
-    /// Takes a beat, which begins a message or doesn't.
+    /// Takes a beat. `first` says that it begins a message.
     pub fn take<const W: usize>(&mut self, beat: &Beat<W>, first: bool)
         ensures asked { (s : ℕ) → at self.new.asked s ≡ asked_next first beat.now s (at self.old.asked s) }
         ensures released { (s : ℕ) → at self.new.released s ≡ released_next first beat.now s (at self.old.released s) }

@@ -1,4 +1,4 @@
-//! A burst that has begun and isn't complete, as it is told.
+//! An unfinished burst, as it is cited.
 
 ghost use Rattle.std.specs.Prelude.{◌≡◌};
 ghost use Rattle.tl_burst.specs.statement.Part.{is_small};
@@ -10,7 +10,7 @@ use tl_beat::beat::Beat;
 use tl_beat::control::Control;
 use tl_monitor::bursts::Unfinished;
 
-/// A burst that isn't complete: its first beat, its newest, and how many have come.
+/// An unfinished burst: its first beat, its newest, and the number of beats that have come.
 #[derive(Clone, Copy)]
 pub struct Begun {
     pub first: Told,
@@ -31,7 +31,7 @@ pub fn is_small<const W: usize>(beat: &Beat<W>) -> bool
     }
 }
 
-/// What is told of a burst, where one is unfinished.
+/// The unfinished burst, if there is one.
 pub fn begun_of(burst: &Option<Unfinished<Moment>>) -> Option<Begun>
     ensures { result ≡ begun_by burst.now }
 {

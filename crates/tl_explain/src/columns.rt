@@ -1,6 +1,6 @@
-//! Where the fields of a beat line stand, counted from 0.
+//! The places of the fields in a beat line, counted from 0.
 
-/// What stands behind the link and the channel's letter: the opcode of channels A to D, the sink of channel E.
+/// After the link and the channel's letter: the opcode of channels A to D, the sink of channel E.
 pub const FIRST_FIELD: usize = 5;
 
 /// The param of channels A to D.
@@ -15,7 +15,7 @@ pub const SOURCE: usize = 11;
 /// The address of channels A to C, of eight digits.
 pub const ADDRESS: usize = 14;
 
-/// What stands behind the address: the mask of channels A and B, the data of channel C.
+/// After the address: the mask of channels A and B, the data of channel C.
 pub const BEHIND_ADDRESS: usize = 23;
 
 /// The sink of channel D, of two digits.
@@ -24,10 +24,10 @@ pub const SINK: usize = 14;
 /// The denied bit of channel D.
 pub const DENIED: usize = 17;
 
-/// What stands behind the denied bit: the data of channel D.
+/// After the denied bit: the data of channel D.
 pub const BEHIND_DENIED: usize = 19;
 
-/// From the end of a line of channels A to D: the space behind the data.
+/// From the end of a line of channels A to D: the space after the data.
 pub const DATA_END: usize = 3;
 
 /// From the end of a line of channels A to D: the corrupt bit.

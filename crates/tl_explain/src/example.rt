@@ -1,10 +1,9 @@
-//! A shortest trace that breaks each rule, and the right one beside it, as crates/tl_examples/data/rules
-//! has them.
+//! A shortest trace that breaks each rule, and a right one beside it, as crates/tl_examples/data/rules has them.
 
 use tl_params::rule::Rule;
 
-/// A shortest trace that breaks a rule in its last line, what is wrong with that line, what is right
-/// instead, and a trace with it.
+/// A shortest trace whose last line breaks a rule, the mistake in that line, the right line instead, and a trace with
+/// it.
 #[derive(Clone, Copy)]
 pub struct Example {
     pub wrong: &'static str,

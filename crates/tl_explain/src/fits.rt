@@ -1,4 +1,4 @@
-//! Whether the params of messages fit one another and what is held, on a link with liberties.
+//! Whether the params of messages fit one another and the permission held, on a link with liberties.
 
 ghost use Rattle.std.specs.Prelude.{◌≡◌};
 ghost use Rattle.tl_explain.specs.statement.Reasons;
@@ -15,7 +15,7 @@ use tl_params::perm::Perm;
 use tl_params::report::report_of;
 use tl_rules::order::reports_none;
 
-/// The caps that answer an Acquire with this param: one, or two of them for `writer`.
+/// Whether this cap answers an Acquire with this param.
 pub fn fits_grow(liberties: Liberties, opcode: OpA, param: u8, cap: u8) -> bool
     ensures { result ≡ Conformance.fits_grow (under.profile_under liberties) opcode param cap }
 {
@@ -28,21 +28,21 @@ pub fn fits_grow(liberties: Liberties, opcode: OpA, param: u8, cap: u8) -> bool
     cap == Cap::ToB.param()
 }
 
-/// Whether a Grant may be denied, and is: it gives nothing.
+/// Whether a Grant is denied under `denied`, so that it gives nothing.
 fn gives_nothing<const W: usize>(liberties: Liberties, x: &BeatD<W>) -> bool
     ensures { result ≡ Reasons.gives_nothing liberties x.now }
 {
     liberties.denied && x.denied
 }
 
-/// Whether a request may not be given the cap of a Grant.
+/// Whether the cap of a Grant doesn't answer the request.
 pub fn has_wrong_cap<const W: usize>(liberties: Liberties, x: &BeatD<W>, request: ControlA) -> bool
     ensures { result ≡ Reasons.has_wrong_cap liberties x.now request }
 {
     !gives_nothing(liberties, x) && !fits_grow(liberties, request.opcode, request.param, x.param)
 }
 
-/// Whether a Grant lacks the data that a request wants, if this is held.
+/// Whether a Grant has no data, and the request needs them while this permission is held.
 pub fn lacks_data<const W: usize>(
     liberties: Liberties,
     x: &BeatD<W>,
@@ -57,8 +57,8 @@ pub fn lacks_data<const W: usize>(
         && held != Perm::Branch
 }
 
-/// Whether an Acquire with this param grows from what is held. BtoT grows from all but Trunk, NtoB and NtoT grow from
-/// nothing held, or with `drops` from anything.
+/// Whether an Acquire with this param fits the permission held. BtoT fits all but Trunk, NtoB and NtoT fit None, or
+/// under `drops` any.
 pub fn grows_from(liberties: Liberties, param: u8, perm: Perm) -> bool
     ensures { result ≡ under.grows_from_under liberties param perm }
 {
@@ -69,7 +69,7 @@ pub fn grows_from(liberties: Liberties, param: u8, perm: Perm) -> bool
     }
 }
 
-/// Whether a param is the report of a Probe's cap and of what is held.
+/// Whether a param is the report of a Probe's cap and the permission held.
 fn is_report(param: u8, cap: u8, perm: Perm) -> bool
     ensures { result ≡ Conformance.is_report_at param (cap_of cap) perm }
 {
@@ -79,7 +79,7 @@ fn is_report(param: u8, cap: u8, perm: Perm) -> bool
     }
 }
 
-/// Whether a param isn't the report of a Probe's cap and of what is held.
+/// Whether a param isn't the report of a Probe's cap and the permission held, nor one that `drops` allows.
 pub fn is_misreport(liberties: Liberties, param: u8, cap: u8, perm: Perm) -> bool
     ensures { result ≡ Reasons.is_misreport liberties param cap perm }
 {

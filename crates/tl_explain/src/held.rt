@@ -1,4 +1,4 @@
-//! What is held of a block, and the message that left it so.
+//! The permission held of a block, and the message that left it.
 
 ghost use Rattle.std.specs.Prelude.{ℕ, ◌≡◌, ◌&&◌, [], if◌then◌else◌, is_some, unwrap_or, Some};
 ghost use Rattle.tl_explain.specs.code.Recorded.{IsHeld};
@@ -7,7 +7,7 @@ ghost use Rattle.tl_params.specs.declared.liberties.Liberties.{Liberties};
 use crate::told::Told;
 use tl_params::perm::Perm;
 
-/// What is held of a block, and the message that left it so, if there was one.
+/// The permission held of a block, and the message that left it, if there was one.
 #[derive(Clone, Copy)]
 pub struct Held {
     pub perm: Perm,
@@ -15,7 +15,7 @@ pub struct Held {
 }
 
 impl Held {
-    /// Nothing is held before a message says something.
+    /// None is held before a message sets a permission.
     pub fn new() -> Self
         ensures { (w n k : ℕ) (l : Liberties) → IsHeld {w = w} result l n k [] }
     {
@@ -25,7 +25,7 @@ impl Held {
         }
     }
 
-    /// Takes what a message says, if it is complete with this beat.
+    /// Takes the permission that a message sets, if this beat completes the message.
     pub fn take(&mut self, last: bool, said: Option<Perm>, told: &Told)
         ensures perm { self.new.perm ≡ (if last then unwrap_or said self.old.perm else self.old.perm) }
         ensures since { self.new.since ≡ (if last && is_some said then Some told.now else self.old.since) }

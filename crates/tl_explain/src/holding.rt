@@ -1,4 +1,4 @@
-//! The words for what is held of a block, and for the params that fit it.
+//! Texts about the permission held of a block, and the params that fit it.
 
 ghost use Rattle.tl_beat.specs.statement.Width.{IsWidth};
 
@@ -29,7 +29,7 @@ const REPORTS: [Report; 6] = [
     Report::NtoN,
 ];
 
-/// The messages of which none stands before, if no message has said what is held.
+/// The messages that could have set the permission, for the text that none has.
 fn unsaid(liberties: Liberties) -> &'static str {
     if liberties.denied {
         "no Grant that isn't denied, no ProbeAck and no Release of it before"
@@ -38,7 +38,7 @@ fn unsaid(liberties: Liberties) -> &'static str {
     }
 }
 
-/// What is held of a block, and the message that left it so.
+/// Appends the permission held of a block, and the message that left it.
 pub fn tell_held<const W: usize>(
     liberties: Liberties,
     block: u32,
@@ -65,7 +65,7 @@ pub fn tell_held<const W: usize>(
     }
 }
 
-/// The grows that fit what is held.
+/// Appends the grows that fit the permission held.
 fn append_grows(liberties: Liberties, perm: Perm, out: &mut Vec<u8>) -> io::Result<()> {
     let mut names = Names { any: false };
     for grow in [Grow::NtoB, Grow::NtoT, Grow::BtoT] {
@@ -79,7 +79,7 @@ fn append_grows(liberties: Liberties, perm: Perm, out: &mut Vec<u8>) -> io::Resu
     Ok(())
 }
 
-/// The params of a Release that fit what is held.
+/// Appends the params of a Release that fit the permission held.
 fn append_releases(liberties: Liberties, perm: Perm, out: &mut Vec<u8>) -> io::Result<()> {
     let mut names = Names { any: false };
     for report in REPORTS {
@@ -93,7 +93,7 @@ fn append_releases(liberties: Liberties, perm: Perm, out: &mut Vec<u8>) -> io::R
     Ok(())
 }
 
-/// A Probe of the block that is pending, if there is one.
+/// Appends the pending Probe of the block, if there is one.
 fn tell_probe_besides<const W: usize>(record: &Recorder, out: &mut Vec<u8>) -> io::Result<()>
     requires { IsWidth W }
 {
@@ -103,7 +103,7 @@ fn tell_probe_besides<const W: usize>(record: &Recorder, out: &mut Vec<u8>) -> i
     }
 }
 
-/// What is held, if the param doesn't fit it.
+/// Appends the permission held, if the param doesn't fit it.
 pub fn tell_holds<const W: usize>(
     liberties: Liberties,
     beat: &Beat<W>,
@@ -123,7 +123,7 @@ pub fn tell_holds<const W: usize>(
     out.write_all(b"\n")
 }
 
-/// The request that needs data, by what is held.
+/// Appends the request that needs data, and the permission held.
 pub fn tell_without_data<const W: usize>(
     liberties: Liberties,
     request: &Told,
@@ -140,7 +140,7 @@ pub fn tell_without_data<const W: usize>(
     out.write_all(b"  wanted: GrantData\n")
 }
 
-/// The reports to a Probe of this cap that fit what is held.
+/// Appends the reports to a Probe of this cap that fit the permission held.
 fn append_reports(liberties: Liberties, cap: u8, perm: Perm, out: &mut Vec<u8>) -> io::Result<()> {
     let mut names = Names { any: false };
     for report in REPORTS {
@@ -151,7 +151,7 @@ fn append_reports(liberties: Liberties, cap: u8, perm: Perm, out: &mut Vec<u8>) 
     Ok(())
 }
 
-/// The Probe whose report is another, by what is held.
+/// Appends the Probe that has another report, and the permission held.
 pub fn tell_misreport<const W: usize>(
     liberties: Liberties,
     probe: &Told,

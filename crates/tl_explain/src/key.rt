@@ -1,4 +1,4 @@
-//! Which messages open and close a key.
+//! The messages that open and close a key.
 
 ghost use Rattle.std.specs.Prelude.{ℕ, ◌≡◌};
 ghost use Rattle.tl_burst.specs.statement.Messages.{History};
@@ -28,8 +28,8 @@ pub fn opens<const W: usize>(key: Key, beat: &Beat<W>, block: Option<u32>) -> bo
     }
 }
 
-/// Whether a message that is complete with this beat, and is of this block, closes the key. The last
-/// Grant that opened the key had the sink `granted`.
+/// Whether a message that this beat completes, and that is of this block, closes the key. `granted` is the sink of the
+/// last Grant that opened the key.
 #[inline(always)]
 pub fn closes<const W: usize>(
     key: Key,
@@ -55,7 +55,7 @@ pub fn closes<const W: usize>(
     }
 }
 
-/// Whether a burst of which this is the newest beat is of a message that opens the key, by its source or sink.
+/// Whether the burst with this newest beat is of a message that opens the key, by its source or sink.
 pub fn comes(key: Key, newest: &Control) -> bool
     ensures { result ≡ comes_by key newest.now }
 {

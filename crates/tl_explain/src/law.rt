@@ -1,4 +1,4 @@
-//! What is told of a trace, as laws.
+//! Laws: the claims about a trace are true.
 
 ghost use Rattle.std.specs.Prelude.{◌≡◌, ℕ, None, Some, false, true};
 ghost use Rattle.tl_beat.specs.declared.beat.Beat.{Beat};
@@ -22,20 +22,19 @@ ghost use Rattle.tl_explain.specs.statement.Reasons.{first_broken};
 ghost use Rattle.tl_explain.specs.statement.OrderRules.{BreaksUnder, first_broken_under, order_rules};
 ghost use Rattle.tl_explain.specs.statement.Since.{IsHeldSince, IsHeldSinceUnder, IsLast, IsLastIfAny, IsPendingSince};
 
-/// A key is pending where its last opening isn't followed by a closing.
+/// A key is pending exactly if no closing follows its last opening.
 pub fn pending_where_open()
     ensures { (w n : ℕ) (k : Key) (t : Trace w) →
         pending k (on_link n t) ≡ is_open (last_opening n k t) (last_closing n k t) }
 {}
 
-/// What the message that is told leaves of a block is what is held of it.
+/// The permission held of a block is the one that the cited message leaves.
 pub fn held_is_left()
     ensures { (w n k : ℕ) (t : Trace w) → held k (on_link n t) ≡ left_of (last_saying n k t) }
 {}
 
-/// The messages that are told of as the last that opened a key, that closed it and that left what is
-/// held stand in the lines that are told, and behind each of them there is no other. Where none is
-/// told there is none.
+/// The messages cited as the last that opened a key, that closed it and that left the permission held are in the cited
+/// lines, and no later message is such a one. If none is cited there is none.
 pub fn last_are_last()
     ensures opening { (w n : ℕ) (k : Key) (t : Trace w) →
         IsLastIfAny (is_opening n k) (last_opening n k t) t }
@@ -46,8 +45,8 @@ pub fn last_are_last()
         last_opening n k t ≡ Some m }
 {}
 
-/// A key that is pending is so since its last opening: no opening and no closing of it stands behind
-/// that. And what is told so is pending.
+/// A key that is pending is so since its last opening: no later message opened or closed it. A key of which this is
+/// true is pending.
 pub fn pending_since_opening()
     ensures since { (w n : ℕ) (k : Key) (m : Mention) (t : Trace w) → pending k (on_link n t) ≡ true →
         last_opening n k t ≡ Some m → IsPendingSince n k m t }
@@ -55,15 +54,15 @@ pub fn pending_since_opening()
         pending k (on_link n t) ≡ true }
 {}
 
-/// What is held of a block is so since the last message that says so; no later one changes it.
+/// The permission held of a block is so since the last message that set it; no later message changes it.
 pub fn held_since_saying()
     ensures profile { (w n k : ℕ) (t : Trace w) → IsHeldSince n k (left_of (last_saying n k t)) (last_saying n k t) t }
     ensures under { (w n k : ℕ) (l : Liberties) (t : Trace w) →
         IsHeldSinceUnder l n k (held_under l k (on_link n t)) (last_saying_under l n k t) t }
 {}
 
-/// What is told for a verdict makes the rule broken: where what a reason tells of a trace is so, the
-/// beat breaks the rule that follows from the reason and the beat alone.
+/// The evidence for a verdict convicts: if the claim of a reason is true of a trace, the beat breaks the rule that
+/// follows from the reason and the beat alone.
 pub fn evidence_convicts()
     ensures { (w n : ℕ) (p : Profile) (rule : Rule) (x : Beat w) (reason : Reason) (t : Trace w) →
         IsEvidence n x reason t →
@@ -77,10 +76,9 @@ pub fn evidence_convicts_under()
         convicted_under l x reason ≡ Some rule → BreaksUnder l rule x (on_link n t) }
 {}
 
-/// The rules of order, each by itself, are those that a monitor judges by. Of a beat that begins a message
-/// the first rule that it breaks is the first of the H rules, in their order, that it breaks by itself; a
-/// beat that goes on with a burst breaks S1 or none. So the first rule that a beat breaks is one that it
-/// breaks by itself.
+/// A monitor judges by the rules of order as they are here, each by itself. The first rule that a beat breaks at the
+/// start of a message is the first of the H rules that it breaks. A beat that continues a burst breaks S1 or none. So
+/// the first rule that a beat breaks is one that it breaks by itself.
 pub fn first_rule_broken()
     ensures message { (w : ℕ) (p : Profile) (x : Beat w) (t : History w) → begins x t ≡ true →
         broken_in_order p x t ≡ first_broken p order_rules x t }

@@ -1,4 +1,4 @@
-//! What is pending at the end of a trace, with the lines that opened it.
+//! The messages pending at the end of a trace, with the lines in which they began.
 
 ghost use Rattle.std.specs.Prelude.{◌≡◌, ◌<◌, ◌++◌, ◌∷◌, [], List, length, None, OnOk};
 ghost use Rattle.tl_beat.specs.statement.Width.{IsWidth};
@@ -17,7 +17,7 @@ use tl_monitor::byte_table::ByteTable;
 use tl_params::key::block_at;
 use tl_rules::kind::{is_grant, is_probe, is_probe_ack, is_release, is_release_ack};
 
-/// What a message that hasn't been answered is.
+/// The kind of a message that has no answer yet.
 #[derive(Clone, Copy, Debug, PartialEq, Eq)]
 pub enum Kind {
     Request,
@@ -41,8 +41,8 @@ struct Pending {
     opening: Opening,
 }
 
-/// What is pending on a link: requests and Releases by their source, Grants by their sink, Probes by
-/// their block, and the bursts that aren't complete, by their channel.
+/// The messages pending on a link: requests and Releases by their source, Grants by their sink, Probes by their block,
+/// and unfinished bursts by their channel.
 #[derive(Drop)]
 struct LinkLedger {
     bursts: [Option<Opening>; 5],
@@ -52,20 +52,20 @@ struct LinkLedger {
     probes: BTreeMap<u32, Opening>,
 }
 
-/// The messages of a trace that are pending, each with its line.
+/// The pending messages of a trace, each with its line.
 #[derive(Drop)]
 pub struct Ledger {
     alloc: Global,
     links: Vec<LinkLedger>,
-    /// How many lines have come, the header among them.
+    /// The number of lines that have come, with the header.
     lines: u64,
     pending: Vec<Pending>,
 }
 
-/// The most messages that are told of.
+/// The most messages that are listed.
 const TOLD: usize = 20;
 
-/// What a message that is pending waits for.
+/// The answer that a pending message lacks.
 fn missing(kind: Kind) -> &'static str
     ensures { result.now ≡ order.missing kind }
 {
@@ -78,7 +78,7 @@ fn missing(kind: Kind) -> &'static str
     }
 }
 
-/// The place of a kind among those of one line: a burst stands behind what its first beat has opened.
+/// The order of entries with the same line: a burst comes after the message that its first beat began.
 fn rank(kind: Kind) -> u8
     ensures { result ≡ order.rank kind }
 {
@@ -92,7 +92,7 @@ fn rank(kind: Kind) -> u8
 }
 
 impl Pending {
-    /// Whether this message stands before another.
+    /// Whether this message comes before another.
     fn is_before(&self, other: &Pending) -> bool
         ensures { result ≡ order.is_before self.now other.now }
     {
@@ -100,7 +100,7 @@ impl Pending {
         line < behind || line == behind && rank(self.kind) < rank(other.kind)
     }
 
-    /// Whether this message stands behind another, where there is one.
+    /// Whether this message comes after another, if there is another.
     fn is_behind(&self, after: &Option<Pending>) -> bool
         ensures { result ≡ order.is_behind after.now self.now }
     {
@@ -110,7 +110,7 @@ impl Pending {
         }
     }
 
-    /// The older of two of those that stand behind `after`: `oldest`, where there is one, and this one, where it does.
+    /// The older of `oldest`, if there is one, and this message, if it comes after `after`.
     fn or_older(&self, oldest: Option<Pending>, after: &Option<Pending>) -> Option<Pending>
         ensures { (before : List Pending) → IsNext before after.now oldest →
             IsNext (before ++ self.now ∷ []) after.now result }
@@ -130,7 +130,7 @@ impl Pending {
         }
     }
 
-    /// Appends what the message waits for, and its line.
+    /// Appends the answer that the message lacks, and its line.
     #[tactic(auto, unfolding(crate::specs::statement::Pending::pending_text))]
     fn append<const W: usize>(&self, out: &mut Vec<u8>) -> Result<(), AllocError>
         requires { IsWidth W }
@@ -143,7 +143,7 @@ impl Pending {
     }
 }
 
-/// Appends how many messages are pending.
+/// Appends the number of pending messages.
 #[tactic(auto, unfolding(crate::specs::statement::Pending::pending_heading))]
 fn append_heading(count: u64, out: &mut Vec<u8>) -> Result<(), AllocError>
     ensures { OnOk result (out.new.items ≡ out.old.items ++ order.pending_heading count) }
@@ -155,7 +155,7 @@ fn append_heading(count: u64, out: &mut Vec<u8>) -> Result<(), AllocError>
     Ok(())
 }
 
-/// Appends how many more there are than those that are told of.
+/// Appends the number of messages after those that are listed.
 #[tactic(auto, unfolding(crate::specs::statement::Pending::pending_rest))]
 fn append_rest(count: u64, out: &mut Vec<u8>) -> Result<(), AllocError>
     ensures { OnOk result (out.new.items ≡ out.old.items ++ order.pending_rest count) }
@@ -183,7 +183,7 @@ fn place(channel: Channel) -> usize
 }
 
 impl LinkLedger {
-    /// Nothing is pending.
+    /// No message is pending.
     fn new(alloc: Global) -> Self {
         LinkLedger {
             bursts: [None; 5],
@@ -194,7 +194,7 @@ impl LinkLedger {
         }
     }
 
-    /// Notes what a message opens that begins with this beat.
+    /// Makes the message pending that begins with this beat.
     fn open<const W: usize>(&mut self, beat: &Beat<W>, opening: Opening) -> Result<(), AllocError> {
         match beat {
             Beat::A(x) => self.requests.set(x.source, Some(opening)),
@@ -212,7 +212,7 @@ impl LinkLedger {
         Ok(())
     }
 
-    /// Notes what a message answers that is complete with this beat.
+    /// Removes the message that this beat answers by completing a message.
     fn close<const W: usize>(&mut self, beat: &Beat<W>) {
         match beat {
             Beat::C(x) if is_probe_ack(x.opcode) => {
@@ -226,8 +226,8 @@ impl LinkLedger {
         self.bursts[place(beat.channel())] = None;
     }
 
-    /// Takes the next beat of the link, which stands in the line of this number: whether it begins a message, and
-    /// whether one is complete with it.
+    /// Takes the next beat of the link, from the line with this number. `first` says that it begins a message, `last`
+    /// that it completes one.
     fn take<const W: usize>(
         &mut self,
         number: u64,
@@ -249,7 +249,7 @@ impl LinkLedger {
         Ok(())
     }
 
-    /// Appends what is pending on the link.
+    /// Appends the messages pending on the link.
     fn list(&self, pending: &mut Vec<Pending>) -> Result<(), AllocError> {
         append_openings(Kind::Request, &self.requests, pending)?;
         append_openings(Kind::Release, &self.releases, pending)?;
@@ -287,7 +287,7 @@ fn append_openings(
 }
 
 impl Ledger {
-    /// The ledger of a trace of which nothing has been read.
+    /// The ledger of a trace before its header.
     pub fn new(alloc: Global) -> Self {
         Ledger {
             alloc,
@@ -297,7 +297,7 @@ impl Ledger {
         }
     }
 
-    /// Begins behind the header of a trace with so many links.
+    /// Begins after the header of a trace with this many links. The error means that there is no memory left.
     pub fn begin(&mut self, count: usize) -> Result<(), AllocError> {
         self.lines = 1;
         self.links.clear();
@@ -307,8 +307,8 @@ impl Ledger {
         Ok(())
     }
 
-    /// Takes the beat of the next line, which breaks no rule: whether it begins a message of its link, and whether one
-    /// is complete with it. On a link that the header doesn't name nothing is pending.
+    /// Takes the beat of the next line, which breaks no rule. `first` says that it begins a message of its link, `last`
+    /// that it completes one. Beats of a link that the header doesn't name don't count.
     pub fn take<const W: usize>(
         &mut self,
         line: &[u8],
@@ -324,7 +324,7 @@ impl Ledger {
         }
     }
 
-    /// The oldest message that is pending and stands behind this one.
+    /// The oldest pending message that comes after this one.
     fn next(&self, after: &Option<Pending>) -> Option<Pending>
         ensures { IsNext self.now.pending.items after.now result }
     {
@@ -335,7 +335,7 @@ impl Ledger {
         oldest
     }
 
-    /// Appends the oldest messages that are pending, in their order.
+    /// Appends the oldest pending messages, in their order.
     fn append_oldest<const W: usize>(&self, out: &mut Vec<u8>) -> Result<(), AllocError>
         requires { IsWidth W }
         ensures { OnOk result (TellsOldest W self.now.pending.items None 20 out.old.items out.new.items) }
@@ -351,7 +351,7 @@ impl Ledger {
         Ok(())
     }
 
-    /// Appends how many messages are pending, the oldest of them, and how many more there are.
+    /// Appends the number of pending messages, the oldest of them, and the number of the others.
     pub fn tell<const W: usize>(&mut self, out: &mut Vec<u8>) -> Result<(), AllocError>
         requires { IsWidth W }
         ensures { OnOk result (TellsPending W self.new.pending.items out.old.items out.new.items) }

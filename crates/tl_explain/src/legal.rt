@@ -1,4 +1,4 @@
-//! Why a beat is no legal one by itself, in words.
+//! Explains why a beat breaks an L rule.
 
 ghost use Rattle.tl_beat.specs.statement.Width.{IsWidth};
 
@@ -18,7 +18,7 @@ fn level_name(level: Level) -> &'static str {
     }
 }
 
-/// The opcodes of a beat's channel at a level.
+/// Appends the opcodes of a beat's channel at a level.
 fn opcodes_of<const W: usize>(level: Level, beat: &Beat<W>) -> &'static str {
     match (beat, level) {
         (Beat::A(_), Level::UL) => "PutFullData, PutPartialData, Get",
@@ -82,7 +82,7 @@ fn params_of_d(opcode: OpD) -> &'static str {
     }
 }
 
-/// A param, where it isn't legal.
+/// Appends a param, if it isn't legal.
 fn tell_param(param: u8, legal: bool, params: &str, out: &mut Vec<u8>) -> io::Result<()> {
     if legal {
         return Ok(());
@@ -90,7 +90,7 @@ fn tell_param(param: u8, legal: bool, params: &str, out: &mut Vec<u8>) -> io::Re
     write!(out, "  param is {param}, legal: {params}\n")
 }
 
-/// A source or a sink that has to be 0, where it isn't; a link may have any.
+/// Appends a source or sink that must be 0 and isn't, unless the link may have any.
 fn tell_fixed(any: bool, name: &str, number: u8, out: &mut Vec<u8>) -> io::Result<()> {
     if any || number == 0 {
         return Ok(());
@@ -255,7 +255,7 @@ fn tell_mask<const W: usize>(beat: &Beat<W>, out: &mut Vec<u8>) -> io::Result<()
     })
 }
 
-/// What a response may be of denied and corrupt on a link with these liberties.
+/// Appends the denied and corrupt that a response may have on a link with these liberties.
 fn flags_of(liberties: Liberties, opcode: OpD) -> &'static str {
     match opcode {
         OpD::AccessAck | OpD::HintAck => "corrupt=0; denied 0 or 1",
@@ -295,7 +295,7 @@ fn tell_untaken<const W: usize>(beat: &Beat<W>, out: &mut Vec<u8>) -> io::Result
     })
 }
 
-/// Appends which field of a beat breaks a rule of legality, what it is and what it may be on a link with these
+/// Appends the field of a beat that breaks an L rule, its value, and the values that it may have on a link with these
 /// liberties.
 pub fn tell<const W: usize>(
     liberties: Liberties,

@@ -1,4 +1,5 @@
-//! Why a line of a trace is at fault: what a verdict rests on, and its words.
+//! Explains why a line of a trace is at fault: the evidence for a verdict, and its text. An error of a call that
+//! appends means that there is no memory left; a part may then have been appended.
 #![tactic(auto)]
 
 mod answer;

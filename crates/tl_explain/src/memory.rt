@@ -1,4 +1,4 @@
-//! What each rule of memory says, in the words of docs/PROTOCOL.md, with a shortest trace that breaks it, as
+//! The sentence of each rule between links, as docs/PROTOCOL.md has it, with a shortest trace that breaks it, as
 //! crates/tl_examples/data/rules has it.
 
 ghost use Rattle.tl_explain.specs.code.Said.{Says};
@@ -6,7 +6,7 @@ ghost use Rattle.tl_explain.specs.code.Said.{Says};
 use crate::example::Example;
 use tl_rules::memory_rule::MemoryRule;
 
-/// The rules of memory that traces are judged by.
+/// The rules between links.
 const RULES: [MemoryRule; 4] = [
     MemoryRule::M1,
     MemoryRule::M2,
@@ -14,8 +14,8 @@ const RULES: [MemoryRule; 4] = [
     MemoryRule::M4,
 ];
 
-/// What is said of a rule of memory: the messages that it judges, where it is broken, what it is judged by,
-/// and its example.
+/// The explanation of a rule between links: the messages that it judges, the condition under which it is broken, the
+/// facts by which it is judged, and its example.
 #[derive(Clone, Copy)]
 pub struct Explanation {
     pub messages: &'static str,
@@ -34,7 +34,7 @@ pub fn rule_named(name: &str) -> Option<MemoryRule> {
     None
 }
 
-/// What is said of a rule.
+/// The explanation of a rule.
 pub fn explanation_of(rule: MemoryRule) -> Explanation
     ensures { Says rule result }
 {
@@ -51,7 +51,7 @@ fn grant_beside_a_holder() -> Explanation
 {
     Explanation {
         messages: "Grant, GrantData",
-        sentence: "the cap is toT and another link holds or is being granted something of the block, or toB and another link holds or is being granted Trunk of it",
+        sentence: "the cap is toT and another link holds or is being granted a permission of the block, or toB and another link holds or is being granted Trunk of it",
         basis: "what the last Grant, ProbeAck or Release of the block left on each other link, and a Grant of it that has begun there",
         example: Example {
             wrong: "tltrace 1 C C\n\
@@ -78,8 +78,8 @@ fn stale_grant() -> Explanation
 {
     Explanation {
         messages: "GrantData",
-        sentence: "a byte isn't one that it may be at the first beat, by what was told of it and by the Puts and atomics that are pending",
-        basis: "the data that were given back or granted, the answers to Puts and atomics, and of those that are pending the ones that have had a moment at which no link held the block",
+        sentence: "a byte has a value that neither the data seen before the first beat nor a pending Put or atomic allows",
+        basis: "the data given back or granted, the answers to Puts and atomics, and the pending ones that have had a moment at which no link held the block",
         example: Example {
             wrong: "tltrace 1 UL C\n\
 00 A 0 0 3 00 00000000 ff 0000000000000005 0\n\
@@ -102,8 +102,8 @@ fn stale_answer() -> Explanation
 {
     Explanation {
         messages: "AccessAckData",
-        sentence: "a byte that was asked for isn't one that it may have been in a window of the access, by what was told of it and by the Puts and atomics that were pending",
-        basis: "the data that were given back or granted, the answers to Puts and atomics, and those that were pending",
+        sentence: "a requested byte has a value that neither the data seen nor a pending Put or atomic allows in any window of the access",
+        basis: "the data given back or granted, the answers to Puts and atomics, and those that were pending",
         example: Example {
             wrong: "tltrace 1 UL UL\n\
 00 A 0 0 3 00 00000000 ff 0000000000000005 0\n\
@@ -126,8 +126,8 @@ fn answer_without_a_window() -> Explanation
 {
     Explanation {
         messages: "AccessAck, AccessAckData",
-        sentence: "all the while since the request was complete a link has held what excludes it: Trunk of the block for a Get, while no report has shown its bytes; anything of it for a Put or an atomic",
-        basis: "what each link has held of the block since the request was complete, and the reports that showed its bytes",
+        sentence: "at every moment since the request was complete some link held a conflicting permission: for a Get Trunk of the block, and no report has shown its bytes; for a Put or an atomic any permission of it",
+        basis: "the permission that each link has held of the block since the request was complete, and the reports that showed its bytes",
         example: Example {
             wrong: "tltrace 1 C UL\n\
 00 A 7 1 6 00 00000000 ff - 0\n\

@@ -1,4 +1,4 @@
-//! What is told of a key that is pending where it has to be free, or free where it has to be pending.
+//! Reasons about a key that is pending and must be free, or the reverse.
 
 ghost use Rattle.std.specs.Prelude.{◌≡◌};
 ghost use Rattle.tl_explain.specs.code.Chosen;
@@ -15,7 +15,7 @@ use tl_monitor::bursts::Unfinished;
 use tl_params::key::Key;
 use tl_params::liberties::Liberties;
 
-/// Where the key is pending.
+/// The reason if the key is pending.
 pub fn where_pending(key: Key, turn: &Turn) -> Option<Reason>
     ensures { result ≡ Chosen.where_pending key turn.now }
 {
@@ -23,7 +23,7 @@ pub fn where_pending(key: Key, turn: &Turn) -> Option<Reason>
     Some(Reason::Pending(key, told))
 }
 
-/// The burst of a message that has to be complete before its answer.
+/// The burst of a message that must be complete before its answer.
 pub fn awaited(liberties: Liberties, burst: &Option<Unfinished<Moment>>) -> Option<Begun>
     ensures { result ≡ Chosen.awaited liberties (begun_by burst.now) }
 {
@@ -34,8 +34,8 @@ pub fn awaited(liberties: Liberties, burst: &Option<Unfinished<Moment>>) -> Opti
     }
 }
 
-/// Where no complete message has the key pending. The burst is that which is unfinished on the
-/// channel whose messages open the key.
+/// The reason if no complete message has the key pending. `burst` is the unfinished one on the channel whose messages
+/// open the key.
 pub fn where_not_pending(key: Key, turn: &Turn, burst: Option<Begun>) -> Option<Reason>
     ensures { result ≡ Chosen.where_missing key turn.now burst }
 {
@@ -51,7 +51,7 @@ pub fn where_not_pending(key: Key, turn: &Turn, burst: Option<Begun>) -> Option<
     }
 }
 
-/// Where the burst is that of the message which has opened the key.
+/// The reason if the burst is that of the message that opened the key.
 fn where_unfinished(key: Key, opening: Told, burst: Option<Begun>) -> Option<Reason>
     ensures { result ≡ Chosen.unfinished_by key opening burst }
 {
@@ -63,7 +63,7 @@ fn where_unfinished(key: Key, opening: Told, burst: Option<Begun>) -> Option<Rea
     }
 }
 
-/// The one reason, or else the other.
+/// The first reason, or else the other.
 pub fn first_of(one: Option<Reason>, other: Option<Reason>) -> Option<Reason>
     ensures { result ≡ Chosen.first_reason one other }
 {
@@ -73,7 +73,7 @@ pub fn first_of(one: Option<Reason>, other: Option<Reason>) -> Option<Reason>
     }
 }
 
-/// What is held, unless it fits.
+/// The permission held, unless it fits.
 pub fn unless_held(fits: bool, held: Held) -> Option<Reason>
     ensures { result ≡ Chosen.unless_held fits held }
 {

@@ -1,4 +1,4 @@
-//! What a rule or a fault says, by its name.
+//! Explains a rule or a fault by its name.
 
 ghost use Rattle.std.specs.Prelude.{◌≡◌, ◌++◌, codes, OnOk};
 ghost use Rattle.tl_explain.specs.statement.Sentences.{in_brackets, memory_rule_line, rule_line};
@@ -47,7 +47,7 @@ fn rule_named(name: &str) -> Option<Rule> {
     None
 }
 
-/// What a fault of a line says, by its name, in the words of docs/FORMATS.md.
+/// The sentence of a fault of a line, as docs/FORMATS.md has it.
 fn fault_named(name: &str) -> Option<&'static str> {
     match name {
         "F1" => Some(
@@ -62,11 +62,12 @@ fn fault_named(name: &str) -> Option<&'static str> {
         "F6" => Some("digits where the opcode carries no data, or `-` where it does"),
         "F7" => Some("the first line is no header"),
         "F8" => Some("the line of a schedule says no event"),
+        "F9" => Some("more than 2^26 blocks, 256 sources of a link or 256 sinks"),
         _ => None,
     }
 }
 
-/// Appends a trace, each line behind two spaces.
+/// Appends a trace, each line after two spaces.
 fn append_trace(trace: &str, out: &mut Vec<u8>) -> io::Result<()> {
     for line in trace.lines() {
         write!(out, "  {line}\n")?;
@@ -74,7 +75,7 @@ fn append_trace(trace: &str, out: &mut Vec<u8>) -> io::Result<()> {
     Ok(())
 }
 
-/// Appends a text in brackets behind a space, where it isn't empty.
+/// Appends a text in brackets after a space, if it isn't empty.
 fn append_in_brackets(text: &str, out: &mut Vec<u8>) -> Result<(), AllocError>
     ensures { OnOk result (out.new.items ≡ out.old.items ++ in_brackets text.now) }
 {
@@ -87,7 +88,7 @@ fn append_in_brackets(text: &str, out: &mut Vec<u8>) -> Result<(), AllocError>
     Ok(())
 }
 
-/// Appends the name of a rule, with the messages that it judges, where these are only some, and its sentence.
+/// Appends the name of a rule, the messages that it judges, if there are any to name, and its sentence.
 fn append_said(
     name: &str,
     messages: &str,
@@ -114,7 +115,7 @@ pub fn append_sentence(rule: Rule, out: &mut Vec<u8>) -> Result<(), AllocError>
 }
 
 #[tactic(auto, unfolding(crate::specs::statement::Sentences::memory_rule_line))]
-/// Appends the name of a rule of memory, with the messages that it judges, and its sentence.
+/// Appends the name of a rule between links, the messages that it judges, and its sentence.
 pub fn append_memory_sentence(rule: MemoryRule, out: &mut Vec<u8>) -> Result<(), AllocError>
     ensures { OnOk result (out.new.items ≡ out.old.items ++ memory_rule_line rule) }
 {
@@ -154,7 +155,7 @@ fn tell_memory_rule(rule: MemoryRule, out: &mut Vec<u8>) -> io::Result<()> {
     append_example(&said.example, out)
 }
 
-/// Appends what is said of the rule or fault of this name. Answers whether there is one.
+/// Appends the explanation of the rule or fault with this name, and returns whether there is one.
 pub fn tell_named(name: &str, out: &mut Vec<u8>) -> io::Result<bool> {
     if let Some(rule) = rule_named(name) {
         tell_rule(rule, out)?;

@@ -6,7 +6,7 @@ ghost use Rattle.tl_explain.specs.statement.ParamNames.{a_param_name, b_param_na
 use tl_beat::opcode::{OpA, OpB, OpC, OpD};
 use tl_params::param::{Arithmetic, Cap, Grow, Intent, Logical, Prune, Report};
 
-/// The name of a param on channel A, where the opcode has one for it.
+/// The name of a param on channel A, if the opcode has one for it.
 pub fn name_on_a(opcode: OpA, param: u8) -> Option<&'static str>
     ensures { option_map (λ s. s.now) result ≡ a_param_name opcode param }
 {
@@ -19,7 +19,7 @@ pub fn name_on_a(opcode: OpA, param: u8) -> Option<&'static str>
     }
 }
 
-/// The name of a param on channel B, where the opcode has one for it.
+/// The name of a param on channel B, if the opcode has one for it.
 pub fn name_on_b(opcode: OpB, param: u8) -> Option<&'static str>
     ensures { option_map (λ s. s.now) result ≡ b_param_name opcode param }
 {
@@ -32,7 +32,7 @@ pub fn name_on_b(opcode: OpB, param: u8) -> Option<&'static str>
     }
 }
 
-/// The name of a param on channel C, where the opcode has one for it.
+/// The name of a param on channel C, if the opcode has one for it.
 pub fn name_on_c(opcode: OpC, param: u8) -> Option<&'static str>
     ensures { option_map (λ s. s.now) result ≡ c_param_name opcode param }
 {
@@ -43,7 +43,7 @@ pub fn name_on_c(opcode: OpC, param: u8) -> Option<&'static str>
     }
 }
 
-/// The name of a param on channel D, where the opcode has one for it.
+/// The name of a param on channel D, if the opcode has one for it.
 pub fn name_on_d(opcode: OpD, param: u8) -> Option<&'static str>
     ensures { option_map (λ s. s.now) result ≡ d_param_name opcode param }
 {

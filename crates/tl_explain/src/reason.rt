@@ -1,4 +1,4 @@
-//! What makes a rule of bursts or of the order of messages broken.
+//! The reason why a beat breaks S1 or an H rule.
 
 ghost use Rattle.std.specs.Prelude.{◌≡◌, true, Some, IfSome, is_some};
 ghost use Rattle.tl_beat.specs.declared.beat.Link.{Link};
@@ -30,7 +30,7 @@ use tl_params::rule::Rule;
 use tl_rules::kind::{is_acquire, is_probe, is_probe_ack, is_release};
 use tl_rules::order::releases_from;
 
-/// Why a beat breaks a rule of bursts or of the order of messages.
+/// The reason why a beat breaks S1 or an H rule.
 #[derive(Clone, Copy)]
 pub enum Reason {
     /// The key is pending since this message.
@@ -39,25 +39,25 @@ pub enum Reason {
     Never(Key),
     /// This message opened the key, and that one closed it.
     Closed(Key, Told, Told),
-    /// The message that opened the key isn't complete: so many of its beats have come.
+    /// The message that opened the key is unfinished; this many of its beats have come.
     Unfinished(Key, Told, u8),
-    /// The request may not be answered so.
+    /// The message may not answer this request.
     OtherKind(Told),
     /// The request has another size.
     OtherSize(Told),
-    /// The request may not be given this cap.
+    /// The cap doesn't answer this request.
     WrongCap(Told),
-    /// The request needs data, by what is held.
+    /// This request needs data, given the permission held.
     WithoutData(Told, Held),
     /// A Probe of the request's block is pending.
     Probed(Told, Told),
-    /// What is held doesn't fit the param.
+    /// The param doesn't fit the permission held.
     Holds(Held),
     /// This Probe has another source.
     OtherSource(Told),
     /// ProbeAckData answers this ProbePerm.
     WrongProbe(Told),
-    /// The report to this Probe is another.
+    /// The param isn't the report to this Probe, given the permission held.
     Misreport(Told, Held),
     /// The beat doesn't continue this burst.
     Differs(Begun),
@@ -162,7 +162,7 @@ fn for_probe_ack<const W: usize>(
     }
 }
 
-/// A Probe that has another source than its answer, or doesn't ask for the answer's data.
+/// The reason if the Probe has another source than its ProbeAck, or is a ProbePerm and the ProbeAck has data.
 fn where_wrong_probe<const W: usize>(
     liberties: Liberties,
     x: &BeatC<W>,
@@ -192,7 +192,7 @@ pub fn cap_asked(probe: &Told) -> Option<Cap> {
     }
 }
 
-/// Where a param isn't the report of a Probe's cap and of what is held.
+/// The reason if a param isn't the report of the Probe's cap and the permission held.
 fn where_misreported<const W: usize>(
     liberties: Liberties,
     x: &BeatC<W>,
@@ -230,7 +230,7 @@ fn for_acknowledgement(
     }
 }
 
-/// Where a beat doesn't continue the burst that is unfinished on its channel.
+/// The reason if a beat doesn't continue the unfinished burst on its channel.
 fn where_differs<const W: usize>(beat: &Beat<W>, burst: Option<Begun>) -> Option<Reason>
     ensures { result ≡ Chosen.differs_by beat.now burst }
 {
@@ -294,12 +294,11 @@ fn chosen_reason<const W: usize>(
     for_message(liberties, rule, beat, recorder)
 }
 
-/// Why the beat breaks the rule, by what is recorded of the beats before it; nothing where it doesn't.
-/// What is told is so, of the beats that were recorded, and from it and the beat alone the rule is
-/// broken. Of each rule of order a reason is told wherever it is the first that the beat breaks; of H2
-/// and H8 where no earlier beat of the link was at fault.
+/// The reason why the beat breaks the rule, by the record of the beats before it; `None` if it doesn't. The claim of
+/// the reason is true of those beats, and with the beat alone shows that the rule is broken. If a rule of order is the
+/// first that the beat breaks, there is a reason; for H2 and H8 only if no earlier beat of the link was at fault.
 ///
-/// The record is one of a link without liberties.
+/// The record must be that of a link without liberties.
 pub fn find_reason<const W: usize>(
     profile: Profile,
     rule: Rule,
@@ -324,7 +323,7 @@ pub fn find_reason<const W: usize>(
     chosen_reason(Liberties::of(profile), rule, beat, recorder)
 }
 
-/// The same on a link with liberties, which are those of the record.
+/// `find_reason` on a link with liberties, which are those of the record.
 pub fn find_reason_under<const W: usize>(
     rule: Rule,
     beat: &Beat<W>,

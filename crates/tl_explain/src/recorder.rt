@@ -1,4 +1,4 @@
-//! What a verdict on one beat rests on, from the beats before it.
+//! Records, from the beats before a beat, the evidence for a verdict on it.
 
 ghost use Rattle.std.specs.Prelude.{ℕ, ◌≡◌, ◌∷◌, [], OnErr, OnOk};
 ghost use Rattle.tl_params.specs.declared.liberties.Liberties.{Liberties};
@@ -19,25 +19,25 @@ use tl_burst::burst::burst_length;
 use tl_monitor::bursts::Bursts;
 use tl_params::liberties::Liberties;
 
-/// A recorder can't go on: a monitor has taken no such beats.
+/// The recorder can't take the beat. A monitor would have refused it.
 #[derive(Clone, Copy, Debug, PartialEq, Eq)]
 pub struct Unrecorded;
 
-/// Follows the keys of a subject, and what is held of its block, through the beats of its link.
+/// Follows the keys of a subject, and the permission held of its block, through the beats of its link.
 #[derive(Drop)]
 pub struct Recorder {
     pub subject: Subject,
-    /// What the link may do beyond the first profile.
+    /// The liberties of the link.
     pub liberties: Liberties,
     pub bursts: Bursts<Moment>,
     blocks: Blocks,
     pub turns: Turns,
-    /// What is held of the subject's block.
+    /// The permission held of the subject's block.
     pub held: Held,
 }
 
 impl Recorder {
-    /// A recorder that has seen no beat, of a link without liberties.
+    /// A recorder before any beat, for a link without liberties.
     pub fn new(subject: Subject) -> Self
         ensures record { (w : ℕ) → IsRecord {w = w} result [] }
         ensures subject { result.subject ≡ subject }
@@ -45,7 +45,7 @@ impl Recorder {
         Recorder::with_liberties(Liberties::none(), subject)
     }
 
-    /// The same, of a link with these liberties.
+    /// A recorder before any beat, for a link with these liberties.
     pub fn with_liberties(liberties: Liberties, subject: Subject) -> Self
         ensures record { (w : ℕ) → IsRecordUnder {w = w} liberties result [] }
         ensures subject { result.subject ≡ subject }
@@ -60,9 +60,9 @@ impl Recorder {
         }
     }
 
-    /// Takes the next beat of a trace, which stands in the line of this number. The subject and the liberties stay. A
-    /// beat is unrecorded exactly where it is one of the subject's link and has no message's size, or doesn't continue
-    /// the burst on its channel. Then nothing changes.
+    /// Takes the next beat of a trace, from the line with this number. Subject and liberties stay. The error is exactly
+    /// for a beat of the subject's link whose size is above 6, or which doesn't continue the unfinished burst on its
+    /// channel. Then nothing changes.
     pub fn take<const W: usize>(
         &mut self,
         number: u64,

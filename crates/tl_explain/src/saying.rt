@@ -1,4 +1,4 @@
-//! What a message says of what is held of a block.
+//! The permission of a block that a message sets.
 
 ghost use Rattle.std.specs.Prelude.{◌≡◌};
 ghost use Rattle.tl_explain.specs.code.Saying;
@@ -18,7 +18,7 @@ use tl_rules::kind::{
     reported,
 };
 
-/// What the Release with this source leaves of which a beat has come last.
+/// The permission that the Release with this source leaves, if the unfinished burst is its.
 fn left_by_burst(source: u8, burst: Option<Begun>) -> Option<Perm>
     ensures { result ≡ Saying.said_by_burst (left_by_control source) burst }
 {
@@ -28,7 +28,7 @@ fn left_by_burst(source: u8, burst: Option<Begun>) -> Option<Perm>
     }
 }
 
-/// What the Grant with this sink gives of which a beat has come last; a denied one gives nothing.
+/// The permission that the Grant with this sink gives, if the unfinished burst is its and it isn't denied.
 fn given_by_burst(sink: u8, burst: Option<Begun>) -> Option<Perm>
     ensures { result ≡ Saying.said_by_burst (given_by_control sink) burst }
 {
@@ -38,7 +38,7 @@ fn given_by_burst(sink: u8, burst: Option<Begun>) -> Option<Perm>
     }
 }
 
-/// What an Acquire says, if a client may give up what it holds without a word.
+/// The permission that an Acquire sets under `drops`.
 fn said_on_a<const W: usize>(
     liberties: Liberties,
     block: u32,
@@ -57,8 +57,8 @@ fn said_on_a<const W: usize>(
     }
 }
 
-/// What a ProbeAck or Release says, if this Release of the block is open. One that was answered before its end
-/// says nothing.
+/// The permission that a ProbeAck or Release sets, if this Release of the block is open. One that was answered before
+/// its last beat sets none.
 fn said_on_c<const W: usize>(
     liberties: Liberties,
     block: u32,
@@ -78,7 +78,7 @@ fn said_on_c<const W: usize>(
     }
 }
 
-/// What a Grant says, if this one of the block is open, or a ReleaseAck of a Release that isn't complete. The
+/// The permission that a Grant sets, if this Grant of the block is open, or a ReleaseAck of an unfinished Release. The
 /// message is of the block `of`.
 fn said_on_d<const W: usize>(
     liberties: Liberties,
@@ -110,7 +110,7 @@ fn said_on_d<const W: usize>(
     }
 }
 
-/// What the GrantAck says of the Grant of the block that is open, if that isn't complete.
+/// The permission that a GrantAck sets for the open Grant of the block, if that is unfinished.
 fn said_on_e(
     liberties: Liberties,
     grant: Option<Told>,
@@ -126,7 +126,7 @@ fn said_on_e(
     }
 }
 
-/// What a message that is complete with this beat says of what is held of the subject's block.
+/// The permission of the subject's block that this beat sets, if it completes a message that sets one.
 pub fn said_by<const W: usize>(recorder: &Recorder, moment: &Moment, beat: &Beat<W>) -> Option<Perm>
     ensures { result ≡ Saying.said_by recorder.now moment.now beat.now }
 {

@@ -1,11 +1,11 @@
-//! What each rule says, in the words of docs/PROTOCOL.md.
+//! The sentence of each rule, as docs/PROTOCOL.md has it.
 
 ghost use Rattle.std.specs.Prelude.{◌≡◌};
 ghost use Rattle.tl_explain.specs.statement.Sentences.{messages_judged, rule_sentence};
 
 use tl_params::rule::Rule;
 
-/// The messages that a rule of the order of messages judges, and nothing for another rule.
+/// The messages that an H rule judges; empty for another rule.
 pub fn judged_messages(rule: Rule) -> &'static str
     ensures { result.now ≡ messages_judged rule }
 {
@@ -22,7 +22,7 @@ pub fn judged_messages(rule: Rule) -> &'static str
     }
 }
 
-/// Where a rule is broken.
+/// The condition under which a rule is broken.
 pub fn sentence(rule: Rule) -> &'static str
     ensures { result.now ≡ rule_sentence rule }
 {
@@ -31,7 +31,7 @@ pub fn sentence(rule: Rule) -> &'static str
             "the beat isn't of the channel named, or the opcode isn't of the level, or the link has no level"
         }
         Rule::L7 => {
-            "an access forwarded on B (opcodes 0 to 5), or its answer on C (opcodes 0 to 2), at level C: they are read and shown, and not taken"
+            "an access forwarded on B (opcodes 0 to 5), or its answer on C (opcodes 0 to 2), at level C: they are decoded, but not allowed"
         }
         Rule::L2 => {
             "param, or source or sink where they are fixed, isn't as the message's table has it"
@@ -58,15 +58,15 @@ pub fn sentence(rule: Rule) -> &'static str
         Rule::H9 => "a Probe or a GrantAck of the block is pending",
         Rule::H10 => "no Probe of the block is pending, or ProbeAckData answers ProbePerm",
         Rule::H11 => "a Release of the block is pending",
-        Rule::H12 => "the param isn't the report of the Probe's cap and of what is held",
+        Rule::H12 => "the param isn't the report of the Probe's cap and the permission held",
         Rule::H13 => {
-            "an Acquire or a Release of the block is pending, or the param's left end isn't what is held"
+            "an Acquire or a Release of the block is pending, or the param's left end isn't the permission held"
         }
         Rule::A1 | Rule::A2 | Rule::A3 => "an agent's own rule, which no trace is judged by",
     }
 }
 
-/// What a rule is judged by.
+/// The facts by which a rule is judged.
 pub fn basis(rule: Rule) -> &'static str {
     match rule {
         Rule::L1 | Rule::L2 | Rule::L3 => "the beat by itself, and the level of its link",
@@ -77,14 +77,14 @@ pub fn basis(rule: Rule) -> &'static str {
         Rule::H3 => "the request with the source",
         Rule::H4 => "the Acquire and the Release of the block that are pending",
         Rule::H5 => "what the last Grant, ProbeAck or Release of the block left",
-        Rule::H6 => "the request, what is held of its block, and the Probe that is pending",
+        Rule::H6 => "the request, the permission held of its block, and the pending Probe",
         Rule::H7 => "the Grant with the sink whose GrantAck is missing",
         Rule::H8 => "the last Grant with the sink",
         Rule::H9 => "the Probe that is pending, and the Grant whose GrantAck is missing",
         Rule::H10 => "the last Probe of the block",
         Rule::H11 => "the Release of the block that is pending",
-        Rule::H12 => "the Probe with its cap, and what is held of the block",
-        Rule::H13 => "the transfers of the block that are pending, and what is held of it",
+        Rule::H12 => "the Probe with its cap, and the permission held of the block",
+        Rule::H13 => "the pending transfers of the block, and the permission held of it",
         Rule::A1 | Rule::A2 | Rule::A3 => "the agent's own state",
     }
 }

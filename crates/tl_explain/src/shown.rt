@@ -1,12 +1,12 @@
-//! A line as it stands, with carets under the bytes at fault.
+//! Shows a line, with carets under the bytes at fault.
 
 use std::io;
 use std::io::Write;
 
-/// How many bytes of a line are shown.
+/// The most bytes of a line that are shown.
 const SHOWN: usize = 256;
 
-/// A range of places in a line: from the first on, and up to the second.
+/// A range of places in a line, from the first to before the second.
 #[derive(Clone, Copy)]
 pub struct Span {
     pub from: usize,
@@ -34,8 +34,8 @@ pub fn shown(line: &[u8]) -> &[u8] {
     }
 }
 
-/// Appends a line as it stands, what isn't printable as `\xHH`, and below it carets under the bytes of
-/// a span; one caret where the span is empty.
+/// Appends a line, with bytes that aren't printable as `\xHH`, and below it carets under the bytes of a span; one caret
+/// if the span is empty.
 pub fn append_line(line: &[u8], span: Span, out: &mut Vec<u8>) -> io::Result<()> {
     out.write_all(b"  ")?;
     for byte in shown(line) {

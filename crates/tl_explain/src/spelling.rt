@@ -1,11 +1,11 @@
-//! Why a line spells no beat, in words.
+//! Explains why a line spells no beat.
 
 use crate::shown::{Span, append_line, shown};
 use std::io;
 use std::io::Write;
 use tl_beat::fault::LineFault;
 
-/// What a field is to be.
+/// The form that a field must have.
 #[derive(Clone, Copy, PartialEq, Eq)]
 enum Form {
     Digits(usize),
@@ -34,7 +34,7 @@ fn count_of(letter: u8) -> usize {
     }
 }
 
-/// The field of this number, from 1 on, behind those that all channels but E share.
+/// The field with this number, counted from 1, after those that all channels but E share.
 fn late_field(letter: u8, number: usize, mask: usize) -> Field {
     match (letter, number) {
         (b'D', 7) => field_with("sink", Form::Digits(2)),
@@ -48,7 +48,7 @@ fn late_field(letter: u8, number: usize, mask: usize) -> Field {
     }
 }
 
-/// The field of this number, from 1 on.
+/// The field with this number, counted from 1.
 fn field_of(letter: u8, number: usize, mask: usize) -> Field {
     match (letter, number) {
         (_, 1) => field_with("link", Form::Digits(2)),
@@ -78,7 +78,7 @@ fn fits(form: Form, bytes: &[u8], width: usize) -> bool {
     }
 }
 
-/// The field of this number, from 1 on, where the line has so many.
+/// The bytes of the field with this number, counted from 1, if the line has that many.
 fn bytes_of(line: &[u8], number: usize) -> Option<&[u8]> {
     let mut at = 0usize;
     for bytes in line.split(|b| *b == b' ') {
@@ -90,7 +90,7 @@ fn bytes_of(line: &[u8], number: usize) -> Option<&[u8]> {
     None
 }
 
-/// Where the field of this number stands; behind the line where it has not so many.
+/// The place of the field with this number; the end of the line if it hasn't that many.
 fn span_of(line: &[u8], number: usize) -> Span {
     let mut at = 0usize;
     let mut from = 0usize;
@@ -126,7 +126,7 @@ fn letter_of(line: &[u8]) -> u8 {
     }
 }
 
-/// What a form is, in words.
+/// Appends a form in words.
 fn append_form(form: Form, width: usize, out: &mut Vec<u8>) -> io::Result<()> {
     match form {
         Form::Digits(1) => out.write_all(b"1 digit of 0 to 9 and a to f"),
@@ -140,7 +140,7 @@ fn append_form(form: Form, width: usize, out: &mut Vec<u8>) -> io::Result<()> {
     }
 }
 
-/// A line whose length, end or number of fields is at fault.
+/// Explains a fault in a line's length, end or number of fields.
 fn tell_shape(line: &[u8], out: &mut Vec<u8>) -> io::Result<()> {
     let end = shown(line).len();
     let at_end = Span { from: end, to: end };
@@ -172,7 +172,7 @@ fn tell_shape(line: &[u8], out: &mut Vec<u8>) -> io::Result<()> {
     )
 }
 
-/// The first field that isn't of its form.
+/// Explains the first field that doesn't have its form.
 fn tell_form(line: &[u8], width: usize, out: &mut Vec<u8>) -> io::Result<()> {
     let front = shown(line);
     let letter = letter_of(front);
@@ -191,7 +191,7 @@ fn tell_form(line: &[u8], width: usize, out: &mut Vec<u8>) -> io::Result<()> {
     Ok(())
 }
 
-/// A field of this number, and what is wrong with it.
+/// Appends the line, carets under the field with this number, and a sentence.
 fn tell_field(line: &[u8], number: usize, sentence: &str, out: &mut Vec<u8>) -> io::Result<()> {
     append_line(line, span_of(shown(line), number), out)?;
     write!(out, "  field {number}, {sentence}\n")
@@ -216,8 +216,7 @@ fn tell_data(line: &[u8], out: &mut Vec<u8>) -> io::Result<()> {
     tell_field(line, number, sentence, out)
 }
 
-/// Appends the line as it stands, carets under what is at fault, and one sentence. Beats have so many
-/// bytes.
+/// Appends the line, carets under the bytes at fault, and one sentence. Beats have `width` bytes.
 pub fn tell(line: &[u8], fault: LineFault, width: usize, out: &mut Vec<u8>) -> io::Result<()> {
     match fault {
         LineFault::F1 => tell_shape(line, out),

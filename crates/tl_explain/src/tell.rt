@@ -1,4 +1,4 @@
-//! Why a beat breaks a rule of bursts or of the order of messages, in words.
+//! Explains why a beat breaks S1 or an H rule.
 
 ghost use Rattle.tl_beat.specs.statement.Width.{IsWidth};
 
@@ -21,7 +21,7 @@ use tl_params::liberties::Liberties;
 use tl_params::param::Cap;
 use tl_rules::kind::answers;
 
-/// What is pending, since which message.
+/// Appends the pending key, and the message since which it is.
 pub fn tell_pending<const W: usize>(key: Key, told: &Told, out: &mut Vec<u8>) -> io::Result<()>
     requires { IsWidth W }
 {
@@ -58,7 +58,7 @@ fn tell_closed<const W: usize>(
     append_told::<W>(closing, out)
 }
 
-/// How many beats the burst of a line has.
+/// The number of beats in the burst of a line.
 fn beats_of<const W: usize>(told: &Told) -> u8
     requires { IsWidth W }
 {
@@ -200,7 +200,7 @@ fn tell_probed<const W: usize>(
     tell_pending::<W>(Key::ProbeOf(block), probe, out)
 }
 
-/// The fields in which a beat differs from a burst's.
+/// Appends the fields in which a beat differs from a burst.
 fn append_differences<const W: usize>(
     beat: &Beat<W>,
     control: &Control,
@@ -266,7 +266,7 @@ fn tell_differs<const W: usize>(beat: &Beat<W>, begun: &Begun, out: &mut Vec<u8>
     out.write_all(b"\n")
 }
 
-/// Appends what makes the rule broken, on a link with these liberties.
+/// Appends the reason why the rule is broken, on a link with these liberties.
 pub fn tell<const W: usize>(
     liberties: Liberties,
     beat: &Beat<W>,

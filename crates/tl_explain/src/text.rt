@@ -18,7 +18,7 @@ use crate::params::{name_on_a, name_on_b, name_on_c, name_on_d};
 use std::alloc::AllocError;
 use tl_beat::beat::Beat;
 
-/// At least as many bytes as a readable line has.
+/// Room for a readable line, at least.
 const ROOM: usize = 128;
 
 /// The `K` bytes from a place on.
@@ -32,8 +32,8 @@ fn bytes_at<const K: usize>(bytes: &[u8], at: usize) -> [u8; K]
     chunk
 }
 
-/// Writes bytes at a place, and answers the place behind them. The bytes are a value, as a copy from a slice
-/// to a slice is made a test of whether the two overlap.
+/// Writes bytes at a place, and returns the place after them. It takes an array, since a copy between slices first
+/// tests whether they overlap.
 #[inline(always)]
 fn put<const K: usize>(room: &mut [u8], at: usize, bytes: [u8; K]) -> usize
     requires room { at + K ≤ length room.old }
@@ -45,7 +45,7 @@ fn put<const K: usize>(room: &mut [u8], at: usize, bytes: [u8; K]) -> usize
     at + K
 }
 
-/// The same of `K` to `2 * K` bytes, by the first `K` and the last `K`, which are copied without a call.
+/// Writes `K` to `2 * K` bytes by their first `K` and last `K`, which are copied without a call.
 #[inline(always)]
 fn put_halves<const K: usize>(room: &mut [u8], at: usize, bytes: &[u8]) -> usize
     requires halves { (K ≤ length bytes.now) × (length bytes.now ≤ 2 * K) }
@@ -61,7 +61,7 @@ fn put_halves<const K: usize>(room: &mut [u8], at: usize, bytes: &[u8]) -> usize
     put(room, at + back, last)
 }
 
-/// The same of a name, by its halves.
+/// Writes a name by its two halves.
 #[inline(always)]
 fn put_name(room: &mut [u8], at: usize, name: &str) -> usize
     requires name { (2 ≤ length name.now) × (length name.now ≤ 16) }
@@ -80,7 +80,7 @@ fn put_name(room: &mut [u8], at: usize, name: &str) -> usize
     }
 }
 
-/// A param by its name, or by its digit where it has none.
+/// Writes a param by its name, or by its digit if it has none.
 #[inline(always)]
 fn put_param(room: &mut [u8], at: usize, digit: u8, param: Option<&str>) -> usize
     requires param { IsShort (option_map (λ s. s.now) param) }
@@ -96,7 +96,7 @@ fn put_param(room: &mut [u8], at: usize, digit: u8, param: Option<&str>) -> usiz
     }
 }
 
-/// Link and channel. The bytes behind them are copied too, as eight bytes are copied at once.
+/// Writes link and channel. Eight bytes are copied at once, so some after them are copied too.
 #[inline(always)]
 fn put_front(room: &mut [u8], line: &[u8]) -> usize
     requires line { FIRST_FIELD + 3 ≤ length line.now }
@@ -109,7 +109,7 @@ fn put_front(room: &mut [u8], line: &[u8]) -> usize
     FIRST_FIELD
 }
 
-/// Link, channel and name.
+/// Writes link, channel and name.
 #[inline(always)]
 #[tactic(auto, unfolding(crate::specs::code::Cuts::head_text))]
 fn put_head(room: &mut [u8], line: &[u8], name: &str) -> usize
@@ -125,7 +125,7 @@ fn put_head(room: &mut [u8], line: &[u8], name: &str) -> usize
     put(room, at, [b' '])
 }
 
-/// Size and source of a line of channels A to D.
+/// Writes size and source of a line of channels A to D.
 #[inline(always)]
 #[tactic(auto, unfolding(crate::specs::code::Cuts::size_and_source))]
 fn put_size_and_source(room: &mut [u8], at: usize, line: &[u8]) -> usize
@@ -141,7 +141,7 @@ fn put_size_and_source(room: &mut [u8], at: usize, line: &[u8]) -> usize
     put(room, at, bytes_at::<2>(line, SOURCE))
 }
 
-/// Size, source and address of a line of channels A to C.
+/// Writes size, source and address of a line of channels A to C.
 #[inline(always)]
 #[tactic(auto, unfolding(crate::specs::code::Cuts::address_text))]
 fn put_address(room: &mut [u8], at: usize, line: &[u8]) -> usize
@@ -156,7 +156,7 @@ fn put_address(room: &mut [u8], at: usize, line: &[u8]) -> usize
     put(room, at, bytes_at::<8>(line, ADDRESS))
 }
 
-/// Size, source, sink and denied of a line of channel D.
+/// Writes size, source, sink and denied of a line of channel D.
 #[inline(always)]
 #[tactic(auto, unfolding(crate::specs::code::Cuts::sink_text))]
 fn put_sink(room: &mut [u8], at: usize, line: &[u8]) -> usize
@@ -173,7 +173,7 @@ fn put_sink(room: &mut [u8], at: usize, line: &[u8]) -> usize
     put(room, at, bytes_at::<1>(line, DENIED))
 }
 
-/// The data, or the dash of none: a number of bytes that the compiler knows is copied without a call.
+/// Writes the data, or the dash if there are none. The compiler knows their number, and copies them without a call.
 #[inline(always)]
 fn put_data<const W: usize>(room: &mut [u8], at: usize, bytes: &[u8]) -> usize
     requires width { IsWidth W }
@@ -189,7 +189,7 @@ fn put_data<const W: usize>(room: &mut [u8], at: usize, bytes: &[u8]) -> usize
     put_halves::<W>(room, at, &bytes[..2 * W])
 }
 
-/// Data and the corrupt bit.
+/// Writes data and the corrupt bit.
 #[inline(always)]
 #[tactic(auto, unfolding(crate::specs::code::Cuts::tail_text))]
 fn put_tail<const W: usize>(room: &mut [u8], at: usize, tail: &[u8]) -> usize
@@ -206,7 +206,7 @@ fn put_tail<const W: usize>(room: &mut [u8], at: usize, tail: &[u8]) -> usize
     put(room, at, bytes_at::<CORRUPT>(tail, tail.len() - CORRUPT))
 }
 
-/// The digits of the mask, of which the compiler knows the number.
+/// Writes the digits of the mask. The compiler knows their number.
 #[inline(always)]
 fn put_mask<const W: usize>(room: &mut [u8], at: usize, line: &[u8]) -> usize
     requires width { IsWidth W }
@@ -225,7 +225,7 @@ fn put_mask<const W: usize>(room: &mut [u8], at: usize, line: &[u8]) -> usize
     }
 }
 
-/// What stands behind the name in a line of channels A and B.
+/// Writes the fields after the name in a line of channels A and B.
 #[inline(always)]
 #[tactic(auto, unfolding(crate::specs::code::Cuts::request_text))]
 fn put_request<const W: usize>(
@@ -250,7 +250,7 @@ fn put_request<const W: usize>(
     put_tail::<W>(room, at, &line[BEHIND_ADDRESS + W / 4 + 1..])
 }
 
-/// What stands behind the name in a line of channel C.
+/// Writes the fields after the name in a line of channel C.
 #[inline(always)]
 #[tactic(auto, unfolding(crate::specs::code::Cuts::release_text))]
 fn put_release<const W: usize>(
@@ -273,7 +273,7 @@ fn put_release<const W: usize>(
     put_tail::<W>(room, at, &line[BEHIND_ADDRESS..])
 }
 
-/// What stands behind the name in a line of channel D.
+/// Writes the fields after the name in a line of channel D.
 #[inline(always)]
 #[tactic(auto, unfolding(crate::specs::code::Cuts::response_text))]
 fn put_response<const W: usize>(
@@ -296,7 +296,7 @@ fn put_response<const W: usize>(
     put_tail::<W>(room, at, &line[BEHIND_DENIED..])
 }
 
-/// A line of channel E.
+/// Writes a line of channel E.
 #[inline(always)]
 #[tactic(auto, unfolding(crate::specs::code::Cuts::acknowledgement_text))]
 fn put_acknowledgement(room: &mut [u8], line: &[u8]) -> usize
@@ -311,7 +311,7 @@ fn put_acknowledgement(room: &mut [u8], line: &[u8]) -> usize
     put(room, at, bytes_at::<3>(line, FIRST_FIELD))
 }
 
-/// Writes the readable line of the beat that a line spells, and answers its length.
+/// Writes the readable line of the beat that a line spells, and returns its length.
 #[inline(always)]
 fn put_beat<const W: usize>(room: &mut [u8], line: &[u8], beat: &Beat<W>) -> usize
     requires width { IsWidth W }
@@ -347,6 +347,7 @@ fn put_beat<const W: usize>(room: &mut [u8], line: &[u8], beat: &Beat<W>) -> usi
 }
 
 /// Appends the readable line of the beat that a line spells.
+#[inline(always)]
 pub fn append_text<const W: usize>(
     line: &[u8],
     beat: &Beat<W>,

@@ -1,7 +1,7 @@
-//! Beats with the numbers of their lines.
+//! Cited beats: beats with the numbers of their lines.
 
 ghost use Rattle.std.specs.Prelude.{◌≡◌, ◌≤◌, length};
-ghost use Rattle.tl_explain.specs.code.Spelled.{spelled};
+ghost use Rattle.tl_explain.specs.statement.Spelled.{spelled};
 
 use tl_beat::control::Control;
 
@@ -19,7 +19,7 @@ pub struct Spelling {
     pub len: u8,
 }
 
-/// A beat that can be told: what is known of it, and its line.
+/// A cited beat: its fields, and its line.
 #[derive(Clone, Copy)]
 pub struct Told {
     pub mention: Mention,
@@ -27,7 +27,7 @@ pub struct Told {
 }
 
 impl Spelling {
-    /// The bytes of a line; what stands behind the first 64 is left out.
+    /// The bytes of a line, at most the first 64.
     pub fn of(line: &[u8]) -> Self
         ensures { length line.now ≤ 64 → spelled result ≡ line.now }
     {

@@ -12,7 +12,7 @@ pub struct Turn {
     pub closing: Option<Told>,
 }
 
-/// Keeps a message, where it is one to be kept.
+/// Keeps a message if `keeps`.
 #[inline(always)]
 fn keep_if(slot: &mut Option<Told>, keeps: bool, told: &Told)
     ensures { slot.new ≡ (if keeps then Some told.now else slot.old) }
@@ -34,7 +34,7 @@ impl Turn {
         }
     }
 
-    /// Takes a message, which may open the key or close it.
+    /// Takes a message. `opens` and `closes` say whether it opens and closes the key.
     #[inline(always)]
     pub fn take(&mut self, told: &Told, opens: bool, closes: bool)
         ensures opening { self.new.opening ≡ (if opens then Some told.now else self.old.opening) }
@@ -44,7 +44,7 @@ impl Turn {
         keep_if(&mut self.closing, closes, told);
     }
 
-    /// The message that opened the key, where none has closed it.
+    /// The message that opened the key, if none has closed it since.
     pub fn pending(&self) -> Option<Told>
         ensures { result ≡ open_message self.now }
     {

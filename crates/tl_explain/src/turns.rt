@@ -13,7 +13,7 @@ use tl_beat::beat::{Beat, Link};
 use tl_beat::control::Control;
 use tl_params::key::Key;
 
-/// The keys that a verdict may speak of.
+/// The keys that a verdict may depend on.
 #[derive(Clone, Copy)]
 pub struct Subject {
     pub link: Link,
@@ -22,8 +22,7 @@ pub struct Subject {
     pub sink: u8,
 }
 
-/// A beat, how many beats its burst has, whether it begins a message and completes one, and the block of
-/// its message.
+/// A beat, the number of beats in its burst, whether it begins and completes a message, and the block of its message.
 #[derive(Clone, Copy)]
 pub struct Moment {
     pub told: Told,
@@ -59,7 +58,7 @@ pub fn sink_of(told: &Option<Told>) -> Option<u8>
     }
 }
 
-/// Whether both hold.
+/// Whether both are true.
 #[inline(always)]
 fn both(one: bool, other: bool) -> bool
     ensures { result ≡ (one && other) }
@@ -67,7 +66,7 @@ fn both(one: bool, other: bool) -> bool
     one && other
 }
 
-/// Follows one key by one beat.
+/// Follows one key through one beat.
 #[inline(always)]
 fn note<const W: usize>(turn: &mut Turn, key: Key, beat: &Beat<W>, moment: &Moment)
     ensures { (n : ℕ) (link : Link) (t : Trace W) → IsMoment moment.now n (link, beat.now) t →
@@ -82,7 +81,7 @@ fn note<const W: usize>(turn: &mut Turn, key: Key, beat: &Beat<W>, moment: &Mome
 }
 
 impl Turns {
-    /// There was no message.
+    /// No message has come.
     pub fn new() -> Self
         ensures { (w : ℕ) (subject : Subject) → AreTurns {w = w} result subject [] }
     {
@@ -97,7 +96,7 @@ impl Turns {
         }
     }
 
-    /// Follows the keys by one beat of their link.
+    /// Follows the keys through one beat of their link.
     pub fn take<const W: usize>(&mut self, subject: Subject, beat: &Beat<W>, moment: &Moment)
         ensures { (link : Link) (t : Trace W) → IsMoment moment.now subject.link.0 (link, beat.now) t →
             AreTurns self.old subject t → AreTurns self.new subject ((link, beat.now) ∷ t) }

@@ -5,7 +5,7 @@ ghost use Rattle.tl_beat.specs.declared.beat.Beat.{Beat};
 ghost use Rattle.tl_beat.specs.declared.beat.Link.{Link};
 ghost use Rattle.tl_beat.specs.statement.Line.{Spells};
 ghost use Rattle.tl_beat.specs.statement.Width.{IsWidth};
-ghost use Rattle.tl_explain.specs.code.Spelled.{spelled};
+ghost use Rattle.tl_explain.specs.statement.Spelled.{spelled};
 ghost use Rattle.tl_explain.specs.statement.Sentences.{beat_line, perm_name};
 
 use crate::text::append_text;
@@ -18,7 +18,7 @@ use tl_beat::read::read_line;
 use tl_params::key::Key;
 use tl_params::perm::Perm;
 
-/// The name of what is held.
+/// The name of a permission.
 pub fn perm_name(perm: Perm) -> &'static str
     ensures { result.now ≡ perm_name perm }
 {
@@ -34,7 +34,7 @@ pub fn address_of(block: u32) -> u32 {
     block.wrapping_mul(64)
 }
 
-/// Appends what a key is of.
+/// Appends a key in words.
 pub fn append_key(key: Key, out: &mut Vec<u8>) -> io::Result<()> {
     match key {
         Key::RequestSource(source) => write!(out, "source {source:02x} of a request"),
@@ -60,7 +60,7 @@ pub fn append_key(key: Key, out: &mut Vec<u8>) -> io::Result<()> {
 }
 
 #[tactic(auto, unfolding(crate::specs::statement::Sentences::beat_line))]
-/// Appends the words of a beat line, behind its number.
+/// Appends the words of a beat line, after its number.
 pub fn append_beat_line<const W: usize>(
     number: u64,
     line: &[u8],
@@ -81,7 +81,7 @@ pub fn append_beat_line<const W: usize>(
     Ok(())
 }
 
-/// Appends the words of a beat that is told, behind the number of its line.
+/// Appends the words of a cited beat, after the number of its line.
 pub fn append_told<const W: usize>(told: &Told, out: &mut Vec<u8>) -> io::Result<()>
     requires { IsWidth W }
     ensures { OnOk result ((link : Link) (beat : Beat W) → Spells (spelled told.now.spelling) link beat →

@@ -1,4 +1,4 @@
-//! What each rule of memory rests on at a beat that breaks it.
+//! Explains a breach of a rule between links.
 
 ghost use Rattle.std.specs.Prelude.{ℕ, Bool, false, List, None, Some, ◌<◌, ◌≡◌, ◌≢◌, ◌++◌, OnOk, length};
 ghost use Rattle.tl_beat.specs.declared.beat.Beat.TheVariants as beat;
@@ -28,8 +28,7 @@ use tl_rules::kind::capped;
 use tl_rules::memory_rule::MemoryRule;
 use tl_together::judge::Judge;
 
-/// Appends in which line the request of an access was complete, and each link that holds a permission which
-/// conflicts with the access.
+/// Appends the line in which the request of an access was complete, and each link that holds a conflicting permission.
 fn tell_access<const W: usize>(
     witness: &Witness,
     judge: &Judge<W>,
@@ -52,8 +51,8 @@ fn tell_access<const W: usize>(
     witness.tell_holders(needs(asked.opcode), out)
 }
 
-/// Appends a line for each of these bytes of a response's beat, its lanes, that it may not bring, where this is what the
-/// beat changes: for the first eight of them, and how many more there are.
+/// Appends a line for each byte of these lanes of a response's beat that it may not have, given this change by the
+/// beat: for the first eight, and then the number of the others.
 fn tell_lanes_of<const W: usize>(
     judge: &Judge<W>,
     change: &Change<W>,
@@ -73,8 +72,8 @@ fn tell_lanes_of<const W: usize>(
     }
 }
 
-/// Appends a line for each byte of a response's beat that it may not bring: for the first eight of them, and how many
-/// more there are. What the judge knows stays so.
+/// Appends a line for each byte of a response's beat that it may not have: for the first eight, and then the number of
+/// the others. The judge stays as it is.
 fn tell_bytes<const W: usize>(
     judge: &mut Judge<W>,
     link: Link,
@@ -97,7 +96,7 @@ fn tell_bytes<const W: usize>(
     }
 }
 
-/// Appends what a rule of memory rests on at a beat that breaks it. What the judge knows stays so.
+/// Appends the explanation of a breach of a rule between links by a beat. The judge stays as it is.
 pub fn tell<const W: usize>(
     witness: &Witness,
     judge: &mut Judge<W>,

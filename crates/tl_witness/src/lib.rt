@@ -1,5 +1,5 @@
-//! What a rule of memory rests on at a beat that breaks it: who holds its block since which line, and what its
-//! bytes may be.
+//! Explains breaches of the rules between links: which link holds the block since which line, and the values that its
+//! bytes may have. An error means that there is no memory left; a part may then have been appended.
 #![tactic(auto)]
 
 pub mod grounds;

@@ -1,4 +1,4 @@
-//! Bytes of a response that it may not bring, and what they may be.
+//! Bytes that a response has and may not have, and the values that they may have.
 
 ghost use Rattle.std.specs.Prelude.{ℕ, suc, Bool, false, ◌+◌, ◌*◌, ◌<◌, ◌≤◌, ◌≡◌, ◌++◌, ◌∷◌, List, Option, IfOk, OnOk};
 ghost use Rattle.tl_beat.specs.statement.Width.{IsWidth};
@@ -16,31 +16,32 @@ use tl_rules::key::block_at;
 use tl_rules::place::base;
 use tl_together::judge::Judge;
 
-/// The most bytes that are told of.
+/// The most bytes that are listed.
 const TOLD: u8 = 8;
 
-/// The values of a byte.
+/// The number of values of a byte.
 const VALUES: u16 = 256;
 
-/// What stands before a value, where others stand before it or none does.
+/// The words before a value: the first differ from those after other values.
 fn lead(any: bool) -> &'static str
     ensures { result.now ≡ lead_text any }
 {
     if any { ", or " } else { ", and may be " }
 }
 
-/// Appends in which line a value was told, where it may be that still, by the number of beats before that line's.
+/// Appends the line that showed a value, if the byte may still have it. `moment` is the number of beats before that
+/// line's.
 fn append_told(moment: Option<u64>, out: &mut Vec<u8>) -> Result<(), AllocError>
     ensures { OnOk result (out.new.items ≡ out.old.items ++ told_text moment) }
 {
     let Some(moment) = moment else {
         return Ok(());
     };
-    out.extend_from_slice(b", told in line ")?;
+    out.extend_from_slice(b", set in line ")?;
     append_number(u128::from(moment) + 2, out)
 }
 
-/// Appends a value, and in which line it was told.
+/// Appends a value, and the line that showed it.
 fn append_value(value: u8, moment: Option<u64>, out: &mut Vec<u8>) -> Result<(), AllocError>
     ensures { OnOk result (out.new.items ≡ out.old.items ++ value_text value moment) }
 {
@@ -48,7 +49,7 @@ fn append_value(value: u8, moment: Option<u64>, out: &mut Vec<u8>) -> Result<(),
     append_told(moment, out)
 }
 
-/// Appends a value where the byte at a place may be that. Answers whether any stands there now.
+/// Appends a value if the byte at a place may have it. Returns whether any value has been appended.
 fn append_allowed<const W: usize>(
     expected: &Expected,
     judge: &Judge<W>,
@@ -76,7 +77,7 @@ fn append_allowed<const W: usize>(
 }
 
 #[tactic(auto, unfolding(crate::specs::statement::Strays::values_text))]
-/// Appends that nothing is told, where nothing is.
+/// Appends that no value is known, if `any` is false.
 fn append_nothing(any: bool, out: &mut Vec<u8>) -> Result<(), AllocError>
     ensures { OnOk result ((test : ℕ → Bool) (told : ℕ → Option ℕ) (v : ℕ) →
         out.new.items ≡ out.old.items ++ values_text test told any 0 v) }
@@ -84,10 +85,10 @@ fn append_nothing(any: bool, out: &mut Vec<u8>) -> Result<(), AllocError>
     if any {
         return Ok(());
     }
-    out.extend_from_slice(b", and nothing told of it")
+    out.extend_from_slice(b", and no value of it was seen")
 }
 
-/// Appends what the byte at a place may be.
+/// Appends the values that the byte at a place may have.
 fn append_values<const W: usize>(
     expected: &Expected,
     judge: &Judge<W>,
@@ -115,7 +116,7 @@ fn address_at(address: u32, place: u8) -> u32
 }
 
 #[tactic(auto, unfolding(crate::specs::statement::Strays::stray_line))]
-/// Appends the byte at a place of its block, and what it may be.
+/// Appends the byte at a place of its block, and the values that it may have.
 fn append_stray<const W: usize>(
     expected: &Expected,
     judge: &Judge<W>,
@@ -138,7 +139,7 @@ fn append_stray<const W: usize>(
     Ok(())
 }
 
-/// Appends a line for the byte at a place of its block, behind so many others, where it is one of the first eight.
+/// Appends a line for the byte at a place of its block, after `count` others, if it is one of the first eight.
 fn append_counted<const W: usize>(
     expected: &Expected,
     judge: &Judge<W>,
@@ -159,8 +160,8 @@ fn append_counted<const W: usize>(
     append_stray(expected, judge, place, byte, out)
 }
 
-/// Appends a line for the byte at a place of its block, behind so many others, where the response may not bring it.
-/// Answers how many there are now.
+/// Appends a line for the byte at a place of its block, after `count` others, if the response may not have it. Returns
+/// the number of such bytes.
 fn tell_lane<const W: usize>(
     expected: &Expected,
     judge: &Judge<W>,
@@ -185,7 +186,7 @@ fn tell_lane<const W: usize>(
     Ok(count + 1)
 }
 
-/// Appends how many more there are than those that are told of.
+/// Appends the number of bytes after those that are listed.
 fn append_more(count: u8, out: &mut Vec<u8>) -> Result<(), AllocError>
     ensures { OnOk result (out.new.items ≡ out.old.items ++ more_text count) }
 {
@@ -197,8 +198,8 @@ fn append_more(count: u8, out: &mut Vec<u8>) -> Result<(), AllocError>
     out.extend_from_slice(b" more\n")
 }
 
-/// Appends a line for each of these bytes, from a place of their block on, that the response may not bring: for the
-/// first eight of them, and how many more there are.
+/// Appends a line for each of these bytes, from a place of their block on, that the response may not have: for the
+/// first eight, and then the number of the others.
 fn tell_lanes<const W: usize>(
     expected: &Expected,
     judge: &Judge<W>,
@@ -226,8 +227,8 @@ fn tell_lanes<const W: usize>(
     append_more(count, out)
 }
 
-/// Appends a line for each byte of a beat, before which so many of the response came, that it may not bring: for the
-/// first eight of them, and how many more there are.
+/// Appends a line for each byte of a beat, the one after `beats` others of the response, that it may not have: for the
+/// first eight, and then the number of the others.
 pub(crate) fn tell_strays<const W: usize>(
     expected: &Expected,
     judge: &Judge<W>,

@@ -1,4 +1,4 @@
-//! The lines that tell what a rule of memory rests on.
+//! The lines that explain a breach of a rule between links.
 
 ghost use Rattle.std.specs.Prelude.{◌+◌, ◌*◌, ◌^◌, ◌<◌, ◌≤◌, ◌≡◌, ◌++◌, OnOk};
 ghost use Rattle.std.specs.Fmt.{decimal};
@@ -32,7 +32,7 @@ pub(crate) fn append_number(number: u128, out: &mut Vec<u8>) -> Result<(), Alloc
     out.extend_from_slice(digits.format(number).as_bytes())
 }
 
-/// Appends since which line a block is held so, where a message has left it so.
+/// Appends the line since which a block is held, if a message is cited.
 fn append_since(since: &Option<Told>, out: &mut Vec<u8>) -> Result<(), AllocError>
     ensures { OnOk result (out.new.items ≡ out.old.items ++ since_text (mention_of since.now)) }
 {
@@ -46,7 +46,7 @@ fn append_since(since: &Option<Told>, out: &mut Vec<u8>) -> Result<(), AllocErro
 }
 
 #[tactic(auto, unfolding(crate::specs::statement::Grounds::permission_line))]
-/// Appends what a link holds of a block, or is being granted, and since which line.
+/// Appends the permission that a link holds or is being granted, and since which line.
 pub(crate) fn append_permission(
     link: u8,
     verb: &str,
@@ -69,7 +69,7 @@ pub(crate) fn append_permission(
 }
 
 #[tactic(auto, unfolding(crate::specs::statement::Grounds::asked_line))]
-/// Appends in which line a request was complete.
+/// Appends the line in which a request was complete.
 pub(crate) fn append_asked(line: u128, out: &mut Vec<u8>) -> Result<(), AllocError>
     ensures { OnOk result (out.new.items ≡ out.old.items ++ asked_line line) }
 {

@@ -1,4 +1,4 @@
-//! What each link of a manager holds of a block, and since which line.
+//! The permission that each link of a manager holds of a block, and since which line.
 
 ghost use Rattle.std.specs.Prelude.{ℕ, List, [], ◌∷◌, ◌^◌, ◌<◌, ◌≡◌, ◌++◌, IfOk, OnOk, Some, false, length};
 ghost use Rattle.std.specs.Prelude.{option_copied, slice_get};
@@ -27,7 +27,7 @@ use tl_params::perm::Perm;
 use tl_together::free::leaves;
 use tl_together::judge::Judge;
 
-/// What each of the links of a manager holds of a block, by the messages that left it so.
+/// The permissions that the links of a manager hold of a block, and the messages that left them.
 #[derive(Drop)]
 pub struct Witness {
     block: u32,
@@ -35,7 +35,7 @@ pub struct Witness {
     recorders: Vec<Recorder>,
 }
 
-/// A recorder of what a link holds of a block.
+/// A recorder of the permission that a link holds of a block.
 fn recorder_of(link: u8, block: u32) -> Recorder
     ensures { IsFresh result link block }
 {
@@ -50,7 +50,7 @@ fn recorder_of(link: u8, block: u32) -> Recorder
 impl Witness {
     ghost use Rattle.tl_witness.specs.code.Witness.{KnowsWitness};
 
-    /// A witness of so many links that has seen no beat.
+    /// A witness of this many links, before any beat.
     pub fn new(alloc: Global, links: u8, block: u32) -> Result<Self, AllocError>
         ensures { IfOk result (λ h. (w : ℕ) → block < 2 ^ 26 → KnowsWitness {w = w} h links block []) }
     {
@@ -65,7 +65,7 @@ impl Witness {
         })
     }
 
-    /// Takes the next beat of a trace, which stands in the line of this number.
+    /// Takes the next beat of a trace, from the line with this number. The error is that of a recorder.
     pub fn take<const W: usize>(
         &mut self,
         number: u64,
@@ -83,14 +83,14 @@ impl Witness {
         }
     }
 
-    /// The recorder of a link, where there is one.
+    /// The recorder of a link, if there is one.
     fn recorder(&self, link: u8) -> Option<&Recorder>
         ensures { option_copied result ≡ slice_get self.now.recorders.items link }
     {
         self.recorders.get(usize::from(link))
     }
 
-    /// What a link holds of the block, and the message that left it so.
+    /// The permission that a link holds of the block, and the message that left it.
     pub fn held(&self, link: u8) -> Held
         ensures said { (w n block : ℕ) (t : Trace w) → KnowsWitness self.now n block t → link < n →
             mention_of result.since ≡ last_saying link block t }
@@ -117,7 +117,7 @@ impl Witness {
         }
     }
 
-    /// Appends what a link holds of the block, if it conflicts with this permission.
+    /// Appends the permission that a link holds of the block, if it conflicts with `given`.
     fn tell_holder(&self, link: u8, given: Perm, out: &mut Vec<u8>) -> Result<(), AllocError>
         ensures { OnOk result ((w n block : ℕ) (t : Trace w) → KnowsWitness self.now n block t → link < n →
             out.new.items ≡ out.old.items ++ holder_text link given block t) }
@@ -129,7 +129,7 @@ impl Witness {
         append_permission(link, " holds ", self.block, &held, out)
     }
 
-    /// Appends a line for each link that holds a permission of the block which conflicts with this one.
+    /// Appends a line for each link that holds a permission of the block which conflicts with `given`.
     pub fn tell_holders(&self, given: Perm, out: &mut Vec<u8>) -> Result<(), AllocError>
         ensures { OnOk result ((w n block : ℕ) (t : Trace w) → KnowsWitness self.now n block t →
             out.new.items ≡ out.old.items ++ holders_text n given block t) }
@@ -140,7 +140,7 @@ impl Witness {
         Ok(())
     }
 
-    /// Appends what a link holds of the block, or is being granted, if it conflicts with this permission.
+    /// Appends the permission that a link holds of the block, or is being granted, if it conflicts with `given`.
     fn tell_conflict(
         &self,
         coming: Option<Perm>,
@@ -166,7 +166,7 @@ impl Witness {
     }
 
     /// Appends a line for each link but this one that holds, or is being granted, a permission of the block which
-    /// conflicts with this one.
+    /// conflicts with `given`.
     pub fn tell_conflicts<const W: usize>(
         &self,
         judge: &Judge<W>,

@@ -1,14 +1,14 @@
 -- What the words of a subcommand ask for.
 use denote.Ref.{Bor}
-use Rattle.std.proofs.Common.{◌≡◌, ◌||◌, ◌∙◌, ℕ, ap, Bool, true, false, true≢false}
+use Rattle.std.proofs.Common.{◌≡◌, ◌||◌, ◌&&◌, ◌∙◌, ℕ, ap, Bool, true, false, true≢false}
 use Rattle.std.proofs.Common.{List, [], refl, sym, subst, codes, inr, Result, Ok, Err}
-use Rattle.std.specs.Prelude.{◌&&◌, IfErr, IfOk, Option, Some, None, is_some, option_map}
+use Rattle.std.specs.Prelude.{IfErr, IfOk, Option, Some, None, is_some, option_map}
 use Rattle.std.specs.Str.{bytes_eq}
 use Rattle.std.proofs.lemmas.Slice.Eq.{bytes_eq-Decides}
 use Rattle.clap.specs.Words.{Row, Text, first_of, subcommand_of}
 use Rattle.tl_command.specs.declared.random_words.RandomOption.{RandomOption}
 use Rattle.tl_command.specs.declared.task.Task.{Task}
-use Rattle.tl_command.specs.declared.task.Task.TheVariants.{Chart, Cover, Draw, Read, Report, Search}
+use Rattle.tl_command.specs.declared.task.Task.TheVariants.{Chart, Cover, DecodeWide, Draw, Read, Report, Search}
 use Rattle.tl_command.specs.declared.chart.Range.{Range}
 use Rattle.tl_command.specs.declared.search.Aim.{Aim}
 use Rattle.tl_command.specs.declared.search.Inquiry.{Inquiry}
@@ -16,6 +16,7 @@ use Rattle.tl_command.specs.statement.ChartWords.{IsRange}
 use Rattle.tl_command.specs.statement.LibertyWords.{AreAllowed, LacksComma}
 use Rattle.tl_command.specs.statement.RandomWords.{IsWrong, Words}
 use Rattle.tl_command.specs.statement.SearchWords.{IsInquiry}
+use Rattle.tl_command.specs.statement.Words.{wide_width_named}
 use Rattle.tl_command.proofs.LibertyWords.{liberties_again}
 use Rattle.tl_command.proofs.RandomOptions.{wrong_for_all}
 use Rattle.tl_params.proofs.Options.{some_pair}
@@ -23,7 +24,7 @@ use Rattle.tl_words.specs.declared.words.WordsFault.{WordsFault}
 use Rattle.tl_words.specs.declared.words.WordsFault.TheVariants as fault
 use Rattle.tl_words.specs.Refused.{AsksNothing, IsFaultOf, IsRefusal}
 use Rattle.tl_words.specs.Tool.{AreAllowedIn, AreTaken, IsAim, IsInquiryOf}
-use Rattle.tl_words.specs.Tool.{IsTaskOf, command_in, command_named, is_reported}
+use Rattle.tl_words.specs.Tool.{IsTaskOf, command_in, command_named, flag_named, is_reported, is_wide}
 use Rattle.tl_words.specs.Tool.{judges_together, together_named, tool_of, words_in}
 use Rattle.tl_params.specs.declared.liberties.Liberties.{Liberties}
 
@@ -64,11 +65,12 @@ no_inquiry name word inquiry none is = let some = is.1 in absurd cc
 pub no_draw : (rows : List Row) (option : RandomOption) → IsWrong (words_in rows) option → (task : Task)
     → ¬ IsTaskOf (codes "random") rows task
 no_draw rows option wrong (Read command allow file) is = let none = is.0 in absurd cc
+no_draw rows option wrong (DecodeWide width file) is = let none = is.0 in absurd cc
 no_draw rows option wrong (Search aim file) is = no_search (codes "random") (first_of (codes "all") rows) aim refl is.0
 no_draw rows option wrong (Report inquiry file report junit) is =
     no_inquiry (codes "random") (first_of (codes "all") rows) inquiry refl is.0
 no_draw rows option wrong (Chart range allow file) is = let none = is.0 in absurd cc
-no_draw rows option wrong (Cover json file) is = let none = is.0 in absurd cc
+no_draw rows option wrong (Cover json files) is = let none = is.0 in absurd cc
 no_draw rows option wrong (Draw options) is = wrong_for_all (words_in rows) option wrong options is.1
 
 -- the same words name the same lines and block
@@ -81,73 +83,100 @@ pub no_chart : (rows : List Row) → ((range : Range) (allow : Liberties)
     → IsRange (first_of (codes "lines") rows) (first_of (codes "block") rows) range
     → ¬ AreAllowed (first_of (codes "allow") rows) allow) → (task : Task) → ¬ IsTaskOf (codes "chart") rows task
 no_chart rows wrong (Read command allow file) is = let none = is.0 in absurd cc
+no_chart rows wrong (DecodeWide width file) is = let none = is.0 in absurd cc
 no_chart rows wrong (Search aim file) is = no_search (codes "chart") (first_of (codes "all") rows) aim refl is.0
 no_chart rows wrong (Report inquiry file report junit) is =
     no_inquiry (codes "chart") (first_of (codes "all") rows) inquiry refl is.0
 no_chart rows wrong (Chart range allow file) is = wrong range allow is.1 is.2
-no_chart rows wrong (Cover json file) is = let none = is.0 in absurd cc
+no_chart rows wrong (Cover json files) is = let none = is.0 in absurd cc
 no_chart rows wrong (Draw options) is = let none = is.0 in absurd cc
 
 -- a name that is no command's, and none of `chart`, `cover` and `random`, asks for nothing
 pub no_read : (name : Text) (rows : List Row) → command_in name rows ≡ None → first_of (codes "all") rows ≡ None
     → bytes_eq name (codes "random") ≡ false → bytes_eq name (codes "chart") ≡ false
-    → bytes_eq name (codes "cover") ≡ false → is_reported rows ≡ false
+    → bytes_eq name (codes "cover") ≡ false → is_wide name rows ≡ false → is_reported rows ≡ false
     → (task : Task) → ¬ IsTaskOf name rows task
-no_read name rows none unsaid other another apart unreported (Read command allow file) is = let some = is.0 in absurd cc
-no_read name rows none unsaid other another apart unreported (Search aim file) is =
+no_read name rows none unsaid other another apart plain unreported (Read command allow file) is = let some = is.0 in absurd cc
+no_read name rows none unsaid other another apart plain unreported (DecodeWide width file) is = let wide = is.0 in absurd cc
+no_read name rows none unsaid other another apart plain unreported (Search aim file) is =
     subst (λ (word : Option Text). IsAim name word aim) unsaid is.0
-no_read name rows none unsaid other another apart unreported (Report inquiry file report junit) is =
+no_read name rows none unsaid other another apart plain unreported (Report inquiry file report junit) is =
     let reported = is.1 in absurd cc
-no_read name rows none unsaid other another apart unreported (Chart range allow file) is = let same = is.0 in absurd cc
-no_read name rows none unsaid other another apart unreported (Cover json file) is = let same = is.0 in absurd cc
-no_read name rows none unsaid other another apart unreported (Draw options) is = let same = is.0 in absurd cc
+no_read name rows none unsaid other another apart plain unreported (Chart range allow file) is = let same = is.0 in absurd cc
+no_read name rows none unsaid other another apart plain unreported (Cover json files) is = let same = is.0 in absurd cc
+no_read name rows none unsaid other another apart plain unreported (Draw options) is = let same = is.0 in absurd cc
 
 -- a word of `--all` that asks a command which doesn't search, or that is no number, asks for nothing
 pub no_aim : (name word : Text) (rows : List Row) → ((aim : Aim) → ¬ IsAim name (Some word) aim)
     → first_of (codes "all") rows ≡ Some word → bytes_eq name (codes "random") ≡ false
-    → bytes_eq name (codes "chart") ≡ false → bytes_eq name (codes "cover") ≡ false → is_reported rows ≡ false
-    → (task : Task) → ¬ IsTaskOf name rows task
-no_aim name word rows none said other another apart unreported (Read command allow file) is = let unsaid = is.1 in
+    → bytes_eq name (codes "chart") ≡ false → bytes_eq name (codes "cover") ≡ false → is_wide name rows ≡ false
+    → is_reported rows ≡ false → (task : Task) → ¬ IsTaskOf name rows task
+no_aim name word rows none said other another apart plain unreported (Read command allow file) is = let unsaid = is.1 in
     absurd cc
-no_aim name word rows none said other another apart unreported (Search aim file) is =
+no_aim name word rows none said other another apart plain unreported (DecodeWide width file) is = let wide = is.0 in absurd cc
+no_aim name word rows none said other another apart plain unreported (Search aim file) is =
     none aim (subst (λ (w : Option Text). IsAim name w aim) said is.0)
-no_aim name word rows none said other another apart unreported (Report inquiry file report junit) is =
+no_aim name word rows none said other another apart plain unreported (Report inquiry file report junit) is =
     let reported = is.1 in absurd cc
-no_aim name word rows none said other another apart unreported (Chart range allow file) is = let same = is.0 in
+no_aim name word rows none said other another apart plain unreported (Chart range allow file) is = let same = is.0 in
     absurd cc
-no_aim name word rows none said other another apart unreported (Cover json file) is = let same = is.0 in absurd cc
-no_aim name word rows none said other another apart unreported (Draw options) is = let same = is.0 in absurd cc
+no_aim name word rows none said other another apart plain unreported (Cover json files) is = let same = is.0 in absurd cc
+no_aim name word rows none said other another apart plain unreported (Draw options) is = let same = is.0 in absurd cc
 
 -- words of a judgement that is reported, whose command judges nothing or whose word of `--all` is no number, ask for
 -- nothing
 pub no_report : (name : Text) (word : Option Text) (rows : List Row)
     → ((inquiry : Inquiry) → ¬ IsInquiryOf name word inquiry)
     → first_of (codes "all") rows ≡ word → bytes_eq name (codes "random") ≡ false
-    → bytes_eq name (codes "chart") ≡ false → bytes_eq name (codes "cover") ≡ false → is_reported rows ≡ true
-    → (task : Task) → ¬ IsTaskOf name rows task
-no_report name word rows none said other another apart reported (Read command allow file) is = let unreported = is.3 in
+    → bytes_eq name (codes "chart") ≡ false → bytes_eq name (codes "cover") ≡ false → is_wide name rows ≡ false
+    → is_reported rows ≡ true → (task : Task) → ¬ IsTaskOf name rows task
+no_report name word rows none said other another apart plain reported (Read command allow file) is = let unreported = is.3 in
     absurd cc
-no_report name word rows none said other another apart reported (Search aim file) is = let unreported = is.2 in
+no_report name word rows none said other another apart plain reported (DecodeWide width file) is = let wide = is.0 in absurd cc
+no_report name word rows none said other another apart plain reported (Search aim file) is = let unreported = is.2 in
     absurd cc
-no_report name word rows none said other another apart reported (Report inquiry file report junit) is =
+no_report name word rows none said other another apart plain reported (Report inquiry file report junit) is =
     none inquiry (subst (λ (w : Option Text). IsInquiryOf name w inquiry) said is.0)
-no_report name word rows none said other another apart reported (Chart range allow file) is = let same = is.0 in
+no_report name word rows none said other another apart plain reported (Chart range allow file) is = let same = is.0 in
     absurd cc
-no_report name word rows none said other another apart reported (Cover json file) is = let same = is.0 in absurd cc
-no_report name word rows none said other another apart reported (Draw options) is = let same = is.0 in absurd cc
+no_report name word rows none said other another apart plain reported (Cover json files) is = let same = is.0 in absurd cc
+no_report name word rows none said other another apart plain reported (Draw options) is = let same = is.0 in absurd cc
 
 -- a word of `--allow` that names no liberties asks for nothing
 pub no_liberties_named : (name : Text) (rows : List Row) → ((allow : Liberties) → ¬ AreAllowedIn name rows allow)
     → bytes_eq name (codes "random") ≡ false → bytes_eq name (codes "chart") ≡ false
-    → bytes_eq name (codes "cover") ≡ false → (task : Task)
+    → bytes_eq name (codes "cover") ≡ false → is_wide name rows ≡ false → (task : Task)
     → ¬ IsTaskOf name rows task
-no_liberties_named name rows none other another apart (Read command allow file) is = none allow is.4
-no_liberties_named name rows none other another apart (Search aim file) is = none aim.allow is.3
-no_liberties_named name rows none other another apart (Report inquiry file report junit) is =
+no_liberties_named name rows none other another apart plain (Read command allow file) is = none allow is.4
+no_liberties_named name rows none other another apart plain (DecodeWide width file) is = let wide = is.0 in absurd cc
+no_liberties_named name rows none other another apart plain (Search aim file) is = none aim.allow is.3
+no_liberties_named name rows none other another apart plain (Report inquiry file report junit) is =
     none inquiry.aim.allow is.5
-no_liberties_named name rows none other another apart (Chart range allow file) is = let same = is.0 in absurd cc
-no_liberties_named name rows none other another apart (Cover json file) is = let same = is.0 in absurd cc
-no_liberties_named name rows none other another apart (Draw options) is = let same = is.0 in absurd cc
+no_liberties_named name rows none other another apart plain (Chart range allow file) is = let same = is.0 in absurd cc
+no_liberties_named name rows none other another apart plain (Cover json files) is = let same = is.0 in absurd cc
+no_liberties_named name rows none other another apart plain (Draw options) is = let same = is.0 in absurd cc
+
+-- a word that names no width of wide beats asks for nothing
+pub no_wide : (rows : List Row) → flag_named (first_of (codes "wide") rows) ≡ true
+    → wide_width_named (first_of (codes "width") rows) ≡ None → (task : Task) → ¬ IsTaskOf (codes "decode") rows task
+no_wide rows flagged none (Read command allow file) is = let plain = is.5 in absurd cc
+no_wide rows flagged none (DecodeWide width file) is = let some = is.1 in absurd cc
+no_wide rows flagged none (Search aim file) is = no_search (codes "decode") (first_of (codes "all") rows) aim refl is.0
+no_wide rows flagged none (Report inquiry file report junit) is =
+    no_inquiry (codes "decode") (first_of (codes "all") rows) inquiry refl is.0
+no_wide rows flagged none (Chart range allow file) is = let same = is.0 in absurd cc
+no_wide rows flagged none (Cover json files) is = let same = is.0 in absurd cc
+no_wide rows flagged none (Draw options) is = let same = is.0 in absurd cc
+
+-- where `decode` reads wide beats, its name and its flag are there
+pub wide_so : (name : Text) (rows : List Row) → is_wide name rows ≡ true
+    → (name ≡ codes "decode") × (flag_named (first_of (codes "wide") rows) ≡ true)
+wide_so name rows is = go (bytes_eq name (codes "decode")) refl is
+  where
+    go : (b : Bool) → bytes_eq name (codes "decode") ≡ b → (b && flag_named (first_of (codes "wide") rows)) ≡ true
+        → (name ≡ codes "decode") × (flag_named (first_of (codes "wide") rows) ≡ true)
+    go true same flagged = ((bytes_eq-Decides name (codes "decode")).0 same, flagged)
+    go false other flagged = absurd cc
 
 -- the entries have this word of `--allow`
 pub allowed_in : (name : Text) (rows : List Row) (together : Bool) (coherent word : Option Text)

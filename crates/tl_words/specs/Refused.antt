@@ -9,7 +9,7 @@ use Rattle.tl_words.specs.declared.words.WordsFault.{WordsFault}
 use Rattle.tl_words.specs.declared.words.WordsFault.TheVariants.{Usage, Memory}
 use Rattle.tl_words.specs.Tool.{IsTaskOf, tool_of}
 
--- what an error of `clap` is to the program
+-- the program's fault for an error of `clap`
 abbrev pub is_want_of_memory : ErrorKind → Bool
 is_want_of_memory kind.OutOfMemory = true
 is_want_of_memory _ = false
@@ -17,7 +17,7 @@ is_want_of_memory _ = false
 abbrev pub words_fault : Error → WordsFault
 words_fault error = if is_want_of_memory (kind_of error) then Memory else Usage error
 
--- the exit status where words give no command
+-- the exit status if the words give no command
 abbrev pub usage_status : ErrorKind → ℕ
 usage_status kind.DisplayHelp = 0
 usage_status kind.DisplayVersion = 0
@@ -32,7 +32,7 @@ AsksNothing None = ⊤
 AsksNothing (Some (name, rows)) = (task : Task) → ¬ IsTaskOf name rows task
 
 -- `clap` doesn't take the words (it shows help or the version, or says what is wrong); or they ask for
--- nothing that the program can do, where a word stands for nothing or no file is there to explain, and the
+-- nothing that the program can do, since a word has no meaning or `explain` has no FILE, and the
 -- error says so
 abbrev pub AreRefused : List Text → Error → Type 0
 AreRefused words error = (takes tool_of words ≡ false)

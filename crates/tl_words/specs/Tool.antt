@@ -1,22 +1,22 @@
--- The command line as `clap` sees it, and what its matches mean.
-use Rattle.std.specs.Prelude.{◌≡◌, ◌&&◌, ◌||◌, Bool, List, Option, Some, None}
+-- The command line as `clap` sees it, and the meaning of its matches.
+use Rattle.std.specs.Prelude.{◌≡◌, ◌&&◌, ◌||◌, Bool, List, [], map, Option, Some, None, unwrap_or}
 use Rattle.std.specs.Prelude.{codes, true, false, if◌then◌else◌, is_some}
 use Rattle.std.specs.Prelude.{option_map}
 use Rattle.std.specs.Str.{bytes_eq}
 use Rattle.std.specs.String.{string_bytes}
-use Rattle.clap.specs.declared.builder.action.ArgAction.TheVariants.{SetTrue}
-use Rattle.clap.specs.Words.{App, Row, Rule, Text, first_of, new_app, new_rule, with_rule, with_subcommand}
+use Rattle.clap.specs.declared.builder.action.ArgAction.TheVariants.{Append, SetTrue}
+use Rattle.clap.specs.Words.{App, Row, Rule, Text, all_of, first_of, new_app, new_rule, with_rule, with_subcommand}
 use Rattle.tl_command.specs.declared.command.Command.{Command}
 use Rattle.tl_command.specs.declared.command.Command.TheVariants.{Coherent, Decode, Explain, Monitor, Run}
 use Rattle.tl_command.specs.declared.search.Aim.{Aim}
 use Rattle.tl_command.specs.declared.search.Inquiry.{Inquiry}
 use Rattle.tl_command.specs.declared.task.Task.{Task}
-use Rattle.tl_command.specs.declared.task.Task.TheVariants.{Chart, Cover, Draw, Read, Report, Search}
+use Rattle.tl_command.specs.declared.task.Task.TheVariants.{Chart, Cover, DecodeWide, Draw, Read, Report, Search}
 use Rattle.tl_command.specs.statement.ChartWords.{IsRange}
 use Rattle.tl_command.specs.statement.LibertyWords.{AreAllowed}
 use Rattle.tl_command.specs.statement.RandomWords.{AreOptions, Words}
 use Rattle.tl_command.specs.statement.SearchWords.{IsBehind, IsInquiry}
-use Rattle.tl_command.specs.statement.Words.{width_named}
+use Rattle.tl_command.specs.statement.Words.{wide_width_named, width_named}
 use Rattle.tl_params.specs.declared.liberties.Liberties.{Liberties}
 
 -- `--NAME VALUE`
@@ -26,10 +26,6 @@ valued_rule name = record (new_rule name) { long = Some name; value_names = 1 }
 -- `--width BYTES`
 abbrev pub width_rule : Rule
 width_rule = valued_rule (codes "width")
-
--- `decode [--width BYTES] [FILE]`
-abbrev pub decode_of : App
-decode_of = with_rule (with_rule (new_app (codes "decode")) width_rule) (new_rule (codes "FILE"))
 
 -- `--all N`
 abbrev pub all_rule : Rule
@@ -52,6 +48,11 @@ coherent_of = with_rule (with_reports (new_app (codes "coherent"))) (new_rule (c
 abbrev pub flag_rule : Text → Rule
 flag_rule name = record (new_rule name) { long = Some name; action = Some SetTrue }
 
+-- `decode [--wide] [--width BYTES] [FILE]`
+abbrev pub decode_of : App
+decode_of = with_rule (with_rule (with_rule (new_app (codes "decode")) (flag_rule (codes "wide"))) width_rule)
+    (new_rule (codes "FILE"))
+
 -- `explain [--coherent] [--allow LIBERTIES] [FILE]`
 abbrev pub explain_of : App
 explain_of = with_rule (with_rule (with_rule (new_app (codes "explain")) (flag_rule (codes "coherent")))
@@ -66,9 +67,13 @@ abbrev pub chart_of : App
 chart_of = with_rule (with_rule (with_range (new_app (codes "chart"))) (valued_rule (codes "allow")))
     (new_rule (codes "FILE"))
 
--- `cover [--json] [FILE]`
+-- `NAME..`, which may be several words
+abbrev pub several_rule : Text → Rule
+several_rule name = record (new_rule name) { action = Some Append }
+
+-- `cover [--json] [FILE..]`
 abbrev pub cover_of : App
-cover_of = with_rule (with_rule (new_app (codes "cover")) (flag_rule (codes "json"))) (new_rule (codes "FILE"))
+cover_of = with_rule (with_rule (new_app (codes "cover")) (flag_rule (codes "json"))) (several_rule (codes "FILE"))
 
 -- `run [--trace] [FILE]`
 abbrev pub run_of : App
@@ -78,7 +83,7 @@ run_of = with_rule (with_rule (new_app (codes "run")) (flag_rule (codes "trace")
 abbrev pub seed_rule : Rule
 seed_rule = record (valued_rule (codes "seed")) { required = true }
 
--- `random --seed N [--events N] [--contend N]`, without what the header names
+-- `random --seed N [--events N] [--contend N]`, without the options for the header
 abbrev pub drawing_of : App
 drawing_of = with_rule (with_rule (with_rule (new_app (codes "random")) seed_rule) (valued_rule (codes "events")))
     (valued_rule (codes "contend"))
@@ -127,7 +132,7 @@ playing_of = with_subcommand covering_of run_of.top
 abbrev pub tool_of : App
 tool_of = with_subcommand playing_of random_of.top
 
--- a flag is given where its word is `true`
+-- a flag is given if its word is `true`
 abbrev pub flag_named : Option Text → Bool
 flag_named None = false
 flag_named (Some word) = bytes_eq word (codes "true")
@@ -149,6 +154,10 @@ command_in name rows = command_named name (first_of (codes "width") rows) (first
 abbrev pub file_in : List Row → Option Text
 file_in rows = first_of (codes "FILE") rows
 
+-- the FILEs of a command that reads several
+abbrev pub files_in : List Row → List Text
+files_in rows = unwrap_or (all_of (codes "FILE") rows) []
+
 -- the words of the options of `random`
 abbrev pub words_in : List Row → Words
 words_in rows = record {
@@ -167,12 +176,12 @@ abbrev pub together_named : Text → Option Bool
 together_named name =
     if bytes_eq name (codes "monitor") then Some false else if bytes_eq name (codes "coherent") then Some true else None
 
--- what the word of `--all` says of the command of this name
+-- the meaning of the word of `--all` for the command of this name
 abbrev pub IsAim : Text → Option Text → Aim → Type 0
 IsAim name None aim = ⊥
 IsAim name (Some word) aim = (together_named name ≡ Some aim.together) × IsBehind word aim.behind
 
--- what the word of `--all` says of the command of this name, where its judgement is reported
+-- the same for a judgement that is reported
 abbrev pub IsInquiryOf : Text → Option Text → Inquiry → Type 0
 IsInquiryOf name word q = (together : Bool) × (together_named name ≡ Some together) × IsInquiry together word q
 
@@ -180,26 +189,33 @@ IsInquiryOf name word q = (together : Bool) × (together_named name ≡ Some tog
 abbrev pub is_reported : List Row → Bool
 is_reported rows = is_some (first_of (codes "report") rows) || is_some (first_of (codes "junit") rows)
 
--- the command of this name judges all links together: `coherent`, and `explain` where its flag is given
+-- `decode` reads wide beats
+abbrev pub is_wide : Text → List Row → Bool
+is_wide name rows = bytes_eq name (codes "decode") && flag_named (first_of (codes "wide") rows)
+
+-- the command of this name judges all links together: `coherent`, and `explain` if its flag is given
 abbrev pub judges_together : Text → Option Text → Bool
 judges_together name coherent = bytes_eq name (codes "coherent") || flag_named coherent
 
--- the word of `--allow` names these: early answers are none of them where links are judged together
+-- the word of `--allow` names these: early answers are none of them if links are judged together
 abbrev pub AreTaken : Bool → Option Text → Liberties → Type 0
 AreTaken together word allow = AreAllowed word allow × (together && allow.early ≡ false)
 
--- what links may do besides what the header names
+-- the liberties in addition to those of the header
 abbrev pub AreAllowedIn : Text → List Row → Liberties → Type 0
 AreAllowedIn name rows =
     AreTaken (judges_together name (first_of (codes "coherent") rows)) (first_of (codes "allow") rows)
 
--- What a subcommand's name and entries ask for: a command over FILE, a search of it, a judgement of it that is
--- reported, a
--- chart of it, its situations, or a random schedule.
+-- The task of a subcommand's name and entries: a command over FILE, its wide beats in words, a search of it, a
+-- judgement of it that is reported, a chart of it, the situations of FILEs, or a random schedule.
 abbrev pub IsTaskOf : Text → List Row → Task → Type 0
 IsTaskOf name rows (Read command allow file) =
     (command_in name rows ≡ Some command) × (first_of (codes "all") rows ≡ None)
     × (option_map string_bytes file ≡ file_in rows) × (is_reported rows ≡ false) × AreAllowedIn name rows allow
+    × (is_wide name rows ≡ false)
+IsTaskOf name rows (DecodeWide width file) =
+    (is_wide name rows ≡ true) × (wide_width_named (first_of (codes "width") rows) ≡ Some width)
+    × (option_map string_bytes file ≡ file_in rows)
 IsTaskOf name rows (Search aim file) =
     IsAim name (first_of (codes "all") rows) aim × (option_map string_bytes file ≡ file_in rows)
     × (is_reported rows ≡ false) × AreAllowedIn name rows aim.allow
@@ -212,7 +228,7 @@ IsTaskOf name rows (Chart range allow file) =
     (bytes_eq name (codes "chart") ≡ true)
     × IsRange (first_of (codes "lines") rows) (first_of (codes "block") rows) range
     × AreAllowed (first_of (codes "allow") rows) allow × (option_map string_bytes file ≡ file_in rows)
-IsTaskOf name rows (Cover json file) =
+IsTaskOf name rows (Cover json files) =
     (bytes_eq name (codes "cover") ≡ true) × (json ≡ flag_named (first_of (codes "json") rows))
-    × (option_map string_bytes file ≡ file_in rows)
+    × (map string_bytes files.items ≡ files_in rows)
 IsTaskOf name rows (Draw options) = (bytes_eq name (codes "random") ≡ true) × AreOptions (words_in rows) options

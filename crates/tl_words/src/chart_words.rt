@@ -14,7 +14,7 @@ use tl_command::chart::{ChartOption, range_named};
 use tl_command::liberties::allowed_named;
 use tl_command::task::Task;
 
-/// The error of an option of `chart` whose word stands for nothing.
+/// The error of an option of `chart` whose word has no meaning.
 fn wrong_range(
     alloc: Global,
     option: ChartOption,
@@ -40,7 +40,7 @@ fn word_of<'a>(
     }
 }
 
-/// The chart that the entries of `chart` ask for.
+/// The chart task of the entries of `chart`. A word that has no meaning is a `Usage`.
 pub(crate) fn draw_chart(alloc: Global, found: &ArgMatches) -> Result<Task, WordsFault>
     ensures drawn { IfOk result (IsTaskOf (codes "chart") (rows_of (found_of found.now))) }
     ensures wrong { IfErr result (IsFaultOf (codes "chart") (rows_of (found_of found.now))) }

@@ -1,10 +1,10 @@
 //! The program's commands, with their options, as `clap` reads them.
 
-ghost use Rattle.std.specs.Prelude.{◌≡◌, IfOk, true, false};
-ghost use Rattle.clap.specs.Words.{app_of, rule_of};
+ghost use Rattle.std.specs.Prelude.{◌≡◌, IfOk, codes, true, false};
+ghost use Rattle.clap.specs.Words.{app_of, new_app, new_rule, rule_of, with_rule, with_subcommand};
 ghost use Rattle.clap.specs.declared.builder.command.Command.TheViews.{out-Command};
 ghost use Rattle.tl_words.specs.Tool.{chart_of, charting_of, coherent_of, cover_of};
-ghost use Rattle.tl_words.specs.Tool.{covering_of, decode_of, drawing_of, explain_of};
+ghost use Rattle.tl_words.specs.Tool.{covering_of, decode_of, drawing_of, explain_of, several_rule};
 ghost use Rattle.tl_words.specs.Tool.{explaining_of, judging_of, monitor_of, playing_of, random_of, reading_of, run_of};
 ghost use Rattle.tl_words.specs.Tool.{flag_rule, sizing_of, tool_of, valued_rule, with_range, with_reports};
 
@@ -12,32 +12,76 @@ use crate::help;
 use clap::{Arg, ArgAction};
 use std::alloc::{AllocError, Global};
 
-/// What help says of FILE.
-const FILE_HELP: &str =
-    "The file to read [default: standard input]; `-` is a file's name as any other";
+/// The help on FILE.
+const FILE_HELP: &str = "File to read [default: standard input]; `-` is an ordinary file name";
 
-/// What help says of what is explained.
+/// The help on FILE for a command that reads several.
+const FILES_HELP: &str =
+    "Files to read, whose counts are added [default: standard input]; `-` is an ordinary file name";
+
+/// The help on FILE for `explain`.
 const EXPLAINED_HELP: &str =
-    "The trace to read, twice, so it can be no pipe; or, where there is no such file, the name of a rule or fault";
+    "Trace to explain, which must not be a pipe, since it is read twice; or, if there is no such file, a code";
 
 /// The version, with the logic of the toolchain that proved it.
 const VERSION: &str = "1.0.0\nproved with Rattle, logic dac8208d650f15bf";
+
+/// A command with its name, a sentence about it, and the help after its options.
+fn named<'a>(
+    alloc: Global,
+    name: &'a str,
+    about: &'static str,
+    after_help: &'static str,
+) -> clap::Command<'a>
+    ensures app { app_of result ≡ new_app name.entry.now }
+    ensures local { (out-Command result).has_globals ≡ false }
+{
+    clap::Command::new(alloc, name)
+        .about(about)
+        .after_help(after_help)
+}
+
+/// Adds an argument to a command.
+fn with_argument<'a>(
+    command: clap::Command<'a>,
+    argument: Arg<'a>,
+) -> Result<clap::Command<'a>, AllocError>
+    requires { ((out-Command command).has_globals ≡ false) × (argument.global ≡ false) }
+    ensures app { IfOk result (λ c. app_of c ≡ with_rule (app_of command.entry) (rule_of argument.entry)) }
+    ensures local { IfOk result (λ c. (out-Command c).has_globals ≡ false) }
+{
+    command.arg(argument)
+}
+
+/// Adds a subcommand to a command.
+fn with_subcommand<'a>(
+    command: clap::Command<'a>,
+    subcommand: clap::Command<'a>,
+) -> Result<clap::Command<'a>, AllocError>
+    requires { (out-Command subcommand).has_globals ≡ false }
+    ensures { IfOk result (λ c. app_of c ≡ with_subcommand (app_of command.entry) (app_of subcommand.entry).top) }
+{
+    command.subcommand(subcommand)
+}
 
 /// `tltool decode`.
 pub fn decode<'a>(alloc: Global) -> Result<clap::Command<'a>, AllocError>
     ensures app { IfOk result (λ c. app_of c ≡ decode_of) }
     ensures local { IfOk result (λ c. (out-Command c).has_globals ≡ false) }
 {
-    let width = valued(alloc, "width", "BYTES", help::WIDTH);
-    let file = Arg::new(alloc, "FILE").help(FILE_HELP);
-    clap::Command::new(alloc, "decode")
-        .about("Writes a readable line for each beat line of FILE")
-        .after_help(help::DECODE)
-        .arg(width)?
-        .arg(file)
+    let wide = flag(alloc, "wide", help::WIDE);
+    let width = valued(alloc, "width", "BYTES", help::DECODED_WIDTH);
+    let decode = named(
+        alloc,
+        "decode",
+        "Writes a readable line for each beat line of FILE",
+        help::DECODE,
+    );
+    let decode = with_argument(with_argument(decode, wide)?, width)?;
+    with_argument(decode, file(alloc, FILE_HELP))
 }
 
-/// A command that judges, with what it may allow links, of which this is said, and what it may be asked to report.
+/// Adds to a command that judges: its liberties, with this help on `--allow`, and its reports.
 fn with_reports<'a>(
     alloc: Global,
     command: clap::Command<'a>,
@@ -51,7 +95,8 @@ fn with_reports<'a>(
     let all = valued(alloc, "all", "N", help::ALL);
     let report = valued(alloc, "report", "FILE", help::REPORT);
     let junit = valued(alloc, "junit", "FILE", help::JUNIT);
-    command.arg(allow)?.arg(all)?.arg(report)?.arg(junit)
+    let command = with_argument(with_argument(command, allow)?, all)?;
+    with_argument(with_argument(command, report)?, junit)
 }
 
 /// `tltool monitor`.
@@ -59,11 +104,16 @@ pub fn monitor<'a>(alloc: Global) -> Result<clap::Command<'a>, AllocError>
     ensures app { IfOk result (λ c. app_of c ≡ monitor_of) }
     ensures local { IfOk result (λ c. (out-Command c).has_globals ≡ false) }
 {
-    let monitor = clap::Command::new(alloc, "monitor")
-        .about("Judges a recorded trace: writes `clean N`, N its beats, or the first line at fault")
-        .after_help(help::TRACE);
-    let file = Arg::new(alloc, "FILE").help(FILE_HELP);
-    with_reports(alloc, monitor, help::ALLOW)?.arg(file)
+    let monitor = named(
+        alloc,
+        "monitor",
+        "Checks each link of a recorded trace: writes `clean N` for N beats, or the first line at fault",
+        help::TRACE,
+    );
+    with_argument(
+        with_reports(alloc, monitor, help::ALLOW)?,
+        file(alloc, FILE_HELP),
+    )
 }
 
 /// `tltool coherent`.
@@ -71,13 +121,16 @@ pub fn coherent<'a>(alloc: Global) -> Result<clap::Command<'a>, AllocError>
     ensures app { IfOk result (λ c. app_of c ≡ coherent_of) }
     ensures local { IfOk result (λ c. (out-Command c).has_globals ≡ false) }
 {
-    let coherent = clap::Command::new(alloc, "coherent")
-        .about(
-            "Judges a trace of all links of a manager together: writes `coherent N`, or the first line at fault",
-        )
-        .after_help(help::TOGETHER);
-    let file = Arg::new(alloc, "FILE").help(FILE_HELP);
-    with_reports(alloc, coherent, help::ALLOW_TOGETHER)?.arg(file)
+    let coherent = named(
+        alloc,
+        "coherent",
+        "Checks all links of a manager together: writes `coherent N` for N beats, or the first line at fault",
+        help::TOGETHER,
+    );
+    with_argument(
+        with_reports(alloc, coherent, help::ALLOW_TOGETHER)?,
+        file(alloc, FILE_HELP),
+    )
 }
 
 /// `tltool explain`.
@@ -87,16 +140,17 @@ pub fn explain<'a>(alloc: Global) -> Result<clap::Command<'a>, AllocError>
 {
     let coherent = flag(alloc, "coherent", help::COHERENT);
     let allow = valued(alloc, "allow", "LIBERTIES", help::ALLOW_EXPLAINED);
-    let file = Arg::new(alloc, "FILE").help(EXPLAINED_HELP);
-    clap::Command::new(alloc, "explain")
-        .about("Writes what `monitor` does of FILE, and why; or what a rule says")
-        .after_help(help::EXPLAIN)
-        .arg(coherent)?
-        .arg(allow)?
-        .arg(file)
+    let explain = named(
+        alloc,
+        "explain",
+        "Writes the verdict of `monitor` on FILE with its reasons, or says what a code means",
+        help::EXPLAIN,
+    );
+    let explain = with_argument(with_argument(explain, coherent)?, allow)?;
+    with_argument(explain, file(alloc, EXPLAINED_HELP))
 }
 
-/// A command with what says which lines are drawn, and which block.
+/// Adds to a command: the lines and the block of a chart.
 fn with_range<'a>(
     alloc: Global,
     command: clap::Command<'a>,
@@ -107,7 +161,7 @@ fn with_range<'a>(
 {
     let lines = valued(alloc, "lines", "A-B", help::LINES);
     let block = valued(alloc, "block", "BBB", help::BLOCK);
-    command.arg(lines)?.arg(block)
+    with_argument(with_argument(command, lines)?, block)
 }
 
 /// `tltool chart`.
@@ -115,12 +169,15 @@ pub fn chart<'a>(alloc: Global) -> Result<clap::Command<'a>, AllocError>
     ensures app { IfOk result (λ c. app_of c ≡ chart_of) }
     ensures local { IfOk result (λ c. (out-Command c).has_globals ≡ false) }
 {
-    let chart = clap::Command::new(alloc, "chart")
-        .about("Draws the messages of a recorded trace: a sequence chart, in SVG")
-        .after_help(help::CHART);
+    let chart = named(
+        alloc,
+        "chart",
+        "Draws the messages of a recorded trace as a sequence chart, in SVG",
+        help::CHART,
+    );
     let allow = valued(alloc, "allow", "LIBERTIES", help::ALLOW);
-    let file = Arg::new(alloc, "FILE").help(FILE_HELP);
-    with_range(alloc, chart)?.arg(allow)?.arg(file)
+    let chart = with_argument(with_range(alloc, chart)?, allow)?;
+    with_argument(chart, file(alloc, FILE_HELP))
 }
 
 /// `tltool cover`.
@@ -128,13 +185,14 @@ fn cover<'a>(alloc: Global) -> Result<clap::Command<'a>, AllocError>
     ensures app { IfOk result (λ c. app_of c ≡ cover_of) }
     ensures local { IfOk result (λ c. (out-Command c).has_globals ≡ false) }
 {
-    let json = flag(alloc, "json", "Write one object, in JSON");
-    let file = Arg::new(alloc, "FILE").help(FILE_HELP);
-    clap::Command::new(alloc, "cover")
-        .about("Judges a recorded trace, and tells which situations its messages begin in")
-        .after_help(help::COVER)
-        .arg(json)?
-        .arg(file)
+    let json = flag(alloc, "json", "Write the counts as one JSON object");
+    let cover = named(
+        alloc,
+        "cover",
+        "Counts the situations in which the messages of recorded traces begin",
+        help::COVER,
+    );
+    with_argument(with_argument(cover, json)?, files(alloc, FILES_HELP))
 }
 
 fn run<'a>(alloc: Global) -> Result<clap::Command<'a>, AllocError>
@@ -144,14 +202,15 @@ fn run<'a>(alloc: Global) -> Result<clap::Command<'a>, AllocError>
     let trace = flag(
         alloc,
         "trace",
-        "Write the trace of the beats that move, with its header",
+        "Write the beats that move as a trace, with its header",
     );
-    let file = Arg::new(alloc, "FILE").help(FILE_HELP);
-    clap::Command::new(alloc, "run")
-        .about("Plays a schedule: writes what comes of each event")
-        .after_help(help::RUN)
-        .arg(trace)?
-        .arg(file)
+    let run = named(
+        alloc,
+        "run",
+        "Runs a schedule on a manager and its clients: writes the outcome of each event",
+        help::RUN,
+    );
+    with_argument(with_argument(run, trace)?, file(alloc, FILE_HELP))
 }
 
 /// The program with its commands that read traces.
@@ -160,53 +219,52 @@ fn reading<'a>(alloc: Global) -> Result<clap::Command<'a>, AllocError>
 {
     let decode = decode(alloc)?;
     let monitor = monitor(alloc)?;
-    clap::Command::new(alloc, "tltool")
-        .about("Reads and judges recorded TileLink traces, and plays schedules")
+    let tool = clap::Command::new(alloc, "tltool")
+        .about("Checks, explains and draws recorded TileLink traces, and runs schedules")
         .after_help(help::TOOL)
         .version(VERSION)
-        .subcommand_required(true)
-        .subcommand(decode)?
-        .subcommand(monitor)
+        .subcommand_required(true);
+    with_subcommand(with_subcommand(tool, decode)?, monitor)
 }
 
-/// The program with its commands that read traces, of each link and of all together.
+/// The program with its commands that read traces, also all links together.
 fn judging<'a>(alloc: Global) -> Result<clap::Command<'a>, AllocError>
     ensures { IfOk result (λ c. app_of c ≡ judging_of) }
 {
     let coherent = coherent(alloc)?;
-    reading(alloc)?.subcommand(coherent)
+    with_subcommand(reading(alloc)?, coherent)
 }
 
-/// The program with its commands that read traces and explain them.
+/// The program with its commands that read and explain traces.
 fn explaining<'a>(alloc: Global) -> Result<clap::Command<'a>, AllocError>
     ensures { IfOk result (λ c. app_of c ≡ explaining_of) }
 {
     let explain = explain(alloc)?;
-    judging(alloc)?.subcommand(explain)
+    with_subcommand(judging(alloc)?, explain)
 }
 
-/// The program with its commands that read traces, explain them and draw them.
+/// The program with its commands that read, explain and draw traces.
 fn charting<'a>(alloc: Global) -> Result<clap::Command<'a>, AllocError>
     ensures { IfOk result (λ c. app_of c ≡ charting_of) }
 {
     let chart = chart(alloc)?;
-    explaining(alloc)?.subcommand(chart)
+    with_subcommand(explaining(alloc)?, chart)
 }
 
-/// The program with its commands that read traces, explain them, draw them and cover them.
+/// The program with its commands that read, explain and draw traces and report their situations.
 fn covering<'a>(alloc: Global) -> Result<clap::Command<'a>, AllocError>
     ensures { IfOk result (λ c. app_of c ≡ covering_of) }
 {
     let cover = cover(alloc)?;
-    charting(alloc)?.subcommand(cover)
+    with_subcommand(charting(alloc)?, cover)
 }
 
-/// The program with its commands that read.
+/// The program with its commands that read an input.
 fn playing<'a>(alloc: Global) -> Result<clap::Command<'a>, AllocError>
     ensures { IfOk result (λ c. app_of c ≡ playing_of) }
 {
     let run = run(alloc)?;
-    covering(alloc)?.subcommand(run)
+    with_subcommand(covering(alloc)?, run)
 }
 
 /// An option with a value.
@@ -220,6 +278,22 @@ fn valued<'a>(alloc: Global, name: &'a str, value: &'a str, help: &'a str) -> Ar
         .help(help)
 }
 
+/// The argument FILE, with this help.
+fn file<'a>(alloc: Global, help: &'static str) -> Arg<'a>
+    ensures rule { rule_of result ≡ new_rule (codes "FILE") }
+    ensures local { result.global ≡ false }
+{
+    Arg::new(alloc, "FILE").help(help)
+}
+
+/// The argument FILE, several times, with this help.
+fn files<'a>(alloc: Global, help: &'static str) -> Arg<'a>
+    ensures rule { rule_of result ≡ several_rule (codes "FILE") }
+    ensures local { result.global ≡ false }
+{
+    file(alloc, help).action(ArgAction::Append)
+}
+
 /// An option without a value.
 fn flag<'a>(alloc: Global, name: &'a str, help: &'a str) -> Arg<'a>
     ensures rule { rule_of result ≡ flag_rule name.entry.now }
@@ -231,7 +305,7 @@ fn flag<'a>(alloc: Global, name: &'a str, help: &'a str) -> Arg<'a>
         .help(help)
 }
 
-/// `random` with what says what is drawn.
+/// `random` with the options of its draw.
 fn drawing<'a>(alloc: Global) -> Result<clap::Command<'a>, AllocError>
     ensures app { IfOk result (λ c. app_of c ≡ drawing_of) }
     ensures local { IfOk result (λ c. (out-Command c).has_globals ≡ false) }
@@ -240,25 +314,29 @@ fn drawing<'a>(alloc: Global) -> Result<clap::Command<'a>, AllocError>
         alloc,
         "seed",
         "N",
-        "The seed: the same words write the same schedule",
+        "Seed, 0 to 2^64 - 1: the same options write the same schedule",
     )
     .required(true);
     let events = valued(
         alloc,
         "events",
         "N",
-        "Lines behind the header [default: 1000]",
+        "Number of lines between the header and the last `drain` [default: 1000]",
     );
     let contend = valued(alloc, "contend", "N", help::CONTEND);
-    clap::Command::new(alloc, "random")
-        .about("Writes a random schedule for `run`")
-        .after_help(help::RANDOM)
-        .arg(seed)?
-        .arg(events)?
-        .arg(contend)
+    let random = named(
+        alloc,
+        "random",
+        "Writes a random schedule for `run`",
+        help::RANDOM,
+    );
+    with_argument(
+        with_argument(with_argument(random, seed)?, events)?,
+        contend,
+    )
 }
 
-/// And with the size of the world.
+/// The same with the options for the size of the world.
 fn sizing<'a>(alloc: Global) -> Result<clap::Command<'a>, AllocError>
     ensures app { IfOk result (λ c. app_of c ≡ sizing_of) }
     ensures local { IfOk result (λ c. (out-Command c).has_globals ≡ false) }
@@ -266,7 +344,8 @@ fn sizing<'a>(alloc: Global) -> Result<clap::Command<'a>, AllocError>
     let clients = valued(alloc, "clients", "LIST", help::CLIENTS);
     let blocks = valued(alloc, "blocks", "N", help::BLOCKS);
     let trackers = valued(alloc, "trackers", "N", help::TRACKERS);
-    drawing(alloc)?.arg(clients)?.arg(blocks)?.arg(trackers)
+    let random = with_argument(drawing(alloc)?, clients)?;
+    with_argument(with_argument(random, blocks)?, trackers)
 }
 
 /// `tltool random`.
@@ -276,7 +355,7 @@ pub fn random<'a>(alloc: Global) -> Result<clap::Command<'a>, AllocError>
 {
     let width = valued(alloc, "width", "BYTES", help::WIDTH);
     let profile = valued(alloc, "profile", "P", help::PROFILE);
-    sizing(alloc)?.arg(width)?.arg(profile)
+    with_argument(with_argument(sizing(alloc)?, width)?, profile)
 }
 
 /// The program with all its commands.
@@ -284,5 +363,5 @@ pub fn tool<'a>(alloc: Global) -> Result<clap::Command<'a>, AllocError>
     ensures { IfOk result (λ c. app_of c ≡ tool_of) }
 {
     let random = random(alloc)?;
-    playing(alloc)?.subcommand(random)
+    with_subcommand(playing(alloc)?, random)
 }

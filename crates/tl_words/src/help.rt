@@ -1,72 +1,79 @@
-//! What the help says behind the words of each command: its codes, its exit status, examples.
+//! The help after the options of each command: its codes, its exit status, and examples.
 
-/// What help says of `--width`.
-pub const WIDTH: &str = "Bytes of data that a beat carries: 4, 8 or 16 [default: 8]";
+/// The help on `--width`.
+pub const WIDTH: &str = "Bytes of data per beat: 4, 8 or 16 [default: 8]";
 
-/// What help says of `--clients`.
+/// The help on `--wide`.
+pub const WIDE: &str = "Read lines of wide beats: 16 digits of address, 4 of source and of sink";
+
+/// The help on `--width` of `decode`.
+pub const DECODED_WIDTH: &str =
+    "Bytes of data per beat: 4, 8 or 16; with --wide also 32 or 64 [default: 8]";
+
+/// The help on `--clients`.
 pub const CLIENTS: &str =
-    "1 to 16 clients: level UL, UH or C, and sources, 1 to 8 [default: C:2,C:2,C:2,UH:1]";
+    "1 to 16 clients, each a level (UL, UH or C) and a number of sources (1 to 8) [default: C:2,C:2,C:2,UH:1]";
 
-/// What help says of `--blocks`.
-pub const BLOCKS: &str = "Blocks of the map, 1 to 1024 [default: 2]";
+/// The help on `--blocks`.
+pub const BLOCKS: &str = "Number of blocks in memory, 1 to 1024 [default: 2]";
 
-/// What help says of `--trackers`.
-pub const TRACKERS: &str = "Trackers of the manager, 1 to 8 [default: 2]";
+/// The help on `--trackers`.
+pub const TRACKERS: &str = "Number of trackers in the manager, 1 to 8 [default: 2]";
 
-/// What help says of `--profile`.
-pub const PROFILE: &str = "The profile, 1 or 2 [default: 1]";
+/// The help on `--profile`.
+pub const PROFILE: &str = "Profile of rules, 1 or 2 [default: 1]";
 
-/// What help says of `--contend`.
+/// The help on `--contend`.
 pub const CONTEND: &str =
-    "Of how many blocks, from the first on, most operations speak [default: 2, or the blocks if fewer]";
+    "Number of blocks, from the first on, that most operations use [default: 2, or all if there are fewer]";
 
-/// What help says of `--lines`.
-pub const LINES: &str =
-    "The first line and the last that are drawn [default: the first 200 messages]";
+/// The help on `--lines`.
+pub const LINES: &str = "First and last line to draw [default: the first 200 messages]";
 
-/// What help says of `--block`.
+/// The help on `--block`.
 pub const BLOCK: &str =
-    "The one block that is drawn, with what each client holds of it: three hex digits, or seven";
+    "Draw only this block, with each client's permission of it: three or seven hexadecimal digits";
 
-/// What stands behind the options of a command: what is said of its codes, the codes that it can write, each
-/// with what it says, the exit status, and examples.
+/// The help after the options of a command: a text about its codes, the codes that it can write, each with its meaning,
+/// the exit status, and examples.
 macro_rules! outcomes {
     ($($said:literal,)* ; $($code:literal,)* ; $($example:literal,)*) => {
         concat!(
-            "Codes: at the first line at fault the text is `line N X`, N its number and X one of these.\n",
+            "Codes: the first line at fault is reported as `line N X`: N is its number, X one of these codes.\n",
             $($said,)*
             $($code,)*
             "\nExit status:\n",
-            "  0  no line is at fault; or help was asked for\n",
+            "  0  no line is at fault, or help was requested\n",
             "  1  `line N X` was written\n",
-            "  2  the words are not of the form above\n",
-            "  3  no memory, or reading, writing or opening a file failed; a directory can be opened, but\n",
-            "     not read, and a reader of the output that goes away makes writing fail\n",
+            "  2  the command line is not of the form above\n",
+            "  3  there is no memory, or a file can't be opened, read or written. A directory can be opened, but\n",
+            "     not read. Writing fails if the program that reads the output has ended\n",
             "\nExamples, in the folder of examples (crates/tl_examples/data):",
             $($example,)*
         )
     };
 }
 
-/// Behind the commands of the program.
+/// The help after the commands of the program.
 pub const TOOL: &str =
-    "Codes: at the first line at fault each command writes `line N X`: N is its number, X what is
-wrong with it. `tltool explain X` says what X is, `tltool COMMAND --help` which codes the command can
-write, and `tltool explain FILE` why the line of a trace is at fault.
-  F1 to F6      the line spells no beat
-  F7            the first line is no header
-  F8            the line says no event (`run`)
-  L1 to L7      the beat is not a legal one by itself
+    "Codes: each command reports the first line at fault as `line N X`: N is its number, X its code.
+`tltool explain X` says what X means, `tltool COMMAND --help` lists the codes of a command, and
+`tltool explain FILE` says why a line of a trace is at fault.
+  F1 to F6      the line is not a beat
+  F7            the first line is not a header
+  F8            the line is not an event (`run`)
+  F9            a wide trace has too many blocks, sources or sinks (`monitor`, `coherent`)
+  L1 to L7      the beat is not legal by itself
   S1            the beat does not continue its burst
   H1 to H13     the beat breaks the order of messages
   M1 to M4      the beat breaks a rule of memory, between links (`coherent`)
 
 Exit status:
-  0  done, and no line is at fault; or help or the version was asked for
+  0  no line is at fault, or help or the version was requested
   1  `line N X` was written
-  2  the words are not of the form above
-  3  no memory, or reading, writing or opening a file failed; a directory can be opened, but not
-     read, and a reader of the output that goes away makes writing fail
+  2  the command line is not of the form above
+  3  there is no memory, or a file can't be opened, read or written. A directory can be opened, but
+     not read. Writing fails if the program that reads the output has ended
 
 Examples, in the folder of examples (crates/tl_examples/data):
   printf '00 A 4 0 3 00 00000040 ff - 0\\n' | tltool decode
@@ -78,9 +85,9 @@ Examples, in the folder of examples (crates/tl_examples/data):
   tltool run --trace schedules/a_writer_becomes_a_reader.schedule | tltool monitor
   tltool random --seed 1 | tltool run --trace | tltool monitor";
 
-/// Behind the options of `decode`.
+/// The help after the options of `decode`.
 pub const DECODE: &str = outcomes!(
-    "`tltool explain X` says what X is.\n",
+    "`tltool explain X` says what X means.\n",
     ;
     "  F1   more than 256 bytes, or the last byte isn't LF, or fewer than two fields; or the number\n",
     "       of fields isn't the channel's\n",
@@ -93,9 +100,10 @@ pub const DECODE: &str = outcomes!(
     "\n  printf '00 A 4 0 3 00 00000040 ff - 0\\n' | tltool decode",
     "\n  tltool decode beats.txt",
     "\n  tail -n +2 two_caches.trace | tltool decode",
+    "\n  tail -n +2 wide/two_caches.trace | tltool decode --wide --width 32",
 );
 
-/// The same of a command that judges traces: the codes of a line and of a link, and then its own.
+/// The same for a command that judges traces: the codes of a line and of a link, and then its own.
 macro_rules! outcomes_of_a_trace {
     ($($said:literal,)* ; $($code:literal,)* ; $($example:literal,)*) => {
         outcomes!(
@@ -118,7 +126,7 @@ macro_rules! outcomes_of_a_trace {
             "  L6   corrupt without data; denied on another message than AccessAck, AccessAckData, HintAck;\n",
             "       denied without corrupt on AccessAckData\n",
             "  L7   an access forwarded on B (opcodes 0 to 5), or its answer on C (opcodes 0 to 2), at level\n",
-            "       C: they are read and shown, and not taken\n",
+            "       C: they are decoded, but not allowed\n",
             "  S1   a beat that continues a burst differs from the burst's first beat in opcode, param,\n",
             "       size, source, address, sink or denied\n",
             "  H1   the source is pending in its kind\n",
@@ -133,9 +141,9 @@ macro_rules! outcomes_of_a_trace {
             "  H9   a Probe or a GrantAck of the block is pending\n",
             "  H10  no Probe of the block is pending, or ProbeAckData answers ProbePerm\n",
             "  H11  a Release of the block is pending\n",
-            "  H12  the param isn't the report of the Probe's cap and of what is held\n",
-            "  H13  an Acquire or a Release of the block is pending, or the param's left end isn't what is\n",
-            "       held\n",
+            "  H12  the param isn't the report of the Probe's cap and the permission held\n",
+            "  H13  an Acquire or a Release of the block is pending, or the param's left end isn't the\n",
+            "       permission held\n",
             $($code,)*
             ;
             $($example,)*
@@ -143,31 +151,33 @@ macro_rules! outcomes_of_a_trace {
     };
 }
 
-/// The same of a command that judges all links of a manager together, too.
+/// The same for a command that also judges all links of a manager together.
 macro_rules! outcomes_of_all_links {
-    ($($said:literal,)* ; $($example:literal,)*) => {
+    ($($said:literal,)* ; $($code:literal,)* ; $($example:literal,)*) => {
         outcomes_of_a_trace!(
             $($said,)*
             ;
-            "  M1   the cap is toT and another link holds or is being granted something of the block, or toB\n",
-            "       and another link holds or is being granted Trunk of it\n",
-            "  M2   a byte isn't one that it may be at the first beat, by what was told of it and by the Puts\n",
-            "       and atomics that are pending\n",
-            "  M3   a byte that was asked for isn't one that it may have been in a window of the access, by what\n",
-            "       was told of it and by the Puts and atomics that were pending\n",
-            "  M4   all the while since the request was complete a link has held what excludes it: Trunk of\n",
-            "       the block for a Get, while no report has shown its bytes; anything of it for a Put or an\n",
-            "       atomic\n",
+            "  M1   the cap is toT and another link holds or is being granted a permission of the block, or\n",
+            "       toB and another link holds or is being granted Trunk of it\n",
+            "  M2   a byte has a value that neither the data seen before the first beat nor a pending Put or\n",
+            "       atomic allows\n",
+            "  M3   a requested byte has a value that neither the data seen nor a pending Put or atomic allows\n",
+            "       in any window of the access\n",
+            "  M4   at every moment since the request was complete some link held a conflicting permission: for\n",
+            "       a Get Trunk of the block, and no report has shown its bytes; for a Put or an atomic any\n",
+            "       permission of it\n",
+            $($code,)*
             ;
             $($example,)*
         )
     };
 }
 
-/// Behind the options of `monitor`.
+/// The help after the options of `monitor`.
 pub const TRACE: &str = outcomes_of_a_trace!(
-    "`tltool explain FILE` says why.\n",
+    "`tltool explain FILE` says why it is at fault.\n",
     ;
+    "  F9   more than 2^26 blocks, 256 sources of a link or 256 sinks\n",
     ;
     "\n  tltool monitor two_caches.trace",
     "\n  tltool explain wrong_report.trace",
@@ -175,10 +185,12 @@ pub const TRACE: &str = outcomes_of_a_trace!(
     "\n  tltool run --trace schedules/a_writer_becomes_a_reader.schedule | tltool monitor",
 );
 
-/// Behind the options of `coherent`.
+/// The help after the options of `coherent`.
 pub const TOGETHER: &str = outcomes_of_all_links!(
-    "Judged are the rules of each link and, between them, M1 to M4.\n",
-    "`tltool explain --coherent FILE` says why, and `tltool explain M1` what M1 says.\n",
+    "It checks the rules of each link, and M1 to M4 between the links.\n",
+    "`tltool explain --coherent FILE` says why a line is at fault, `tltool explain M1` what M1 means.\n",
+    ;
+    "  F9   more than 2^26 blocks, 256 sources of a link or 256 sinks\n",
     ;
     "\n  tltool coherent two_caches.trace",
     "\n  tltool coherent rules/M1.trace",
@@ -186,50 +198,50 @@ pub const TOGETHER: &str = outcomes_of_all_links!(
     "\n  tltool run --trace schedules/a_writer_becomes_a_reader.schedule | tltool coherent",
 );
 
-/// What help says of `--allow`.
+/// The help on `--allow`.
 pub const ALLOW: &str =
-    "Allow links this besides what the header names: none, standard, or names of ids, sinks, writer, early, drops, reports, denied and uncorrupt, in this order, with a comma between them";
+    "Liberties to allow in addition to the header's: none, standard, or names of ids, sinks, writer, early, drops, reports, denied and uncorrupt, in this order, with a comma between them";
 
-/// What the word of `--allow` has to be where links are judged together, whose answers aren't early.
+/// The form of the word of `--allow` if links are judged together, for which answers aren't early.
 pub const WANTED_TOGETHER: &str =
     "none, or names of ids, sinks, writer, drops, reports, denied and uncorrupt, in this order, with a comma between them";
 
-/// What help says of `--allow` there.
+/// The help on `--allow` if links are judged together.
 pub const ALLOW_TOGETHER: &str =
-    "Allow links this besides what the header names: none, or names of ids, sinks, writer, drops, reports, denied and uncorrupt, in this order, with a comma between them";
+    "Liberties to allow in addition to the header's: none, or names of ids, sinks, writer, drops, reports, denied and uncorrupt, in this order, with a comma between them";
 
-/// What help says of `--allow` where a verdict is explained.
+/// The help on `--allow` for `explain`.
 pub const ALLOW_EXPLAINED: &str =
-    "Allow links this besides what the header names: none, standard, or names of ids, sinks, writer, early, drops, reports, denied and uncorrupt, in this order, with a comma between them; with --coherent neither early nor standard";
+    "Liberties to allow in addition to the header's: none, standard, or names of ids, sinks, writer, early, drops, reports, denied and uncorrupt, in this order, with a comma between them; with --coherent neither early nor standard";
 
-/// What help says of `--all`.
+/// The help on `--all`.
 pub const ALL: &str =
-    "Go on behind a line at fault, whose beat isn't taken, up to N such lines; `faults N` says how many were found";
+    "Continue after a line at fault without its beat, and stop at the Nth such line; `faults M` counts them";
 
-/// What help says of `--report`.
+/// The help on `--report`.
 pub const REPORT: &str =
-    "Write a report in JSON to FILE: what is found, beats by link and message, and the input's SHA-256";
+    "Write a report in JSON to FILE: the faults, the beats by link and message, and the input's SHA-256";
 
-/// What help says of `--junit`.
-pub const JUNIT: &str =
-    "Write a report in XML to FILE, as JUnit's: a test case for each line at fault";
+/// The help on `--junit`.
+pub const JUNIT: &str = "Write a JUnit report in XML to FILE: a test case for each line at fault";
 
-/// What help says of `--coherent`.
-pub const COHERENT: &str = "Judge all links of a manager together, as `coherent` does";
+/// The help on `--coherent`.
+pub const COHERENT: &str = "Check all links of a manager together, as `coherent` does";
 
-/// Behind the options of `explain`.
+/// The help after the options of `explain`.
 pub const EXPLAIN: &str = outcomes_of_all_links!(
-    "M1 to M4 are judged with `--coherent` alone.\n",
+    "M1 to M4 are checked only with `--coherent`.\n",
+    ;
     ;
     "\n  tltool explain wrong_report.trace",
     "\n  tltool explain --coherent rules/M1.trace",
     "\n  tltool explain H12",
 );
 
-/// Behind the options of `chart`.
+/// The help after the options of `chart`.
 pub const CHART: &str = outcomes_of_a_trace!(
-    "In a chart it stands below the last row, and the beat at fault is red. `tltool explain FILE` says\n",
-    "why.\n",
+    "The chart has this text below its last row, and the beat at fault in red. `tltool explain FILE`\n",
+    "says why it is at fault.\n",
     ;
     ;
     "\n  tltool chart two_caches.trace >two_caches.svg",
@@ -237,18 +249,19 @@ pub const CHART: &str = outcomes_of_a_trace!(
     "\n  tltool run --trace schedules/a_release_races_with_a_probe.schedule | tltool chart >race.svg",
 );
 
-/// Behind the options of `cover`.
+/// The help after the options of `cover`.
 pub const COVER: &str = outcomes_of_a_trace!(
-    "The situations of the beats before it are told. `tltool explain FILE` says why it is at fault.\n",
+    "Situations are counted up to that line. `tltool explain FILE` says why it is at fault.\n",
     ;
     ;
     "\n  tltool cover two_caches.trace",
+    "\n  tltool cover --json two_caches.trace wrong_report.trace",
     "\n  tltool random --seed 1 | tltool run --trace | tltool cover --json",
 );
 
-/// Behind the options of `run`.
+/// The help after the options of `run`.
 pub const RUN: &str = outcomes!(
-    "`tltool explain X` says what X is.\n",
+    "`tltool explain X` says what X means.\n",
     ;
     "  F1   more than 256 bytes, or the last byte isn't LF\n",
     "  F7   the first line is no header\n",
@@ -258,16 +271,17 @@ pub const RUN: &str = outcomes!(
     "\n  tltool run --trace schedules/a_writer_becomes_a_reader.schedule | tltool monitor",
 );
 
-/// Behind the options of `random`.
+/// The help after the options of `random`.
 pub const RANDOM: &str =
-    "The schedule is a header, lines, and a last `drain`. Each line is an event of the header's world, or
-`drain`; the events are played along, so that most of them do something: a tenth are busy, missing
-or empty. The same words write the same bytes.
+    "The schedule is a header, N lines, and a last `drain`. Each line is `drain`, or an event for the
+clients of the header. The command runs each event before it chooses the next, so that most events
+have an effect: about a tenth are busy, missing or empty. The same options write the same bytes.
 
 Exit status:
-  0  the schedule was written; or help was asked for
-  2  the words are not of the form above
-  3  no memory, or writing failed; a reader of the output that goes away makes writing fail
+  0  the schedule was written, or help was requested
+  2  the command line is not of the form above
+  3  there is no memory, or writing failed. Writing fails if the program that reads the output has
+     ended
 
 Examples:
   tltool random --seed 1 | tltool run --trace | tltool monitor

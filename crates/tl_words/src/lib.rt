@@ -6,4 +6,5 @@ mod commands;
 mod cover_words;
 mod help;
 mod report;
+mod wide_words;
 pub mod words;

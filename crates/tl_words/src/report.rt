@@ -1,10 +1,10 @@
-//! Reads the words of a judgement that is reported.
+//! Reads the words of a judgement with a report.
 
 ghost use Rattle.std.specs.Prelude.{◌≡◌, IfOk, IfErr, true, false, List, bytes_eq, codes, option_map};
 ghost use Rattle.clap.specs.Words.{Row, first_of, found_of, rows_of};
 ghost use Rattle.tl_words.specs.Refused.{IsFaultOf};
 ghost use Rattle.tl_words.specs.Reports.{AreGiven};
-ghost use Rattle.tl_words.specs.Tool.{AreAllowedIn, IsTaskOf, is_reported};
+ghost use Rattle.tl_words.specs.Tool.{AreAllowedIn, IsTaskOf, is_reported, is_wide};
 
 use crate::words::{WordsFault, copied, together_named, wrong_number, wrong_words};
 use clap::ArgMatches;
@@ -13,7 +13,7 @@ use tl_command::search::inquiry_named;
 use tl_command::task::Task;
 use tl_params::liberties::Liberties;
 
-/// The words of a judgement that is reported.
+/// The words of a judgement with a report.
 #[derive(Clone, Copy)]
 struct ReportWords<'a> {
     all: Option<&'a str>,
@@ -22,14 +22,15 @@ struct ReportWords<'a> {
     junit: Option<&'a str>,
 }
 
-/// Whether a judgement is to be reported.
+/// Whether a judgement is reported.
 pub(crate) fn is_reported(found: &ArgMatches) -> bool
     ensures { result ≡ is_reported (rows_of (found_of found.now)) }
 {
     found.get_str("report").is_some() || found.get_str("junit").is_some()
 }
 
-/// The judgement and its reports that these words ask for, with what links may do besides.
+/// The report task of these words, with these liberties of the links beyond those of the header. A word of `--all` that
+/// has no meaning is a `Usage`.
 fn reported(
     alloc: Global,
     name: &str,
@@ -40,7 +41,7 @@ fn reported(
         AreAllowedIn name.now rows allow → IsTaskOf name.now rows task) }
     ensures wrong { IfErr result (λ fault. (rows : List Row) → AreGiven rows words.now → is_reported rows ≡ true →
         bytes_eq name.now (codes "random") ≡ false → bytes_eq name.now (codes "chart") ≡ false →
-        bytes_eq name.now (codes "cover") ≡ false →
+        bytes_eq name.now (codes "cover") ≡ false → is_wide name.now rows ≡ false →
         IsFaultOf name.now rows fault) }
 {
     let Some(together) = together_named(name) else {
@@ -61,7 +62,7 @@ fn reported(
     })
 }
 
-/// The judgement and its reports that the entries of a command ask for, with what links may do besides.
+/// The report task of the entries of a command, with these liberties of the links beyond those of the header.
 pub(crate) fn report(
     alloc: Global,
     name: &str,
@@ -71,6 +72,7 @@ pub(crate) fn report(
     requires random { bytes_eq name.now (codes "random") ≡ false }
     requires chart { bytes_eq name.now (codes "chart") ≡ false }
     requires cover { bytes_eq name.now (codes "cover") ≡ false }
+    requires plain { is_wide name.now (rows_of (found_of found.now)) ≡ false }
     requires reported { is_reported (rows_of (found_of found.now)) ≡ true }
     requires allowed { AreAllowedIn name.now (rows_of (found_of found.now)) allow }
     ensures read { IfOk result (IsTaskOf name.now (rows_of (found_of found.now))) }

@@ -1,9 +1,8 @@
-//! Reads the program's words: `tltool decode [--width 4|8|16] [FILE]`, `tltool monitor [--allow LIBERTIES] [--all N]
+//! Reads the program's words: `tltool decode [--wide] [--width BYTES] [FILE]`, `tltool monitor [--allow LIBERTIES] [--all N]
 //! [--report FILE] [--junit FILE] [FILE]`, `tltool coherent` with the same options, `tltool explain [--coherent]
 //! [--allow LIBERTIES] FILE`, `tltool chart [--lines A-B] [--block BBB] [--allow LIBERTIES]
-//! [FILE]`, `tltool cover [--json] [FILE]`, `tltool run [--trace] [FILE]`, `tltool random --seed N` with its options,
-//! and
-//! those that ask for help or the version.
+//! [FILE]`, `tltool cover [--json] [FILE..]`, `tltool run [--trace] [FILE]`, `tltool random --seed N` with its options,
+//! and those that ask for help or the version.
 
 ghost use Rattle.std.specs.Prelude.{◌≡◌, IfOk, IfErr, MatchOption, true, false};
 ghost use Rattle.std.specs.Prelude.{List, Some, bytes_eq, codes, map, option_map};
@@ -12,7 +11,7 @@ ghost use Rattle.clap.specs.Words.{Row, Text, first_of, found_of, is_simple_and_
 ghost use Rattle.clap.specs.Words.{kind_of, rows_of, subcommand_of};
 ghost use Rattle.tl_words.specs.Refused.{IsFaultOf, IsRefusal, status_of_usage, usage_status, words_fault};
 ghost use Rattle.tl_command.specs.statement.RandomWords.{words_of};
-ghost use Rattle.tl_words.specs.Tool.{AreAllowedIn, AreTaken, IsTaskOf, command_named, flag_named, is_reported};
+ghost use Rattle.tl_words.specs.Tool.{AreAllowedIn, AreTaken, IsTaskOf, command_named, flag_named, is_reported, is_wide};
 ghost use Rattle.tl_words.specs.Tool.{judges_together, together_named, tool_of};
 ghost use Rattle.tl_words.specs.Tool.{words_in};
 
@@ -21,6 +20,7 @@ use crate::commands::{chart, coherent, decode, explain, monitor, random, tool};
 use crate::cover_words::tell_covered;
 use crate::help;
 use crate::report::{is_reported, report};
+use crate::wide_words::{decode_wide, is_wide};
 use clap::ArgMatches;
 use clap::error::ErrorKind;
 use std::alloc::{AllocError, Global};
@@ -32,7 +32,7 @@ use tl_command::task::Task;
 use tl_command::width_word::width_named;
 use tl_params::liberties::Liberties;
 
-/// Why the words give no command: they aren't of its form, or ask for help, or there is no memory.
+/// The reason why the words give no task: they have another form or ask for help, or there is no memory.
 #[derive(Debug, Drop)]
 pub enum WordsFault {
     Usage(clap::Error),
@@ -61,7 +61,7 @@ impl From<clap::Error> for WordsFault {
     }
 }
 
-/// The exit status where the words are a `Usage`: 0 where they ask for help or the version, 2 else.
+/// The exit status of a `Usage`: 0 if the words ask for help or the version, otherwise 2.
 pub fn usage_status(error: &clap::Error) -> u8
     ensures { result ≡ usage_status (kind_of error.now) }
 {
@@ -81,7 +81,7 @@ pub(crate) fn flag_named(word: Option<&str>) -> bool
     }
 }
 
-/// The command of this name, with the words of its width, of its flag and of its file.
+/// The command of this name, by the words of its width, of its flags and of its file.
 fn command_named(
     name: &str,
     width: Option<&str>,
@@ -113,7 +113,7 @@ fn command_named(
     }
 }
 
-/// A text of one's own.
+/// Copies a text, if there is one.
 pub(crate) fn copied(alloc: Global, text: Option<&str>) -> Result<Option<String>, AllocError>
     ensures { IfOk result (λ r. option_map string_bytes r ≡ option_map (λ s. s.now) text.entry) }
 {
@@ -142,7 +142,7 @@ fn missing_file(alloc: Global) -> Result<clap::Error, AllocError>
     let mut explain = explain(alloc)?.bin_name("tltool explain")?;
     explain.error(
         ErrorKind::MissingRequiredArgument,
-        "explain reads FILE twice, and a pipe can be read once: write the trace to a file, and name it",
+        "explain reads FILE twice, so it can't read standard input: write the trace to a file, and name that file",
     )
 }
 
@@ -161,12 +161,12 @@ pub(crate) fn wrong_words(
     }
 }
 
-/// That `clap`'s statements on simple command lines hold of the program's.
+/// `clap`'s statements on simple command lines hold for the program's.
 pub fn is_simple_command()
     ensures { is_simple_and_free tool_of ≡ true }
 {}
 
-/// The error of an option of `random` whose word stands for nothing.
+/// The error of an option of `random` whose word has no meaning.
 fn wrong_option(
     alloc: Global,
     option: RandomOption,
@@ -196,7 +196,7 @@ fn random_words<'a>(found: &ArgMatches<'a>) -> RandomWords<'a>
     }
 }
 
-/// The random schedule that the entries of `random` ask for.
+/// The draw task of the entries of `random`. A word that has no meaning is a `Usage`.
 fn draw(alloc: Global, found: &ArgMatches) -> Result<Task, WordsFault>
     ensures drawn { IfOk result (IsTaskOf (codes "random") (rows_of (found_of found.now))) }
     ensures wrong { IfErr result (IsFaultOf (codes "random") (rows_of (found_of found.now))) }
@@ -211,7 +211,7 @@ fn draw(alloc: Global, found: &ArgMatches) -> Result<Task, WordsFault>
     }
 }
 
-/// The command that searches: all links together, or each by itself.
+/// The command that searches, in all links together or in each by itself.
 fn searching<'a>(alloc: Global, together: bool) -> Result<clap::Command<'a>, AllocError> {
     if together {
         coherent(alloc)?.bin_name("tltool coherent")
@@ -233,7 +233,7 @@ pub(crate) fn wrong_number(
     command.error(ErrorKind::InvalidValue, message.as_str())
 }
 
-/// The command of this name, which may allow links something.
+/// The command of this name, which has `--allow`.
 fn allowing<'a>(alloc: Global, name: &str) -> Result<clap::Command<'a>, AllocError> {
     match name {
         "explain" => explain(alloc)?.bin_name("tltool explain"),
@@ -263,7 +263,7 @@ pub(crate) fn wrong_liberties(
     command.error(ErrorKind::InvalidValue, message.as_str())
 }
 
-/// Whether the command of this name judges all links together, or each by itself; others don't search.
+/// Whether the command of this name judges all links together. None if it doesn't search.
 pub(crate) fn together_named(name: &str) -> Option<bool>
     ensures { result ≡ together_named name.now }
 {
@@ -274,7 +274,7 @@ pub(crate) fn together_named(name: &str) -> Option<bool>
     }
 }
 
-/// The search that the word of `--all` asks for, with what links may do besides.
+/// The search task of the word of `--all`, with these liberties of the links beyond those of the header.
 fn search(
     alloc: Global,
     name: &str,
@@ -287,7 +287,7 @@ fn search(
         AreAllowedIn name.now rows allow → IsTaskOf name.now rows task) }
     ensures wrong { IfErr result (λ fault. (rows : List Row) → first_of (codes "all") rows ≡ Some word.now →
         bytes_eq name.now (codes "random") ≡ false → bytes_eq name.now (codes "chart") ≡ false →
-        bytes_eq name.now (codes "cover") ≡ false →
+        bytes_eq name.now (codes "cover") ≡ false → is_wide name.now rows ≡ false →
         is_reported rows ≡ false → IsFaultOf name.now rows fault) }
 {
     let Some(together) = together_named(name) else {
@@ -307,11 +307,13 @@ fn search(
     })
 }
 
-/// What the entries of a command ask for that reads, and reports nothing, with what links may do besides.
+/// The task of the entries of a command that reads and reports nothing, with these liberties of the links beyond those
+/// of the header.
 fn read(alloc: Global, name: &str, allow: Liberties, found: &ArgMatches) -> Result<Task, WordsFault>
     requires random { bytes_eq name.now (codes "random") ≡ false }
     requires chart { bytes_eq name.now (codes "chart") ≡ false }
     requires cover { bytes_eq name.now (codes "cover") ≡ false }
+    requires plain { is_wide name.now (rows_of (found_of found.now)) ≡ false }
     requires unreported { is_reported (rows_of (found_of found.now)) ≡ false }
     requires allowed { AreAllowedIn name.now (rows_of (found_of found.now)) allow }
     ensures read { IfOk result (IsTaskOf name.now (rows_of (found_of found.now))) }
@@ -335,14 +337,14 @@ fn read(alloc: Global, name: &str, allow: Liberties, found: &ArgMatches) -> Resu
     })
 }
 
-/// Whether the command of this name judges all links together: `coherent` does, and `explain` where its flag is given.
+/// Whether the command of this name judges all links together: `coherent` does, and `explain` with its flag.
 fn judges_together(name: &str, coherent: Option<&str>) -> bool
     ensures { result ≡ judges_together name.now (option_map (λ s. s.now) coherent.entry) }
 {
     name == "coherent" || flag_named(coherent)
 }
 
-/// The liberties that the word of `--allow` names. Links that are judged together have no `early`.
+/// The liberties that the word of `--allow` names; none without it. If links are judged together, `early` isn't one.
 fn allowed_for(together: bool, word: Option<&str>) -> Option<Liberties>
     ensures { MatchOption result
         ((allow : Liberties) → ¬ AreTaken together (option_map (λ s. s.now) word.entry) allow)
@@ -355,11 +357,12 @@ fn allowed_for(together: bool, word: Option<&str>) -> Option<Liberties>
     Some(allow)
 }
 
-/// What the entries of a command ask for that reads.
+/// The task of the entries of a command that reads.
 fn asked(alloc: Global, name: &str, found: &ArgMatches) -> Result<Task, WordsFault>
     requires random { bytes_eq name.now (codes "random") ≡ false }
     requires chart { bytes_eq name.now (codes "chart") ≡ false }
     requires cover { bytes_eq name.now (codes "cover") ≡ false }
+    requires plain { is_wide name.now (rows_of (found_of found.now)) ≡ false }
     ensures read { IfOk result (IsTaskOf name.now (rows_of (found_of found.now))) }
     ensures wrong { IfErr result (IsFaultOf name.now (rows_of (found_of found.now))) }
 {
@@ -376,8 +379,8 @@ fn asked(alloc: Global, name: &str, found: &ArgMatches) -> Result<Task, WordsFau
     }
 }
 
-/// What the program's words ask for, its own name first. Words of another form and a request for help
-/// or the version are a `Usage`, whose text is `clap`'s; its exit status is 2 where `clap` takes the words.
+/// The task of the program's words, its own name first. Words of another form and a request for help or the version are
+/// a `Usage`, with the text of `clap`. Its exit status is 2 if `clap` takes the words.
 pub fn invocation(alloc: Global, words: &[String]) -> Result<Task, WordsFault>
     ensures refused { IfErr result (IsRefusal (map string_bytes words.now)) }
     ensures given { IfOk result (λ task. (name : Text) × (rows : List Row)
@@ -396,6 +399,8 @@ pub fn invocation(alloc: Global, words: &[String]) -> Result<Task, WordsFault>
         draw_chart(alloc, found)
     } else if name == "cover" {
         tell_covered(alloc, found)
+    } else if is_wide(name, found) {
+        decode_wide(alloc, found)
     } else {
         asked(alloc, name, found)
     }

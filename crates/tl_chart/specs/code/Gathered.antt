@@ -54,12 +54,12 @@ marked first link line held marks =
 abbrev pub is_over : Gatherer → Bool
 is_over g = g.closed && is_none g.window.block
 
--- the block of which it is drawn what is held; none where nothing is drawn any more
+-- the block of which it is drawn what is held; none if nothing is drawn any more
 abbrev pub watched : Gatherer → Option ℕ
 watched g = if g.closed then None else g.window.block
 
--- What is drawn of the trace, whose links hold so much, has been gathered. The blocks of its messages are known as long as
--- they bear on that.
+-- All that is drawn of the trace, with these permissions of its links, has been gathered. The blocks of its messages
+-- are known as long as they bear on that.
 pub record Gathers {w : ℕ} (held : Holding w) (g : Gatherer) (t : Trace w) : Type 0 where
   pub drawn_is : drawn_of g ≡ drawn held g.window t
   pub links_are : is_over g ≡ false → KnowLinks g.links.items t

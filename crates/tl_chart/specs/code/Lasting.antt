@@ -16,7 +16,7 @@ asks (beat.C x) = is_release x.opcode
 asks (beat.D x) = false
 asks (beat.E x) = false
 
--- something may be let go behind a beat: a message is complete with it, but not one that is this beat alone and asks
+-- something may be let go after a beat: a message is complete with it, but not one that is this beat alone and asks
 abbrev pub lets_go : {w : ℕ} → Moment → Beat w → Bool
 lets_go m x = m.last && not (m.first && asks x)
 

@@ -8,7 +8,7 @@ use Rattle.tl_chart.specs.statement.Drawn.{Drawn}
 use Rattle.tl_chart.specs.statement.Picture.{arrows_text, bars_text, link_place, row_place, verdict_text}
 use Rattle.tl_params.specs.declared.perm.Perm.TheVariants as perm
 
--- the line of the beat at fault, 0 where none is drawn
+-- the line of the beat at fault; 0 if it isn't drawn
 abbrev pub fault_line : Option Arrow → ℕ
 fault_line None = 0
 fault_line (Some fault) = fault.first
@@ -18,13 +18,13 @@ abbrev pub all_bars_text : List Arrow → List Mark → List ℕ → ℕ → ℕ
 all_bars_text arrows marks links first bottom =
     flat_map (λ link. bars_text arrows first bottom link (link_place links link) perm.None (row_place 0) marks) links
 
--- the messages that are drawn, and behind them the beat at fault
+-- the messages that are drawn, and then the beat at fault
 abbrev pub rows : Drawn → Option Arrow → List Arrow
 rows d fault = d.arrows ++ option_to_list fault
 
--- The chart of what is drawn in a window, with a beat at fault or none, and with this line of a verdict: behind a front,
--- with a lifeline for each of these links, stand the bars of what is held and then the arrows, one for each message
--- that is drawn, in order, and the beat at fault; and then the verdict and an end.
+-- The chart of a drawing in a window, with or without a beat at fault, and with the text of a verdict. After a front,
+-- with a lifeline for each link, come the bars of the permissions, the arrows of the messages in order, the beat at
+-- fault, the verdict, and an end.
 pub record IsChart (win : Window) (d : Drawn) (fault : Option Arrow) (verdict : List ℕ) (broken : Bool)
     (old new : List ℕ) : Type 0 where
   pub links : List ℕ

@@ -1,5 +1,5 @@
--- The picture: where the parts of a chart stand, and what is drawn of a message and of what is held. A row is a
--- message; rows count from 1, and row 0 is the upper end of the lifelines.
+-- The picture: the places of a chart's parts, and the drawing of messages and permissions. Each message has a row. Rows
+-- count from 1, and row 0 is the upper end of the lifelines.
 use Rattle.std.specs.Prelude.{ℕ, ◌+◌, ◌*◌, ◌-◌, Bool, true, false, List, [], ◌∷◌, ◌++◌, ◌==◌, codes, count_by}
 use Rattle.std.specs.Prelude.{if◌then◌else◌, length, min, nat_le, nat_lt}
 use Rattle.std.specs.Fmt.{decimal}
@@ -10,28 +10,29 @@ use Rattle.tl_beat.specs.statement.Line.{letter}
 use Rattle.tl_chart.specs.declared.arrow.Arrow.{Arrow}
 use Rattle.tl_chart.specs.declared.mark.Mark.{Mark}
 use Rattle.tl_chart.specs.statement.Words.{escaped, words_of}
-use Rattle.tl_explain.specs.code.Recorded.{channel_in}
+use Rattle.tl_chart.specs.statement.Messages.{channel_in}
 use Rattle.tl_params.specs.declared.perm.Perm.{Perm}
 use Rattle.tl_params.specs.declared.perm.Perm.TheVariants as perm
 
 -- ---- places
 
--- the place of a row, from above
+-- the place of a row, from the top
 abbrev pub row_place : ℕ → ℕ
 row_place row = 72 + 20 * min row 4000
 
--- how far from the manager's lifeline a column stands, of so many: the fewer there are, the further apart
+-- the distance of a column from the manager's lifeline; with fewer columns it is larger
 abbrev pub column_place : ℕ → ℕ → ℕ
 column_place count column = if nat_le count 3 then 80 * column else if nat_le count 8 then 50 * column else 27 * column
 
--- the place of the manager's lifeline from the left, and of a link's among those that are drawn
+-- the place of the manager's lifeline, from the left
 abbrev pub manager_place : ℕ
 manager_place = 526
 
--- how many of these links have lower numbers
+-- the number of these links with lower numbers
 abbrev pub lower : List ℕ → ℕ → ℕ
 lower links link = count_by (λ other. nat_lt other link) links
 
+-- the place of a link's lifeline among those of these links, from the left
 abbrev pub link_place : List ℕ → ℕ → ℕ
 link_place links link = manager_place + column_place (length links) (min (lower links link) 255 + 1)
 
@@ -39,7 +40,8 @@ link_place links link = manager_place + column_place (length links) (min (lower 
 abbrev pub row_of : List Arrow → ℕ → ℕ
 row_of arrows line = count_by (λ m. nat_le m.first line) arrows
 
--- where a message ends, or what is held changes: behind the row of the last message that begins up to that line
+-- the place for the end of a message or a change of permission: after the row of the last message that begins up to
+-- that line
 abbrev pub end_place : List Arrow → ℕ → ℕ
 end_place arrows line = row_place (row_of arrows line) + 7
 
@@ -51,75 +53,84 @@ is_down (control.B x) = true
 is_down (control.D x) = true
 is_down _ = false
 
--- how far from the client's lifeline the bracket of a message stands
+-- the distance of a message's bracket from the client's lifeline
 abbrev pub bracket_width : Control → ℕ
 bracket_width (control.A x) = 5
 bracket_width (control.C x) = 8
 bracket_width _ = 11
 
--- the class that has the colour: of the channel, or of the beat at fault
+-- the class for the colour: of the channel, or of the beat at fault
 abbrev pub colour_class : ℕ → Arrow → List ℕ
 colour_class fault m = if m.first == fault then codes "X" else letter (channel_in m.control)
 
--- that of dashes, before the window
+-- the class for dashes, of a message that begins before the window
 abbrev pub dash_class : ℕ → Arrow → List ℕ
 dash_class first m = if nat_lt m.first first then codes " o" else []
 
+-- the beginning of a message's group, with its classes
 unfoldable pub class_text : ℕ → ℕ → Arrow → List ℕ
 class_text first fault m = codes "<g class='" ++ colour_class fault m ++ dash_class first m ++ codes "'>\n"
 
--- the number of the first line, and the words
+-- the number of the first line, and the words of the message
 unfoldable pub number_text : ℕ → ℕ → List ℕ
 number_text y line = codes "<text class='n' x='60' y='" ++ decimal (y + 4) ++ codes "'>" ++ decimal line
 
+-- the words of the message
 unfoldable pub told_text : ℕ → Arrow → List ℕ
 told_text y m =
     codes "</text><text x='70' y='" ++ decimal (y + 4) ++ codes "'>" ++ escaped (words_of m) ++ codes "</text>\n"
 
+-- the row of a message: the number of its first line, and its words
 unfoldable pub row_text : ℕ → Arrow → List ℕ
 row_text y m = number_text y m.first ++ told_text y m
 
--- the shaft of the arrow, and a point where it begins
+-- the shaft of the arrow, and a point at its start
 unfoldable pub shaft_text : ℕ → ℕ → ℕ → List ℕ
 shaft_text from to y = codes "<path d='M" ++ decimal from ++ codes " " ++ decimal y ++ codes "H" ++ decimal to
 
+-- the place of that point
 unfoldable pub point_place : ℕ → ℕ → List ℕ
 point_place x y = codes "'/><circle cx='" ++ decimal x ++ codes "' cy='" ++ decimal y
 
+-- that point
 unfoldable pub point_text : ℕ → ℕ → List ℕ
 point_text x y = point_place x y ++ codes "' r='2.5'/>"
 
--- its tip, which points to the left or to the right
+-- the tip of the arrow, which points to the left or to the right
 abbrev pub strokes : Bool → List ℕ
 strokes true = codes "m7 -4l-7 4l7 4"
 strokes false = codes "m-7 -4l7 4l-7 4"
 
+-- the tip at the end of the arrow
 unfoldable pub tip_text : ℕ → ℕ → ℕ → List ℕ
 tip_text from to y =
     codes "<path class='s' d='M" ++ decimal to ++ codes " " ++ decimal y ++ strokes (nat_lt to from) ++ codes "'/>\n"
 
+-- the arrow: shaft, point and tip
 unfoldable pub line_text : ℕ → ℕ → ℕ → List ℕ
 line_text from to y = shaft_text from to y ++ point_text from y ++ tip_text from to y
 
--- of a message between the client's lifeline at x and the manager's
+-- the arrow of a message, between the client's lifeline at x and the manager's
 unfoldable pub across_text : Arrow → ℕ → ℕ → List ℕ
 across_text m x y = if is_down m.control then line_text manager_place x y else line_text x manager_place y
 
--- the bracket down to the last beat, open where beats are missing
+-- the bracket down to the last beat; it stays open if beats are missing
 unfoldable pub close_text : Arrow → List ℕ
 close_text m = if m.complete then codes "h" ++ decimal (bracket_width m.control) else []
 
+-- the side of the bracket
 unfoldable pub side_text : ℕ → ℕ → ℕ → List ℕ
 side_text x from to = codes "<path d='M" ++ decimal x ++ codes " " ++ decimal from ++ codes "V" ++ decimal to
 
+-- the bracket: its side, and its last stroke if the message is complete
 unfoldable pub bracket_text : Arrow → ℕ → ℕ → ℕ → List ℕ
 bracket_text m x from to = side_text (x - bracket_width m.control) from to ++ close_text m ++ codes "'/>\n"
 
--- the extent of a message that has more than one beat: its bracket
+-- the bracket of a message with more than one beat
 unfoldable pub extent_text : List Arrow → Arrow → ℕ → ℕ → List ℕ
 extent_text arrows m x y = if nat_lt m.first m.last then bracket_text m x y (end_place arrows m.last) else []
 
--- what is drawn of a message: its row, its arrow, its bracket
+-- the drawing of a message: its row, its arrow, its bracket
 unfoldable pub arrow_text : List Arrow → List ℕ → ℕ → ℕ → Arrow → List ℕ
 arrow_text arrows links first fault m =
     class_text first fault m ++ row_text (row_place (row_of arrows m.first)) m
@@ -137,42 +148,46 @@ unfoldable pub said_text : ℕ → List ℕ → List ℕ
 said_text y text =
     codes "<text class='v' x='70' y='" ++ decimal y ++ codes "'>" ++ escaped text ++ codes "</text>\n"
 
--- red where a line is at fault
+-- the class for red, if a line is at fault
 abbrev pub verdict_class : Bool → List ℕ
 verdict_class true = codes "X"
 verdict_class false = codes "v"
 
+-- the text of the verdict
 unfoldable pub verdict_text : ℕ → Bool → List ℕ → List ℕ
 verdict_text y broken text =
     codes "<g class='" ++ verdict_class broken ++ codes "'>\n" ++ said_text y text ++ codes "</g>\n"
 
--- ---- what is held
+-- ---- the permissions held
 
 -- a bar of a class beside a lifeline, between two places from above
 unfoldable pub bar_class : List ℕ → List ℕ
 bar_class class = codes "<rect class='" ++ class ++ codes "'"
 
+-- the class of a bar, and its place beside a lifeline
 unfoldable pub bar_side : List ℕ → ℕ → List ℕ
 bar_side class x = bar_class class ++ codes " x='" ++ decimal (x + 4)
 
+-- the place and height of a bar
 unfoldable pub bar_size : ℕ → ℕ → List ℕ
 bar_size from to =
     codes "' y='" ++ decimal from ++ codes "' width='6' height='" ++ decimal (to - from) ++ codes "'/>\n"
 
+-- a bar of a class beside a lifeline, between two places from the top
 unfoldable pub bar_of : List ℕ → ℕ → ℕ → ℕ → List ℕ
 bar_of class x from to = bar_side class x ++ bar_size from to
 
--- that of what is held, a reader's or a writer's, where something is held
+-- the bar of a permission, Branch or Trunk; there is none for None
 unfoldable pub bar_text : Perm → ℕ → ℕ → ℕ → List ℕ
 bar_text perm.None x from to = []
 bar_text perm.Branch x from to = bar_of (codes "r") x from to
 bar_text perm.Trunk x from to = bar_of (codes "w") x from to
 
--- where what is held changes: at the top where it did before the window
+-- the place at which the permission changes; the top if that was before the window
 unfoldable pub mark_place : List Arrow → ℕ → Mark → ℕ
 mark_place arrows first mark = if nat_lt mark.line first then row_place 0 else end_place arrows mark.line
 
--- the bars of a link at x, which holds this from a place on, down to the bottom
+-- the bars of a link at x, which holds this permission from a place on, down to the bottom
 unfoldable pub bars_text : List Arrow → ℕ → ℕ → ℕ → ℕ → Perm → ℕ → List Mark → List ℕ
 bars_text arrows first bottom link x held from [] = bar_text held x from bottom
 bars_text arrows first bottom link x held from (m ∷ marks) =

@@ -1,4 +1,4 @@
--- A message in words, and text as it stands in SVG.
+-- A message in words, and text for SVG.
 use Rattle.std.specs.Prelude.{ℕ, Bool, List, [], ◌∷◌, ◌++◌, ◌==◌, codes, if◌then◌else◌, nat_le, nat_lt, Option}
 use Rattle.std.specs.Prelude.{Some, None}
 use Rattle.std.specs.Fmt.{decimal}
@@ -9,16 +9,16 @@ use Rattle.tl_beat.specs.statement.Digits.{digits}
 use Rattle.tl_beat.specs.statement.Line.{letter}
 use Rattle.tl_beat.specs.statement.Names.{a_name, b_name, c_name, d_name}
 use Rattle.tl_chart.specs.declared.arrow.Arrow.{Arrow}
-use Rattle.tl_explain.specs.code.Recorded.{channel_in}
+use Rattle.tl_chart.specs.statement.Messages.{channel_in}
 use Rattle.tl_explain.specs.statement.ParamNames.{a_param_name, b_param_name, c_param_name, d_param_name}
 use Rattle.tl_rules.specs.statement.History.{is_grant}
 
--- a byte so that it stands in SVG as it is
+-- a byte, escaped for SVG
 abbrev pub escaped_byte : ℕ → List ℕ
 escaped_byte c = if c == 38 then codes "&amp;" else if c == 60 then codes "&lt;" else if c == 62 then codes "&gt;" else
     c ∷ []
 
--- bytes so that they stand in SVG as they are
+-- bytes, escaped for SVG
 abbrev pub escaped : List ℕ → List ℕ
 escaped bytes = flat_map escaped_byte bytes
 
@@ -30,7 +30,7 @@ message_name (control.C x) = c_name x.opcode
 message_name (control.D x) = d_name x.opcode
 message_name (control.E x) = codes "GrantAck"
 
--- the name of its param, where it has one
+-- the name of the message's param, if it has one
 abbrev pub message_param : Control → Option (List ℕ)
 message_param (control.A x) = a_param_name x.opcode x.param
 message_param (control.B x) = b_param_name x.opcode x.param
@@ -38,26 +38,29 @@ message_param (control.C x) = c_param_name x.opcode x.param
 message_param (control.D x) = d_param_name x.opcode x.param
 message_param (control.E x) = None
 
--- a word behind a space, where there is one
+-- a word after a space, if there is one
 abbrev pub word_text : Option (List ℕ) → List ℕ
 word_text None = []
 word_text (Some word) = codes " " ++ word
 
--- the number of a block in three digits, or in seven where it has more
+-- the number of a block in three digits, or in seven if it needs more
 abbrev pub block_digits : ℕ → List ℕ
 block_digits k = if nat_lt k 4096 then digits 3 k else digits 7 k
 
+-- the block, if there is one
 unfoldable pub block_text : Option ℕ → List ℕ
 block_text None = []
 block_text (Some k) = codes " block " ++ block_digits k
 
+-- the source
 unfoldable pub source_text : ℕ → List ℕ
 source_text s = codes " source " ++ digits 2 s
 
+-- the sink
 unfoldable pub sink_text : ℕ → List ℕ
 sink_text s = codes " sink " ++ digits 2 s
 
--- source and sink, where the message has them
+-- source and sink, if the message has them
 unfoldable pub ends_text : Control → List ℕ
 ends_text (control.A x) = source_text x.source
 ends_text (control.B x) = []
@@ -65,11 +68,11 @@ ends_text (control.C x) = source_text x.source
 ends_text (control.D x) = if is_grant x.opcode then source_text x.source ++ sink_text x.sink else source_text x.source
 ends_text (control.E x) = sink_text x
 
--- how many beats the message has, where it has more than one
+-- the number of beats of the message, if it is more than one
 unfoldable pub count_text : ℕ → List ℕ
 count_text beats = if nat_le beats 1 then [] else codes " " ++ decimal beats ++ codes " beats"
 
--- and whether some are missing
+-- the same, and whether beats are missing
 unfoldable pub beats_text : ℕ → Bool → List ℕ
 beats_text beats complete = count_text beats ++ (if complete then [] else codes ", not all")
 

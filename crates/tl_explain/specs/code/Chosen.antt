@@ -1,4 +1,4 @@
--- Which reason is chosen, by what a recorder keeps.
+-- Which reason is chosen, by the state of a recorder.
 use Rattle.std.specs.Prelude.{ℕ, Bool, true, false, not, ◌==◌, ◌&&◌, if◌then◌else◌, Option, Some, None, is_none}
 use Rattle.tl_beat.specs.declared.beat.Beat.{Beat}
 use Rattle.tl_beat.specs.declared.beat.Beat.TheVariants as beat
@@ -62,7 +62,7 @@ abbrev pub missing_by : Key → Option Told → Option Told → Option Told → 
 missing_by k None closing pending b = Some (Never k)
 missing_by k (Some opening) closing pending b = opened_by k opening closing pending b
 
--- where the key is pending, and where no complete message has it pending
+-- if the key is pending, and if no complete message has it pending
 abbrev pub where_pending : Key → Turn → Option Reason
 where_pending k turn = pending_by k (open_message turn)
 
@@ -73,12 +73,12 @@ where_missing k turn b = missing_by k turn.opening turn.closing (open_message tu
 abbrev pub awaited : Liberties → Option Begun → Option Begun
 awaited l b = if l.early then None else b
 
--- where what is held doesn't fit
+-- if what is held doesn't fit
 abbrev pub unless_held : Bool → Held → Option Reason
 unless_held true h = None
 unless_held false h = Some (Holds h)
 
--- where the request that is pending is answered otherwise
+-- if the request that is pending is answered otherwise
 abbrev pub kind_in : {w : ℕ} → BeatD w → Told → Control → Option Reason
 kind_in x m (control.A r) = if answers x.opcode r.opcode then None else Some (OtherKind m)
 kind_in x m _ = None
@@ -87,7 +87,7 @@ abbrev pub kind_by : {w : ℕ} → BeatD w → Option Told → Option Reason
 kind_by x None = None
 kind_by x (Some m) = kind_in x m m.mention.control
 
--- where the request or Release that is pending has another size
+-- if the request or Release that is pending has another size
 abbrev pub size_in : {w : ℕ} → BeatD w → Told → Control → Option Reason
 size_in x m (control.A r) = if x.size == r.size then None else Some (OtherSize m)
 size_in x m (control.C r) = if x.size == r.size then None else Some (OtherSize m)
@@ -97,7 +97,7 @@ abbrev pub size_by : {w : ℕ} → BeatD w → Option Told → Option Reason
 size_by x None = None
 size_by x (Some m) = size_in x m m.mention.control
 
--- where a Grant isn't one for the request that is pending
+-- if a Grant isn't one for the request that is pending
 abbrev pub probed_by : Told → Option Told → Option Reason
 probed_by m None = None
 probed_by m (Some probe) = Some (Probed m probe)
@@ -114,7 +114,7 @@ abbrev pub grant_by : {w : ℕ} → Liberties → BeatD w → Option Told → Re
 grant_by l x None r = None
 grant_by l x (Some m) r = grant_in l x m m.mention.control r
 
--- where the Probe that is pending has another source, or asks for no data, and is answered with some
+-- if the Probe that is pending has another source, or asks for no data, and is answered with some
 abbrev pub probe_in : {w : ℕ} → Liberties → BeatC w → Told → Control → Option Reason
 probe_in l x m (control.B y) =
     if l.ids && not (x.source == y.source) then Some (OtherSource m) else
@@ -125,7 +125,7 @@ abbrev pub probe_by : {w : ℕ} → Liberties → BeatC w → Turn → Option To
 probe_by l x turn None = where_missing (ProbeOf (block_at x.address)) turn None
 probe_by l x turn (Some m) = probe_in l x m m.mention.control
 
--- where the report to the Probe that is pending is another
+-- if the report to the Probe that is pending is another
 abbrev pub report_in : {w : ℕ} → Liberties → BeatC w → Told → Control → Held → Option Reason
 report_in l x m (control.B y) h = if is_misreport l x.param y.param h.perm then Some (Misreport m h) else None
 report_in l x m _ h = None
@@ -202,7 +202,7 @@ for_message l rule (beat.C x) r = for_message_c l rule x r
 for_message l rule (beat.D x) r = for_answer l rule x r
 for_message l rule (beat.E x) r = for_acknowledgement l rule x r
 
--- where a beat doesn't continue the burst on its channel
+-- if a beat doesn't continue the burst on its channel
 abbrev pub differs_by : {w : ℕ} → Beat w → Option Begun → Option Reason
 differs_by x None = None
 differs_by x (Some b) = if has_control x b.newest then None else Some (Differs b)

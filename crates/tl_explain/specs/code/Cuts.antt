@@ -5,7 +5,7 @@ use Rattle.std.specs.Prelude.{unwrap_or, slice_index, slice_range, ◌≤◌, Op
 use Rattle.tl_explain.specs.declared.columns.TheConstants.{FIRST_FIELD, PARAM, SIZE, SOURCE, ADDRESS, BEHIND_ADDRESS}
 use Rattle.tl_explain.specs.declared.columns.TheConstants.{SINK, DENIED, BEHIND_DENIED, CORRUPT, DATA_END}
 
--- 2 to 13 bytes, where there are some
+-- 2 to 13 bytes, if there are some
 abbrev pub IsShort : Option (List ℕ) → Type 0
 IsShort None = ⊤
 IsShort (Some name) = (2 ≤ length name) × (length name ≤ 13)

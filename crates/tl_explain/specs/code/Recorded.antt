@@ -3,11 +3,8 @@ use Rattle.std.specs.Prelude.{ℕ, Bool, false, not, ◌&&◌, List, [], ◌∷�
 use Rattle.std.specs.Prelude.{◌-◌, ◌≡◌, if◌then◌else◌, length, Option, Some, None}
 use Rattle.tl_beat.specs.declared.beat.Beat.{Beat}
 use Rattle.tl_beat.specs.declared.beat.Beat.TheVariants as beat
-use Rattle.tl_beat.specs.declared.beat.BeatA.{BeatA}
-use Rattle.tl_beat.specs.declared.beat.BeatC.{BeatC}
 use Rattle.tl_beat.specs.declared.beat.Link.{Link}
 use Rattle.tl_beat.specs.declared.channel.Channel.{Channel}
-use Rattle.tl_beat.specs.declared.channel.Channel.TheVariants as channel
 use Rattle.tl_burst.specs.statement.Messages.{History, burst_length, channel_of, unfinished}
 use Rattle.tl_burst.specs.statement.Part.{is_small}
 use Rattle.tl_params.specs.declared.key.Key.{Key}
@@ -15,7 +12,7 @@ use Rattle.tl_params.specs.declared.key.Key.TheVariants.{RequestSource, ReleaseS
 use Rattle.tl_params.specs.declared.key.Key.TheVariants.{ReleaseOf, GrantSink, GrantAckOf, ProbeOf}
 use Rattle.tl_rules.specs.statement.Conformance.{Trace, on_link}
 use Rattle.tl_rules.specs.statement.History.{begins, ends, block_at, is_grant}
-use Rattle.tl_rules.specs.statement.History.{is_release, is_release_ack, request_of, release_of}
+use Rattle.tl_rules.specs.statement.History.{is_release, request_of, release_of}
 use Rattle.tl_rules.specs.statement.Liberties.{held_under}
 use Rattle.tl_params.specs.declared.liberties.Liberties.{Liberties}
 use Rattle.tl_params.specs.statement.Liberties.{no_liberties}
@@ -36,22 +33,16 @@ use Rattle.tl_explain.specs.declared.turns.Turns.{Turns}
 use Rattle.tl_explain.specs.declared.recorder.Recorder.{Recorder}
 use Rattle.tl_explain.specs.statement.Evidence.{told, is_open, last_opening, last_closing}
 use Rattle.tl_explain.specs.statement.Evidence.{last_saying_under, burst_opening, mention_of}
+pub use Rattle.tl_explain.specs.statement.Subject.{block_asked, block_released, block_of}
 
 -- ---- bursts
 
-abbrev pub channel_in : Control → Channel
-channel_in (control.A x) = channel.A
-channel_in (control.B x) = channel.B
-channel_in (control.C x) = channel.C
-channel_in (control.D x) = channel.D
-channel_in (control.E x) = channel.E
-
--- what is told of a burst, where one is unfinished
+-- the record of a burst, if one is unfinished
 abbrev pub begun_by : Option (Unfinished Moment) → Option Begun
 begun_by None = None
 begun_by (Some u) = Some (record { first = u.beside.told; newest = u.control; came = u.beside.length - u.left })
 
--- what is told of the burst on a channel
+-- the record of the burst on a channel
 abbrev pub begun_on : Recorder → Channel → Option Begun
 begun_on r ch = begun_by (burst_on r.bursts ch)
 
@@ -72,23 +63,6 @@ is_number n (Some m) = m == n
 abbrev pub sink_by : Control → Option ℕ
 sink_by (control.D x) = Some x.sink
 sink_by _ = None
-
-abbrev pub block_asked : {w : ℕ} → Option (BeatA w) → Option ℕ
-block_asked None = None
-block_asked (Some x) = Some (block_at x.address)
-
-abbrev pub block_released : {w : ℕ} → Option (BeatC w) → Option ℕ
-block_released None = None
-block_released (Some x) = Some (block_at x.address)
-
--- the block of a beat's message; for an answer that of the request or Release
-abbrev pub block_of : {w : ℕ} → Beat w → History w → Option ℕ
-block_of (beat.A x) t = Some (block_at x.address)
-block_of (beat.B x) t = Some (block_at x.address)
-block_of (beat.C x) t = Some (block_at x.address)
-block_of (beat.D x) t = if is_release_ack x.opcode then block_released (release_of x.source t) else block_asked
-    (request_of x.source t)
-block_of (beat.E x) t = None
 
 -- the block of the last request with this source, and of the last Release, with one more beat
 abbrev pub asked_next : {w : ℕ} → Bool → Beat w → ℕ → Option ℕ → Option ℕ
@@ -111,7 +85,7 @@ abbrev pub sink_in : Option Told → Option ℕ
 sink_in None = None
 sink_in (Some m) = sink_by m.mention.control
 
--- the message that opened the key, where none has closed it
+-- the message that opened the key, if none has closed it
 abbrev pub open_message : Turn → Option Told
 open_message turn = if is_open (mention_of turn.opening) (mention_of turn.closing) then turn.opening else None
 
@@ -120,7 +94,7 @@ pub record IsTurn {w : ℕ} (turn : Turn) (n : ℕ) (k : Key) (t : Trace w) : Ty
   pub opening_is : mention_of turn.opening ≡ last_opening n k t
   pub closing_is : mention_of turn.closing ≡ last_closing n k t
 
--- the moment is that of the beat x of link n behind t
+-- the moment is that of the beat x of link n after t
 pub record IsMoment {w : ℕ} (m : Moment) (n : ℕ) (x : Link × Beat w) (t : Trace w) : Type 0 where
   pub told_is : m.told.mention ≡ told x t
   pub length_is : m.length ≡ burst_length x.1

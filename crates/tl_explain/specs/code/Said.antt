@@ -1,4 +1,4 @@
--- What is said of a rule of memory.
+-- The explanation of a rule of memory.
 use Rattle.std.specs.Prelude.{◌≡◌}
 use Rattle.tl_params.specs.declared.memory_rule.MemoryRule.{MemoryRule}
 use Rattle.tl_explain.specs.declared.memory.Explanation.{Explanation}

@@ -1,4 +1,4 @@
--- What a message that is complete with a beat says of what is held of a block, by what a recorder keeps.
+-- The permission of a block that a message leaves which is complete with a beat, by the state of a recorder.
 use Rattle.std.specs.Prelude.{ℕ, Bool, not, ◌==◌, ◌&&◌, ◌||◌, if◌then◌else◌, Option, Some, None, is_none}
 use Rattle.tl_beat.specs.declared.beat.Beat.{Beat}
 use Rattle.tl_beat.specs.declared.beat.Beat.TheVariants as beat
@@ -21,7 +21,7 @@ use Rattle.tl_explain.specs.declared.told.Told.{Told}
 use Rattle.tl_explain.specs.declared.turns.Moment.{Moment}
 use Rattle.tl_explain.specs.code.Recorded.{begun_on, is_number, open_message, sink_in}
 
--- what is said by the burst that isn't complete, if there is one
+-- the same for the burst that isn't complete, if there is one
 abbrev pub said_by_burst : (Control → Option Perm) → Option Begun → Option Perm
 said_by_burst says None = None
 said_by_burst says (Some b) = says b.newest

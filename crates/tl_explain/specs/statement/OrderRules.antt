@@ -1,4 +1,4 @@
--- The rules of order under liberties, each by itself.
+-- Each rule of order by itself, under liberties.
 use Rattle.std.specs.Prelude.{Bool, true, false, not, List, [], ◌∷◌, ◌≡◌, ◌==◌, ◌&&◌, ◌||◌, Option, None, ℕ}
 use Rattle.tl_beat.specs.declared.beat.Beat.{Beat}
 use Rattle.tl_beat.specs.declared.beat.Beat.TheVariants as beat
@@ -16,8 +16,7 @@ use Rattle.tl_rules.specs.statement.History.{pending, probe_of, request_of}
 use Rattle.tl_rules.specs.statement.Liberties.{grows_from_under, has_other_source, has_request_under, held_under}
 use Rattle.tl_rules.specs.statement.Liberties.{misgrants_under, misreports_under, releases_from}
 
--- a beat breaks the rule of order after the history t of its link, which has these liberties; the H rules judge a
--- message at its first beat
+-- The beat breaks this rule of order after the history t of its link. An H rule judges a beat that begins a message.
 abbrev pub breaks_at_first_under : {w : ℕ} → Liberties → Rule → Beat w → History w → Bool
 breaks_at_first_under l H1 (beat.A x) t = pending (RequestSource x.source) t
 breaks_at_first_under l H1 (beat.C x) t = is_release x.opcode && pending (ReleaseSource x.source) t
@@ -50,7 +49,7 @@ breaks_at_first_under _ _ _ _ = false
 abbrev pub order_rules : List Rule
 order_rules = H1 ∷ H2 ∷ H3 ∷ H4 ∷ H5 ∷ H6 ∷ H7 ∷ H8 ∷ H9 ∷ H10 ∷ H11 ∷ H12 ∷ H13 ∷ []
 
--- the first of these rules that is broken
+-- the first of these rules for which the test is true
 abbrev pub first_by : (Rule → Bool) → List Rule → Option Rule
 first_by breaks [] = None
 first_by breaks (rule ∷ rules) = first_if (breaks rule) rule (first_by breaks rules)
@@ -59,10 +58,11 @@ first_by breaks (rule ∷ rules) = first_if (breaks rule) rule (first_by breaks 
 abbrev pub first_broken_under : {w : ℕ} → Liberties → List Rule → Beat w → History w → Option Rule
 first_broken_under l rules x t = first_by (λ rule. breaks_at_first_under l rule x t) rules
 
--- a beat breaks the rule of order, an H rule where it begins a message, of which these are broken, and S1 where it doesn't
+-- the beat breaks the rule: an H rule for which the test is true, if it begins a message, otherwise S1
 abbrev pub BreaksBy : {w : ℕ} → (Rule → Bool) → Rule → Beat w → History w → Type 0
 BreaksBy breaks S1 x t = (begins x t ≡ false) × (breaks_burst x (unfinished (channel_of x) t) ≡ true)
 BreaksBy breaks rule x t = (begins x t ≡ true) × (breaks rule ≡ true)
 
+-- the beat breaks the rule of order after the history t of its link, which has these liberties
 abbrev pub BreaksUnder : {w : ℕ} → Liberties → Rule → Beat w → History w → Type 0
 BreaksUnder l rule x t = BreaksBy (λ r. breaks_at_first_under l r x t) rule x t

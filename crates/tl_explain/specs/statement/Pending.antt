@@ -1,4 +1,4 @@
--- In which order what is pending at the end of a trace is told.
+-- The order in which the messages pending at the end of a trace are listed.
 use Rattle.std.specs.Prelude.{◌≡◌, ◌⊎◌, ℕ, zero, suc, Bool, true, not, ◌&&◌, ◌||◌, ◌==◌, nat_lt, List, [], ◌∷◌, ◌++◌}
 use Rattle.std.specs.Prelude.{length, if◌then◌else◌, ◌-◌, Option, Some, None, codes}
 use Rattle.std.specs.List.{AllPass, Contains}
@@ -6,7 +6,7 @@ use Rattle.std.specs.Fmt.{decimal}
 use Rattle.tl_beat.specs.declared.beat.Beat.{Beat}
 use Rattle.tl_beat.specs.declared.beat.Link.{Link}
 use Rattle.tl_beat.specs.statement.Line.{Spells}
-use Rattle.tl_explain.specs.code.Spelled.{spelled}
+use Rattle.tl_explain.specs.statement.Spelled.{spelled}
 use Rattle.tl_explain.specs.declared.ledger.Kind.{Kind}
 use Rattle.tl_explain.specs.declared.ledger.Kind.TheVariants.{Request, Release, Grant, Probe, Burst}
 use Rattle.tl_explain.specs.declared.ledger.Pending.{Pending}
@@ -14,7 +14,7 @@ use Rattle.tl_explain.specs.statement.Sentences.{beat_line}
 
 -- ---- the order
 
--- in one line a burst stands behind what its first beat has opened
+-- the order of entries with the same line: a burst comes after the message that its first beat began
 abbrev pub rank : Kind → ℕ
 rank Request = 0
 rank Release = 1
@@ -22,18 +22,18 @@ rank Grant = 2
 rank Probe = 3
 rank Burst = 4
 
--- one message stands before another: in an earlier line, or in the same line by its kind
+-- one message comes before the other: its line is earlier, or in the same line its kind comes first
 abbrev pub is_before : Pending → Pending → Bool
 is_before one other =
     nat_lt one.opening.line other.opening.line
     || ((one.opening.line == other.opening.line) && nat_lt (rank one.kind) (rank other.kind))
 
--- a message stands behind this one, where there is one
+-- the message comes after this one, if there is one
 abbrev pub is_behind : Option Pending → Pending → Bool
 is_behind None message = true
 is_behind (Some after) message = is_before after message
 
--- the oldest of these messages that stand behind this one: none where none does
+-- the oldest of these messages that come after this one; None if there is none
 abbrev pub IsNext : List Pending → Option Pending → Option Pending → Type 0
 IsNext pending after None = AllPass (λ message. not (is_behind after message)) pending
 IsNext pending after (Some next) =
@@ -42,7 +42,7 @@ IsNext pending after (Some next) =
 
 -- ---- the text
 
--- what a message that is pending waits for
+-- the answer that a pending message lacks
 abbrev pub missing : Kind → List ℕ
 missing Request = codes "a request without an answer"
 missing Release = codes "a Release without ReleaseAck"
@@ -50,17 +50,17 @@ missing Grant = codes "a Grant without GrantAck"
 missing Probe = codes "a Probe without ProbeAck"
 missing Burst = codes "a burst that isn't complete"
 
--- what it waits for, and the beat that opened it
+-- that answer, and the beat that began the message
 unfoldable pub pending_text : {w : ℕ} → Pending → Link → Beat w → List ℕ
 pending_text message link beat =
     codes "  " ++ missing message.kind ++ codes ":\n" ++ beat_line message.opening.line link beat
 
--- a text grows by what is told of a message, whose line spells a beat of w bytes
+-- the text for one message is appended; its line spells a beat of w bytes
 abbrev pub TellsOne : ℕ → Pending → List ℕ → List ℕ → Type 0
 TellsOne w message old new = (link : Link) (beat : Beat w) → Spells (spelled message.opening.spelling) link beat
     → new ≡ old ++ pending_text message link beat
 
--- a text grows by the oldest of these messages that stand behind this one, each before the next, up to so many
+-- the texts of at most n messages are appended: of the oldest after this one, each before the next
 unfoldable pub TellsOldest : ℕ → List Pending → Option Pending → ℕ → List ℕ → List ℕ → Type 0
 TellsOldest w pending after zero old new = new ≡ old
 TellsOldest w pending after (suc n) old new =
@@ -68,15 +68,15 @@ TellsOldest w pending after (suc n) old new =
     ⊎ ((next : Pending) × (mid : List ℕ) × IsNext pending after (Some next) × TellsOne w next old mid
     × TellsOldest w pending (Some next) n mid new)
 
--- how many are pending
+-- the number of pending messages
 unfoldable pub pending_heading : ℕ → List ℕ
 pending_heading count = codes "  pending at the end: " ++ decimal count ++ codes ", the oldest first\n"
 
--- how many more there are than the 20 that are told of
+-- the number of messages after the 20 that are listed
 unfoldable pub pending_rest : ℕ → List ℕ
 pending_rest count = if nat_lt 20 count then codes "  and " ++ decimal (count - 20) ++ codes " more\n" else []
 
--- a text grows by what is told of these messages: how many they are, the oldest 20, and how many more there are
+-- the text for these messages is appended: their number, the oldest 20, and the number of the others
 abbrev pub TellsPending : ℕ → List Pending → List ℕ → List ℕ → Type 0
 TellsPending w [] old new = new ≡ old ++ codes "  nothing is pending at the end\n"
 TellsPending w (message ∷ more) old new =

@@ -1,4 +1,4 @@
--- What a reason tells of a trace, and which rule a beat breaks by what is told.
+-- The claims of a reason about a trace, and the rule that a beat breaks by them.
 use Rattle.std.specs.Prelude.{ℕ, Bool, true, false, not, List, ◌∷◌, ◌≡◌, ◌==◌, ◌&&◌, ⊤, if◌then◌else◌, length}
 use Rattle.std.specs.Prelude.{Option, Some, None, IfSome}
 use Rattle.tl_beat.specs.declared.beat.Beat.{Beat}
@@ -43,19 +43,19 @@ use Rattle.tl_explain.specs.statement.Evidence.{mention_of}
 use Rattle.tl_explain.specs.statement.OrderRules.{BreaksUnder, first_broken_under}
 use Rattle.tl_explain.specs.statement.Since.{IsBurstSince, IsClosedBy, IsHeldSinceUnder, IsNeverOpened, IsPendingSince}
 
--- ---- the rules of order, each by itself, on a link of a profile
+-- ---- each rule of order by itself, on a link of a profile
 
 -- the first of these rules that the beat breaks
 abbrev pub first_broken : {w : ℕ} → Profile → List Rule → Beat w → History w → Option Rule
 first_broken p rules x t = first_broken_under (liberties_of p) rules x t
 
--- the beat breaks the rule of order after the history t, an H rule where it begins a message and S1 where it doesn't
+-- the beat breaks the rule of order after the history t: an H rule if it begins a message, otherwise S1
 abbrev pub Breaks : {w : ℕ} → Profile → Rule → Beat w → History w → Type 0
 Breaks p rule x t = BreaksUnder (liberties_of p) rule x t
 
--- ---- what is told of a trace
+-- ---- the claims about a trace
 
--- the key that the answer of a message closes, where an answer tells of its own source or block
+-- the key that the answer to a message closes, if that key has the source or block of the message
 abbrev pub answer_key : Control → Option Key
 answer_key (control.A x) = Some (RequestSource x.source)
 answer_key (control.B x) = Some (ProbeOf (block_at x.address))
@@ -63,11 +63,11 @@ answer_key (control.C x) = Some (ReleaseSource x.source)
 answer_key (control.D x) = None
 answer_key (control.E sink) = None
 
--- the message that is told of has no answer yet
+-- the cited message has no answer yet
 abbrev pub IsUnanswered : {w : ℕ} → ℕ → Mention → Trace w → Type 0
 IsUnanswered n m t = (k : Key) × (answer_key m.control ≡ Some k) × IsPendingSince n k m t
 
--- the block that a message names
+-- the block of a message, by its address
 abbrev pub block_named : Control → Option ℕ
 block_named (control.A x) = Some (block_at x.address)
 block_named (control.B x) = Some (block_at x.address)
@@ -75,8 +75,7 @@ block_named (control.C x) = Some (block_at x.address)
 block_named (control.D x) = None
 block_named (control.E sink) = None
 
--- what is told as held of the block that this message names is held by link n, which has these liberties, and since that
--- message
+-- link n, which has these liberties, holds this permission of the block of this message, since the cited message
 abbrev pub IsHeldOf : {w : ℕ} → Liberties → ℕ → Control → Held → Trace w → Type 0
 IsHeldOf l n c h t = (k : ℕ) × (block_named c ≡ Some k) × IsHeldSinceUnder l n k h.perm (mention_of h.since) t
 
@@ -97,21 +96,22 @@ comes_in (ReleaseSource s) burst = comes_in_release s burst
 comes_in (GrantSink s) burst = comes_in_grant s burst
 comes_in _ burst = false
 
--- of the message that opened the key, which is told of, so many beats have come, and not all: a burst is unfinished
--- that began in its line, the newest beat of which opens the key as well
+-- The cited message opened the key and is unfinished, and `came` of its beats have come: an unfinished burst began in
+-- its line, and its newest beat is of a message that opens the key.
 abbrev pub IsUnfinished : {w : ℕ} → ℕ → Key → Mention → ℕ → Trace w → Type 0
 IsUnfinished {w} n k m came t =
     (burst : List (Beat w)) × (first : Mention) × IsBurstSince n (opening_channel k) burst first t
     × (first.line ≡ m.line)
     × (came ≡ length burst) × (comes_in k burst ≡ true)
 
--- of the burst on a channel, the first beat of which is told of, so many beats have come, this one the newest
+-- the cited beat is the first of the unfinished burst on a channel, `came` beats of it have come, and this is the
+-- newest
 abbrev pub IsGoingOn : {w : ℕ} → ℕ → Channel → Mention → Control → ℕ → Trace w → Type 0
 IsGoingOn {w} n ch m c came t =
     (newest : Beat w) × (others : List (Beat w)) × IsBurstSince n ch (newest ∷ others) m t
     × (came ≡ length (newest ∷ others)) × (c ≡ control_of newest)
 
--- what a reason tells is so, of the beats t before the beat x of link n, which has these liberties
+-- the claim of the reason is true of the trace t before the beat x of link n, which has these liberties
 abbrev pub IsToldUnder : {w : ℕ} → Liberties → ℕ → Beat w → Reason → Trace w → Type 0
 IsToldUnder l n x (Pending k m) t = IsPendingSince n k m.mention t
 IsToldUnder l n x (Never k) t = IsNeverOpened n k t
@@ -129,22 +129,22 @@ IsToldUnder l n x (WrongProbe probe) t = IsUnanswered n probe.mention t
 IsToldUnder l n x (Misreport probe h) t = IsUnanswered n probe.mention t × IsHeldOf l n probe.mention.control h t
 IsToldUnder l n x (Differs b) t = IsGoingOn n (channel_of x) b.first.mention b.newest b.came t
 
--- the beat begins a message, where the reason is one of the order of messages
+-- the beat begins a message, for a reason about the order of messages
 abbrev pub is_of_messages : Reason → Bool
 is_of_messages (Differs b) = false
 is_of_messages _ = true
 
--- the evidence: what the reason tells is so
+-- the evidence: the claim of the reason is true
 abbrev pub IsEvidenceUnder : {w : ℕ} → Liberties → ℕ → Beat w → Reason → Trace w → Type 0
 IsEvidenceUnder l n x reason t = (begins x (on_link n t) ≡ is_of_messages reason) × IsToldUnder l n x reason t
 
--- the same on a link without liberties, and on one of either profile
+-- the same on a link without liberties, and so of either profile
 abbrev pub IsEvidence : {w : ℕ} → ℕ → Beat w → Reason → Trace w → Type 0
 IsEvidence n x reason t = IsEvidenceUnder no_liberties n x reason t
 
--- ---- the rule that a beat breaks, by what is told and nothing else
+-- ---- the rule that a beat breaks, by the reason and nothing else
 
--- a key is pending that the beat wants free
+-- the rule that the beat breaks since this key is pending
 abbrev pub rule_of_pending : {w : ℕ} → Beat w → Key → Option Rule
 rule_of_pending (beat.A x) (RequestSource s) = first_if (x.source == s) H1 None
 rule_of_pending (beat.A x) (AcquireOf k) = first_if (is_acquire x.opcode && (block_at x.address == k)) H4 None
@@ -159,7 +159,7 @@ rule_of_pending (beat.C x) (ReleaseOf k) =
 rule_of_pending (beat.D x) (GrantSink s) = first_if (is_grant x.opcode && (x.sink == s)) H7 None
 rule_of_pending _ _ = None
 
--- no complete message has the key pending that the beat wants pending, for a ProbeAck no message at all
+-- the rule that the beat breaks since no complete message has this key pending; for a ProbeAck, since no message has
 abbrev pub rule_of_missing : {w : ℕ} → Beat w → Key → Option Rule
 rule_of_missing (beat.C x) (ProbeOf k) = first_if (is_probe_ack x.opcode && (block_at x.address == k)) H10 None
 rule_of_missing (beat.D x) (RequestSource s) = first_if (not (is_release_ack x.opcode) && (x.source == s)) H2 None
@@ -167,19 +167,19 @@ rule_of_missing (beat.D x) (ReleaseSource s) = first_if (is_release_ack x.opcode
 rule_of_missing (beat.E x) (GrantSink s) = first_if (x.sink == s) H8 None
 rule_of_missing _ _ = None
 
--- the message that opened the key isn't complete, and may not be answered before it is
+-- the same, since the message that opened the key is unfinished; under `early` it may be
 abbrev pub rule_of_unfinished : {w : ℕ} → Liberties → Beat w → Key → Option Rule
 rule_of_unfinished l (beat.D x) k = if l.early then None else rule_of_missing (beat.D x) k
 rule_of_unfinished {w} l (beat.E x) k = if l.early then None else rule_of_missing {w = w} (beat.E x) k
 rule_of_unfinished l _ k = None
 
--- the request is of a kind that isn't answered so
+-- H2: the message may not answer the request
 abbrev pub rule_of_kind : {w : ℕ} → Beat w → Control → Option Rule
 rule_of_kind (beat.D x) (control.A r) =
     first_if (not (is_release_ack x.opcode) && ((x.source == r.source) && not (answers x.opcode r.opcode))) H2 None
 rule_of_kind _ _ = None
 
--- the request, or for a ReleaseAck the Release, has another size
+-- H3: the request, or for a ReleaseAck the Release, has another size
 abbrev pub rule_of_size : {w : ℕ} → Beat w → Control → Option Rule
 rule_of_size (beat.D x) (control.A r) =
     first_if (not (is_release_ack x.opcode) && ((x.source == r.source) && not (x.size == r.size))) H3 None
@@ -187,66 +187,69 @@ rule_of_size (beat.D x) (control.C r) =
     first_if (is_release_ack x.opcode && ((x.source == r.source) && not (x.size == r.size))) H3 None
 rule_of_size _ _ = None
 
--- a Grant that may be denied, and is: it gives nothing, and neither its cap nor its data are judged
+-- a denied Grant, under `denied`: it gives nothing, and neither its cap nor its data are judged
 abbrev pub gives_nothing : {w : ℕ} → Liberties → BeatD w → Bool
 gives_nothing l x = l.denied && x.denied
 
--- the request may not be given this cap
+-- the cap of the Grant doesn't answer the request
 abbrev pub has_wrong_cap : {w : ℕ} → Liberties → BeatD w → ControlA → Bool
 has_wrong_cap l x r = not (gives_nothing l x) && not (fits_grow (profile_under l) r.opcode r.param x.param)
 
+-- H6: the cap of the Grant doesn't answer its request
 abbrev pub rule_of_cap : {w : ℕ} → Liberties → Beat w → Control → Option Rule
 rule_of_cap l (beat.D x) (control.A r) =
     first_if (is_grant x.opcode && ((x.source == r.source) && has_wrong_cap l x r)) H6 None
 rule_of_cap l _ _ = None
 
--- the request wants data, where this is held
+-- the Grant has no data, and the request needs them while p is held
 abbrev pub lacks_data : {w : ℕ} → Liberties → BeatD w → ControlA → Perm → Bool
 lacks_data l x r p = not (gives_nothing l x)
     && (is_grant_without_data x.opcode && (is_acquire_block r.opcode && not (same_perm p perm.Branch)))
 
+-- H6: the Grant has no data, and its request needs them while p is held
 abbrev pub rule_of_data : {w : ℕ} → Liberties → Beat w → Control → Perm → Option Rule
 rule_of_data l (beat.D x) (control.A r) p = first_if ((x.source == r.source) && lacks_data l x r p) H6 None
 rule_of_data l _ _ p = None
 
--- a Probe of the request's block is pending
+-- H6: a Probe of the request's block is pending
 abbrev pub rule_of_probed : {w : ℕ} → Beat w → Control → Control → Option Rule
 rule_of_probed (beat.D x) (control.A r) (control.B y) =
     first_if (is_grant x.opcode && ((x.source == r.source) && (block_at y.address == block_at r.address))) H6 None
 rule_of_probed _ _ _ = None
 
--- what is held doesn't fit the param
+-- H5 or H13: the param doesn't fit the permission held
 abbrev pub rule_of_held : {w : ℕ} → Liberties → Beat w → Perm → Option Rule
 rule_of_held l (beat.A x) p = first_if (is_acquire x.opcode && not (grows_from_under l x.param p)) H5 None
 rule_of_held l (beat.C x) p = first_if (is_release x.opcode && not (releases_from l x.param p)) H13 None
 rule_of_held l _ p = None
 
--- the Probe that is answered has another source, where that is judged
+-- H10: under `ids` the ProbeAck has another source than its Probe
 abbrev pub rule_of_source : {w : ℕ} → Liberties → Beat w → Control → Option Rule
 rule_of_source l (beat.C x) (control.B y) =
     first_if (is_probe_ack x.opcode && ((block_at x.address == block_at y.address) && (l.ids && not
     (x.source == y.source)))) H10 None
 rule_of_source l _ _ = None
 
--- the Probe that is answered with data asks for none
+-- H10: the ProbeAck has data, and its Probe is a ProbePerm
 abbrev pub rule_of_probe : {w : ℕ} → Beat w → Control → Option Rule
 rule_of_probe (beat.C x) (control.B y) =
     first_if (is_probe_ack x.opcode && ((block_at x.address == block_at y.address) && (c_carries_data x.opcode && not
     (is_probe_block y.opcode)))) H10 None
 rule_of_probe _ _ = None
 
--- the report to a Probe of this cap is another, where this is held
+-- the param isn't the report to a Probe of this cap while p is held, nor one that `drops` allows
 abbrev pub is_misreport : Liberties → ℕ → ℕ → Perm → Bool
 is_misreport l param cap p = not (l.drops && reports_none param) && not (is_report_at param (cap_of cap) p)
 
+-- H12: the param isn't the report of the Probe's cap while p is held
 abbrev pub rule_of_report : {w : ℕ} → Liberties → Beat w → Control → Perm → Option Rule
 rule_of_report l (beat.C x) (control.B y) p =
     first_if (is_probe_ack x.opcode && ((block_at x.address == block_at y.address) && is_misreport l x.param y.param p))
     H12 None
 rule_of_report l _ _ p = None
 
--- The rule that a beat breaks where what a reason tells is so, on a link with these liberties: the beat and the reason
--- alone say it. None where it says nothing.
+-- The rule that a beat breaks if the claim of a reason is true, on a link with these liberties. It follows from the
+-- beat and the reason alone. None if no rule follows.
 abbrev pub convicted_under : {w : ℕ} → Liberties → Beat w → Reason → Option Rule
 convicted_under l x (Pending k m) = rule_of_pending x k
 convicted_under l x (Never k) = rule_of_missing x k
@@ -267,9 +270,8 @@ convicted_under l x (Differs b) = first_if (not (has_control x b.newest)) S1 Non
 abbrev pub convicted : {w : ℕ} → Profile → Beat w → Reason → Option Rule
 convicted p x reason = convicted_under (liberties_of p) x reason
 
--- The rules of order but H2 and H8: of them a reason is told wherever they are the first that a beat breaks. Of H2 and
--- H8
--- one is told where no beat before is at fault: the message that isn't complete is then that which opened the key.
+-- The rules of order without H2 and H8. If one of these is the first that a beat breaks, there is always a reason. For
+-- H2 and H8 there is one if no earlier beat is at fault: an unfinished message is then the one that opened the key.
 abbrev pub is_always_told : Rule → Bool
 is_always_told S1 = true
 is_always_told H1 = true
@@ -285,7 +287,7 @@ is_always_told H12 = true
 is_always_told H13 = true
 is_always_told _ = false
 
--- ---- what is recorded for a verdict
+-- ---- the record for a verdict
 
 -- the subject is that of a verdict on the beat x of a link
 abbrev pub IsSubject : {w : ℕ} → Subject → Link → Beat w → Type 0
@@ -295,7 +297,7 @@ IsSubject s link (beat.C x) = (s.link ≡ link) × (s.source ≡ x.source) × (s
 IsSubject s link (beat.D x) = (s.link ≡ link) × (s.source ≡ x.source) × (s.sink ≡ x.sink)
 IsSubject s link (beat.E x) = (s.link ≡ link) × (s.sink ≡ x.sink)
 
--- the block of the subject is that of the request which the beat answers, where there is one
+-- the block of the subject is that of the request that the beat answers, if there is one
 abbrev pub HasBlockAsked : {w : ℕ} → Subject → Beat w → Trace w → Type 0
 HasBlockAsked s (beat.D x) t = IfSome (request_of x.source (on_link s.link.0 t)) (λ r. s.block ≡ block_at r.address)
 HasBlockAsked s _ t = ⊤

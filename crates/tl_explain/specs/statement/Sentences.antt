@@ -1,4 +1,4 @@
--- What each rule says, and the first lines of what stands behind a verdict.
+-- The sentence of each rule, and the first lines of an explanation.
 use Rattle.std.specs.Prelude.{ℕ, List, [], ◌++◌, ◌==◌, codes, if◌then◌else◌, length}
 use Rattle.std.specs.Fmt.{decimal}
 use Rattle.tl_beat.specs.declared.beat.Beat.{Beat}
@@ -14,7 +14,7 @@ use Rattle.tl_params.specs.declared.memory_rule.MemoryRule.TheVariants.{M1, M2, 
 use Rattle.tl_params.specs.statement.Names.{memory_rule_name}
 use Rattle.tl_explain.specs.statement.Text.{text_of}
 
--- the messages that a rule of the order of messages judges, and nothing for another rule
+-- the messages that an H rule judges; empty for another rule
 abbrev pub messages_judged : Rule → List ℕ
 messages_judged H1 = codes "requests on A, Release, ReleaseData"
 messages_judged H2 = codes "messages on D"
@@ -31,12 +31,12 @@ messages_judged H12 = codes "ProbeAck, ProbeAckData"
 messages_judged H13 = codes "Release, ReleaseData"
 messages_judged _ = []
 
--- where a rule is broken
+-- the condition under which a rule is broken
 abbrev pub rule_sentence : Rule → List ℕ
 rule_sentence L1 = codes
     "the beat isn't of the channel named, or the opcode isn't of the level, or the link has no level"
 rule_sentence L7 = codes
-    "an access forwarded on B (opcodes 0 to 5), or its answer on C (opcodes 0 to 2), at level C: they are read and shown, and not taken"
+    "an access forwarded on B (opcodes 0 to 5), or its answer on C (opcodes 0 to 2), at level C: they are decoded, but not allowed"
 rule_sentence L2 = codes "param, or source or sink where they are fixed, isn't as the message's table has it"
 rule_sentence L3 = codes "the size isn't one of the message's"
 rule_sentence L4 = codes "on A, B and C, the address isn't a multiple of the size"
@@ -57,31 +57,31 @@ rule_sentence H8 = codes "no complete Grant with that sink is pending"
 rule_sentence H9 = codes "a Probe or a GrantAck of the block is pending"
 rule_sentence H10 = codes "no Probe of the block is pending, or ProbeAckData answers ProbePerm"
 rule_sentence H11 = codes "a Release of the block is pending"
-rule_sentence H12 = codes "the param isn't the report of the Probe's cap and of what is held"
-rule_sentence H13 = codes "an Acquire or a Release of the block is pending, or the param's left end isn't what is held"
+rule_sentence H12 = codes "the param isn't the report of the Probe's cap and the permission held"
+rule_sentence H13 = codes "an Acquire or a Release of the block is pending, or the param's left end isn't the permission held"
 rule_sentence A1 = codes "an agent's own rule, which no trace is judged by"
 rule_sentence A2 = codes "an agent's own rule, which no trace is judged by"
 rule_sentence A3 = codes "an agent's own rule, which no trace is judged by"
 
--- the messages that a rule of memory judges
+-- the messages that a rule between links judges
 abbrev pub messages_judged_together : MemoryRule → List ℕ
 messages_judged_together M1 = codes "Grant, GrantData"
 messages_judged_together M2 = codes "GrantData"
 messages_judged_together M3 = codes "AccessAckData"
 messages_judged_together M4 = codes "AccessAck, AccessAckData"
 
--- where a rule of memory is broken
+-- the condition under which a rule between links is broken
 abbrev pub memory_sentence : MemoryRule → List ℕ
 memory_sentence M1 = codes
-    "the cap is toT and another link holds or is being granted something of the block, or toB and another link holds or is being granted Trunk of it"
+    "the cap is toT and another link holds or is being granted a permission of the block, or toB and another link holds or is being granted Trunk of it"
 memory_sentence M2 = codes
-    "a byte isn't one that it may be at the first beat, by what was told of it and by the Puts and atomics that are pending"
+    "a byte has a value that neither the data seen before the first beat nor a pending Put or atomic allows"
 memory_sentence M3 = codes
-    "a byte that was asked for isn't one that it may have been in a window of the access, by what was told of it and by the Puts and atomics that were pending"
+    "a requested byte has a value that neither the data seen nor a pending Put or atomic allows in any window of the access"
 memory_sentence M4 = codes
-    "all the while since the request was complete a link has held what excludes it: Trunk of the block for a Get, while no report has shown its bytes; anything of it for a Put or an atomic"
+    "at every moment since the request was complete some link held a conflicting permission: for a Get Trunk of the block, and no report has shown its bytes; for a Put or an atomic any permission of it"
 
--- the messages in brackets, where there are some
+-- the text in brackets, if there is any
 abbrev pub in_brackets : List ℕ → List ℕ
 in_brackets text = if length text == 0 then [] else codes " (" ++ text ++ codes ")"
 
@@ -90,18 +90,18 @@ unfoldable pub rule_line : Rule → List ℕ
 rule_line rule =
     rule_name rule ++ in_brackets (messages_judged rule) ++ codes ": " ++ rule_sentence rule ++ codes "\n"
 
--- the line of a rule of memory
+-- the line of a rule between links
 unfoldable pub memory_rule_line : MemoryRule → List ℕ
 memory_rule_line rule =
     memory_rule_name rule ++ in_brackets (messages_judged_together rule) ++ codes ": " ++ memory_sentence rule
     ++ codes "\n"
 
--- the name of what is held
+-- the name of a permission
 abbrev pub perm_name : Perm → List ℕ
 perm_name perm.None = codes "None"
 perm_name perm.Branch = codes "Branch"
 perm_name perm.Trunk = codes "Trunk"
 
--- the words of a beat, behind the number of its line
+-- the words of a beat, after the number of its line
 unfoldable pub beat_line : {w : ℕ} → ℕ → Link → Beat w → List ℕ
 beat_line n link beat = codes "  " ++ decimal n ++ codes ": " ++ text_of link beat

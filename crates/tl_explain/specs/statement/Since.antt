@@ -1,5 +1,5 @@
--- Where in a trace a message stands that is told, and that none behind it says otherwise. Traces have the newest beat
--- first, so that in `later ++ x ∷ earlier` the beats `later` stand behind x.
+-- The place of a cited message in a trace, and that no later message changes the claim. Traces have the newest beat
+-- first: in `later ++ x ∷ earlier` the beats `later` come after x.
 use Rattle.std.specs.Prelude.{ℕ, Bool, true, false, List, [], ◌∷◌, ◌++◌, ◌≡◌, ◌<◌, ⊤, Option, Some, None}
 use Rattle.tl_beat.specs.declared.beat.Beat.{Beat}
 use Rattle.tl_beat.specs.declared.beat.Link.{Link}
@@ -16,24 +16,24 @@ use Rattle.tl_explain.specs.declared.told.Mention.{Mention}
 use Rattle.tl_explain.specs.statement.Evidence.{told, is_opening, is_closing, is_saying, is_saying_under, left_by}
 use Rattle.tl_explain.specs.statement.Evidence.{said_under}
 
--- none of the beats `later`, which stand behind those of t, is such a one
+-- the test is false of each of the beats `later`, which come after those of t
 unfoldable pub HasNone : {w : ℕ} → (Link × Beat w → Trace w → Bool) → Trace w → Trace w → Type 0
 HasNone is [] t = ⊤
 HasNone is (x ∷ later) t = (is x (later ++ t) ≡ false) × HasNone is later t
 
--- the beat that is told of is such a one, and the last: none behind it is
+-- the test is true of the cited beat, and false of each beat after it
 abbrev pub IsLast : {w : ℕ} → (Link × Beat w → Trace w → Bool) → Mention → Trace w → Type 0
 IsLast {w} is m t =
     (later : Trace w) × (x : Link × Beat w) × (earlier : Trace w) × (t ≡ later ++ x ∷ earlier) × (m ≡ told x earlier)
     × (is x earlier ≡ true)
     × HasNone is later (x ∷ earlier)
 
--- the last such beat is the one that is told of, if there is one
+-- the cited beat is the last for which the test is true; if none is cited there is none
 abbrev pub IsLastIfAny : {w : ℕ} → (Link × Beat w → Trace w → Bool) → Option Mention → Trace w → Type 0
 IsLastIfAny is None t = HasNone is t []
 IsLastIfAny is (Some m) t = IsLast is m t
 
--- the message that is told of opened the key on link n, and no message behind it opens or closes it
+-- the cited message opened the key on link n, and no later message opened or closed it
 abbrev pub IsPendingSince : {w : ℕ} → ℕ → Key → Mention → Trace w → Type 0
 IsPendingSince {w} n k m t =
     (later : Trace w) × (x : Link × Beat w) × (earlier : Trace w) × (t ≡ later ++ x ∷ earlier) × (m ≡ told x earlier)
@@ -44,19 +44,19 @@ IsPendingSince {w} n k m t =
 abbrev pub IsNeverOpened : {w : ℕ} → ℕ → Key → Trace w → Type 0
 IsNeverOpened n k t = HasNone (is_opening n k) t []
 
--- the one message was the last that opened the key on link n, and the other, behind it, closed it
+-- the first message was the last that opened the key on link n, and the second, after it, the last that closed it
 abbrev pub IsClosedBy : {w : ℕ} → ℕ → Key → Mention → Mention → Trace w → Type 0
 IsClosedBy n k opening closing t = IsLast (is_opening n k) opening t × IsLast (is_closing n k) closing t
     × (opening.line < closing.line)
 
--- link n holds block k so, by this message, and no message behind it changes that; nothing was said of the block where
--- there is no message
+-- Link n holds the permission p of block k since this message, and no later message sets the permission. If no message
+-- is cited, none has set it, and p is None.
 abbrev pub IsHeldSince : {w : ℕ} → ℕ → ℕ → Perm → Option Mention → Trace w → Type 0
 IsHeldSince n k p None t = (p ≡ held k (on_link n t)) × (p ≡ perm.None) × HasNone (is_saying n k) t []
 IsHeldSince n k p (Some m) t = (p ≡ held k (on_link n t)) × (p ≡ left_by m.control) × IsLast (is_saying n k) m t
 
--- link n, which has these liberties, holds block k so by the message that is told, and no later one says what is held of
--- the block
+-- the cited message sets the permission p of block k on link n, which has these liberties, and no later message sets
+-- one
 abbrev pub IsSaidBy : {w : ℕ} → Liberties → ℕ → ℕ → Perm → Mention → Trace w → Type 0
 IsSaidBy {w} l n k p m t =
     (later : Trace w) × (x : Link × Beat w) × (earlier : Trace w) × (t ≡ later ++ x ∷ earlier) × (m ≡ told x earlier)
@@ -68,8 +68,7 @@ IsHeldSinceUnder l n k p None t =
     (p ≡ held_under l k (on_link n t)) × (p ≡ perm.None) × HasNone (is_saying_under l n k) t []
 IsHeldSinceUnder l n k p (Some m) t = (p ≡ held_under l k (on_link n t)) × IsSaidBy l n k p m t
 
--- the burst that is unfinished on a channel of link n began with the beat that is told of: these are the channel's
--- beats from there on
+-- the unfinished burst on a channel of link n began with the cited beat, and has the beats of the channel from there on
 abbrev pub IsBurstSince : {w : ℕ} → ℕ → Channel → List (Beat w) → Mention → Trace w → Type 0
 IsBurstSince {w} n ch burst m t =
     (later : Trace w) × (x : Link × Beat w) × (earlier : Trace w) × (t ≡ later ++ x ∷ earlier) × (m ≡ told x earlier)

@@ -9,7 +9,7 @@ use Rattle.tl_beat.specs.statement.Line.{letter, spaced}
 use Rattle.tl_beat.specs.statement.Names.{a_name, b_name, c_name, d_name}
 use Rattle.tl_explain.specs.statement.ParamNames.{a_param_name, b_param_name, c_param_name, d_param_name}
 
--- a param by its name, or by its digit where it has none
+-- a param by its name, or by its digit if it has none
 abbrev pub param_text : Option (List ℕ) → ℕ → List ℕ
 param_text name param = unwrap_or name (digits 1 param)
 

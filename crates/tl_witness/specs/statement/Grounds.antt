@@ -1,4 +1,4 @@
--- The lines that a breach of a rule of memory rests on.
+-- The lines that explain a breach of a rule between links.
 use Rattle.std.specs.Prelude.{ℕ, zero, suc, [], ◌++◌, ◌+◌, ◌*◌, ◌==◌, if◌then◌else◌, codes, List, Option, Some, None}
 use Rattle.std.specs.Fmt.{decimal}
 use Rattle.tl_beat.specs.declared.beat.BeatD.{BeatD}
@@ -19,65 +19,65 @@ use Rattle.tl_params.specs.declared.memory_rule.MemoryRule.{MemoryRule}
 use Rattle.tl_params.specs.declared.memory_rule.MemoryRule.TheVariants.{M1, M4}
 use Rattle.tl_witness.specs.statement.Strays.{bytes_text}
 
--- since which line it is so, where a message has left it so
+-- the line since which this is so, if a message is cited
 abbrev pub since_text : Option Mention → List ℕ
 since_text None = []
 since_text (Some m) = codes " since line " ++ decimal m.line
 
--- a link holds so much of the block, or is being granted it, since this message
+-- a link holds, or is being granted, this permission of the block, since the cited message
 unfoldable pub permission_line : ℕ → List ℕ → ℕ → Perm → Option Mention → List ℕ
 permission_line link verb block perm since =
     codes "  link " ++ digits 2 link ++ verb ++ perm_name perm ++ codes " of block " ++ digits 8 (64 * block)
     ++ since_text since ++ codes "\n"
 
--- the line of a link that holds more of the block than may be held beside so much of it
+-- the line for a link, if it holds a permission of the block that conflicts with `given`
 abbrev pub holder_text : {w : ℕ} → ℕ → Perm → ℕ → Trace w → List ℕ
 holder_text link given block t =
     if leaves given (held block (on_link link t)) then [] else
     permission_line link (codes " holds ") block (held block (on_link link t)) (last_saying link block t)
 
--- a line for each of the first n links that hold more of the block than may be held beside so much of it: what the last
--- message on that link left of it, and the line of that message
+-- a line for each of the first n links that holds such a permission: the permission that the last message on that link
+-- left, and the line of that message
 unfoldable pub holders_text : {w : ℕ} → ℕ → Perm → ℕ → Trace w → List ℕ
 holders_text zero given block t = []
 holders_text (suc n) given block t = holders_text n given block t ++ holder_text n given block t
 
--- the line of a link that holds, or is being granted, more of the block than may be held beside so much of it
+-- the line for a link, if it holds such a permission, or is being granted one: that of its unfinished Grant
 abbrev pub conflict_by : {w : ℕ} → Option Perm → ℕ → Perm → ℕ → Trace w → List ℕ
 conflict_by None link given block t = holder_text link given block t
 conflict_by (Some perm) link given block t =
     if leaves given perm then [] else
     permission_line link (codes " is being granted ") block perm (burst_opening link channel.D t)
 
--- M1: a line for each of the first n links but its own that does
+-- M1: a line for each of the first n links, except its own, that holds or is being granted such a permission
 unfoldable pub conflicts_text : {w : ℕ} → ℕ → ℕ → Perm → ℕ → Trace w → List ℕ
 conflicts_text zero own given block t = []
 conflicts_text (suc n) own given block t =
     conflicts_text n own given block t
     ++ (if own == n then [] else conflict_by (coming block (on_link n t)) n given block t)
 
--- the request of the beat was complete in this line
+-- the request was complete in this line
 unfoldable pub asked_line : ℕ → List ℕ
 asked_line n = codes "  its request was complete in line " ++ decimal n ++ codes "\n"
 
--- M4: the line with which the access was complete whose request this is, and who holds more than may be held beside it
+-- M4: the line in which the request of the access was complete, and the links that hold a conflicting permission
 abbrev pub access_text : {w : ℕ} → ℕ → ℕ → ℕ → Request → ℕ → Trace w → List ℕ
 access_text n link source asked block t =
     asked_line (asked_at link source t + 1) ++ holders_text n (needs asked.opcode) block t
 
--- ---- of each rule
+-- ---- the lines for each rule
 
--- M1, of a Grant that answers this request
+-- M1: the lines for a Grant that answers this request
 abbrev pub grant_grounds : {w : ℕ} → ℕ → ℕ → BeatD w → Option Request → Trace w → List ℕ
 grant_grounds n link x None t = []
 grant_grounds n link x (Some asked) t = conflicts_text n link (capped x.param) asked.block t
 
--- M4, of an answer to this request
+-- M4: the lines for an answer to this request
 abbrev pub access_grounds : {w : ℕ} → ℕ → ℕ → BeatD w → Option Request → Trace w → List ℕ
 access_grounds n link x None t = []
 access_grounds n link x (Some asked) t = access_text n link x.source asked asked.block t
 
--- what a breach of the rule rests on at a beat of a response, after t, on one of n links
+-- the lines for a breach of the rule by a beat of a response, after t, on one of n links
 abbrev pub grounds_text : {w : ℕ} → MemoryRule → ℕ → ℕ → BeatD w → Trace w → List ℕ
 grounds_text M1 n link x t = grant_grounds n link x (open_request x.source (on_link link t)) t
 grounds_text M4 n link x t = access_grounds n link x (open_request x.source (on_link link t)) t

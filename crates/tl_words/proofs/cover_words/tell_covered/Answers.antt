@@ -1,6 +1,7 @@
-use Rattle.std.proofs.Common.{◌∙◌, ap, codes, refl}
-use Rattle.clap.specs.Words.{found_of}
-use Rattle.clap.proofs.WalkLemmas.{first_value-rows}
+use Rattle.std.proofs.Common.{◌∙◌, [], List, ap, codes, refl}
+use Rattle.std.specs.Prelude.{Option, unwrap_or}
+use Rattle.clap.specs.Words.{Text, found_of}
+use Rattle.clap.proofs.WalkLemmas.{first_value-rows, raw_values-rows}
 use Rattle.tl_words.specs.Tool.{flag_named}
 use Rattle.tl_words.proofs.cover_words.tell_covered.Goals as goal
 
@@ -9,5 +10,6 @@ returns-clause-told c = (
   refl,
   c.flag_named-json.ensures ∙ ap flag_named (c.get_str-json.ensures
       ∙ first_value-rows (found_of c.args.found.now) (codes "json")),
-  c.in_ok-file.ensures ∙ c.get_str-name_of_file.ensures ∙ first_value-rows (found_of c.args.found.now) (codes "FILE"),
+  c.in_ok-files.ensures ∙ ap (λ (o : Option (List Text)). unwrap_or o []) (c.get_strs-names.ensures
+      ∙ raw_values-rows (found_of c.args.found.now) (codes "FILE")),
 )

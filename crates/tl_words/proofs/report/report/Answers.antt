@@ -19,4 +19,5 @@ returns-clause-wrong c =
       file_is = sym (c.get_str-2.ensures ∙ first_value-rows (found_of c.args.found.now) (codes "FILE"));
       report_is = sym (c.get_str-3.ensures ∙ first_value-rows (found_of c.args.found.now) (codes "report"));
       junit_is = sym (c.get_str-4.ensures ∙ first_value-rows (found_of c.args.found.now) (codes "junit"));
-    }) c.requires.reported c.requires.random c.requires.chart c.requires.cover) c.reported.ensures.wrong
+    }) c.requires.reported c.requires.random c.requires.chart c.requires.cover
+    c.requires.plain) c.reported.ensures.wrong

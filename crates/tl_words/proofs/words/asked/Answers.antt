@@ -11,7 +11,7 @@ returns-in_default-clause-wrong c = (
       c.judges_together-together.ensures
       (c.get_str-coherent.ensures ∙ first_value-rows (found_of c.args.found.now) (codes "coherent"))
       (c.get_str-word.ensures ∙ first_value-rows (found_of c.args.found.now) (codes "allow")) c.in_default.ensures)
-      c.requires.random c.requires.chart c.requires.cover,
+      c.requires.random c.requires.chart c.requires.cover c.requires.plain,
   c.in_ok-wrong_liberties.ensures,
 )
 

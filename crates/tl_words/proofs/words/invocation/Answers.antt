@@ -16,7 +16,7 @@ use Rattle.clap.specs.declared.error.Error.{Error}
 use Rattle.tl_words.specs.declared.words.WordsFault.{WordsFault}
 use Rattle.tl_words.specs.declared.words.WordsFault.TheVariants as words
 use Rattle.tl_words.specs.Refused.{AreRefused, IsRefusal, is_want_of_memory, words_fault}
-use Rattle.tl_words.proofs.Tasks.{asked_so, named_so, task_given, task_refused, unasked_so}
+use Rattle.tl_words.proofs.Tasks.{asked_so, named_so, task_given, task_refused, unasked_so, wide_so}
 use Rattle.tl_words.specs.Tool.{tool_of}
 use Rattle.tl_words.proofs.words.invocation.Goals as goal
 
@@ -140,6 +140,32 @@ returns-then-eq-3-clause-refused c =
     task_refused texts c.in-Some.name.now rows is c.tell_covered.result
     (unasked_so c.in-Some.name.now (codes "cover") rows c.tell_covered.result
     (named_so c.in-Some.name.now (codes "cover") (search rules)) c.tell_covered.ensures.wrong)
+
+pub decode_wide-requires : goal.decode_wide-requires
+decode_wide-requires c =
+    (wide_so c.in-Some.name.now (rows_of (found_of c.in-Some.found.now)) (search rules)).1
+
+pub returns-then-is_wide-clause-given : goal.returns-then-is_wide-clause-given
+returns-then-is_wide-clause-given c =
+    let texts = map string_bytes c.args.words.now in
+    let rows = rows_of (found_of c.in-Some.found.now) in
+    let is = chosen texts _ c.in_ok-matches.matches c.in-Some.name.now rows c.in_ok-tool.ensures
+    (c.in_ok-matches.ensures.ok.2 (ap is_simple c.in_ok-tool.ensures ∙ simple)).1 c.in-Some.ensures.name
+    c.in-Some.ensures.rows in
+    task_given texts c.in-Some.name.now rows is c.decode_wide.result
+    (asked_so c.in-Some.name.now (codes "decode") rows c.decode_wide.result
+    (wide_so c.in-Some.name.now rows (search rules)).0 c.decode_wide.ensures.read)
+
+pub returns-then-is_wide-clause-refused : goal.returns-then-is_wide-clause-refused
+returns-then-is_wide-clause-refused c =
+    let texts = map string_bytes c.args.words.now in
+    let rows = rows_of (found_of c.in-Some.found.now) in
+    let is = chosen texts _ c.in_ok-matches.matches c.in-Some.name.now rows c.in_ok-tool.ensures
+    (c.in_ok-matches.ensures.ok.2 (ap is_simple c.in_ok-tool.ensures ∙ simple)).1 c.in-Some.ensures.name
+    c.in-Some.ensures.rows in
+    task_refused texts c.in-Some.name.now rows is c.decode_wide.result
+    (unasked_so c.in-Some.name.now (codes "decode") rows c.decode_wide.result
+    (wide_so c.in-Some.name.now rows (search rules)).0 c.decode_wide.ensures.wrong)
 
 pub returns-clause-given : goal.returns-clause-given
 returns-clause-given c =

@@ -15,7 +15,7 @@ returns-in-Some-clause-read c = IfOk-weaker c.search.result _ _ (λ task h. h (r
 pub returns-in-Some-clause-wrong : goal.returns-in-Some-clause-wrong
 returns-in-Some-clause-wrong c = IfErr-weaker c.search.result _ _ (λ fault h. h (rows_of (found_of c.args.found.now))
     (sym (c.in-Some.ensures ∙ first_value-rows (found_of c.args.found.now) (codes "all")))
-    c.requires.random c.requires.chart c.requires.cover c.requires.unreported) c.search.ensures.wrong
+    c.requires.random c.requires.chart c.requires.cover c.requires.plain c.requires.unreported) c.search.ensures.wrong
 
 pub returns-in_default-command_named-clause-wrong : goal.returns-in_default-command_named-clause-wrong
 returns-in_default-command_named-clause-wrong c = (
@@ -30,6 +30,7 @@ returns-in_default-command_named-clause-wrong c = (
       c.requires.random
       c.requires.chart
       c.requires.cover
+      c.requires.plain
       c.requires.unreported,
   c.in_ok-wrong_words.ensures,
 )
@@ -46,4 +47,5 @@ returns-clause-read c = (
   c.in_ok-file.ensures ∙ c.get_str-name_of_file.ensures ∙ first_value-rows (found_of c.args.found.now) (codes "FILE"),
   c.requires.unreported,
   c.requires.allowed,
+  c.requires.plain,
 )

@@ -1,4 +1,4 @@
--- The line of a beat that is told.
+-- The line of a beat that is cited.
 use Rattle.std.specs.Prelude.{ℕ, List, min, take}
 use Rattle.tl_explain.specs.declared.told.Spelling.{Spelling}
 

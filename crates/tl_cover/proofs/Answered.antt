@@ -1,11 +1,15 @@
 -- What a covering knows after its monitor's answer.
-use Rattle.std.proofs.Common.{◌≡◌, ◌≤◌, ℕ, Bool, true, false, List, length, refl, sym, subst}
-use Rattle.std.specs.Prelude.{None, Result, Ok, Err, ⊤, slice_get}
-use Rattle.std.proofs.lemmas.Option.{slice_get_past}
+use Rattle.std.proofs.Common.{◌≡◌, ◌≤◌, ℕ, Bool, true, false, List, length, refl, sym, ap, ◌∙◌, ◌<◌, ◌+◌, arith, subst}
+use Rattle.std.specs.List.{flat_map}
+use Rattle.std.specs.Prelude.{Some, None, Result, Ok, Err, ⊤, map, slice_get}
+use Rattle.std.proofs.lemmas.Option.{get_or_from_slice_get, slice_get_past}
 use Rattle.tl_beat.specs.declared.beat.Beat.{Beat}
 use Rattle.tl_beat.specs.declared.beat.Link.{Link}
 use Rattle.tl_cover.specs.declared.covering.Covering.{Covering}
-use Rattle.tl_cover.specs.statement.Covers.{Covers, CoversAfter, Follows}
+use Rattle.tl_cover.proofs.Links.{cells_are}
+use Rattle.tl_cover.specs.declared.past.LinkPast.{LinkPast}
+use Rattle.tl_cover.specs.statement.Covered.{cells, table}
+use Rattle.tl_cover.specs.statement.Covers.{Covers, CoversAfter, Follows, cells_in, cells_of}
 use Rattle.tl_monitor.specs.declared.fault.MonitorFault.{MonitorFault}
 use Rattle.tl_monitor.specs.declared.fault.MonitorFault.TheVariants as monitor
 use Rattle.tl_monitor.specs.declared.monitor.Monitor.{Monitor}
@@ -33,6 +37,8 @@ module _ {w : ℕ} (c : Covering w) (m : Monitor w) (levels : List Level) (l : L
   kept after knows = record {
     knows = knows;
     follows = follows_on;
+    levels_are = had.levels_are;
+    liberties_are = had.liberties_are;
   }
 
   -- the beat is refused
@@ -61,8 +67,32 @@ module _ {w : ℕ} (c : Covering w) (m : Monitor w) (levels : List Level) (l : L
 -- the beat is taken
 pub covers_more : {w : ℕ} (d : Covering w) (m : Monitor w) (levels : List Level) (l : Liberties) (t : Trace w)
     → d.monitor ≡ m
-    → KnowsUnder m levels l t false → Follows d (length levels) l t → Covers d levels l t false
-covers_more d m levels l t is knows follows = record {
+    → KnowsUnder m levels l t false → Follows d (length levels) l t → map (λ p. p.level) d.pasts.items ≡ levels
+    → d.liberties ≡ l → Covers d levels l t false
+covers_more d m levels l t is knows follows levels_are liberties_are = record {
   knows = subst (λ (k : Monitor _). KnowsUnder k levels l t false) (sym is) knows;
   follows = follows;
+  levels_are = levels_are;
+  liberties_are = liberties_are;
 }
+
+-- the counts of all bins are those of the trace
+pub cells_covered : {w : ℕ} (c : Covering w) (levels : List Level) (l : Liberties) (t : Trace w) (closed : Bool)
+    → Covers c levels l t closed → cells_in c ≡ cells l levels t
+cells_covered {w = w} c levels l t closed had =
+    ap (λ (may : Liberties). flat_map (cells_of w may) c.pasts.items) had.liberties_are
+    ∙ cells_are l (length levels) 0 c.pasts.items levels t had.levels_are
+    (λ m d lt. (had.follows.pasts_are m d lt).rows_are
+    ∙ ap (λ (i : ℕ). table l (length levels) i t) (sym (none_more m)))
+  where
+    none_more : (m : ℕ) → 0 + m ≡ m
+    none_more m = omega arith
+
+-- so is the table of a link
+pub table_covered : {w : ℕ} (c : Covering w) (levels : List Level) (l : Liberties) (t : Trace w) (closed : Bool) (i : ℕ)
+    (p : LinkPast) → Covers c levels l t closed → slice_get c.pasts.items i ≡ Some p → i < length levels
+    → p.rows.items ≡ table l (length levels) i t
+table_covered c levels l t closed i p had is within =
+    let short : i < length c.pasts.items = omega (arith, within, had.follows.many) in
+    subst (λ (q : LinkPast). q.rows.items ≡ table l (length levels) i t)
+    (get_or_from_slice_get c.pasts.items i p p is) (had.follows.pasts_are i p short).rows_are

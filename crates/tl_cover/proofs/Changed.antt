@@ -1,6 +1,6 @@
 -- Lists whose elements are changed one by one.
 use Rattle.std.proofs.Common.{◌≡◌, ◌<◌, ◌≤◌, ℕ, zero, suc, ◌+◌, List, [], ◌∷◌, ◌++◌}
-use Rattle.std.proofs.Common.{length, take, drop, refl, ap, ◌∙◌, arith, add-one}
+use Rattle.std.proofs.Common.{length, take, drop, refl, ap, ◌∙◌, arith, add-one, append_assoc}
 use Rattle.std.specs.Prelude.{map, slice_index_or, slice_set}
 use Rattle.std.proofs.lemmas.List.{map_more, take_all}
 
@@ -41,3 +41,14 @@ map_pushed f xs ys more i d y lt is pushed new = rw (map_more f xs i d lt, pushe
 pub map_whole : {X Y : Type 0} (f : X → Y) (xs : List X) (ys : List Y) (i : ℕ) → length xs ≤ i
     → ys ≡ map f (take i xs) → ys ≡ map f xs
 map_whole f xs ys i all is = is ∙ ap (map f) (take_all i xs all)
+
+-- the same behind what stood before
+pub map_added : {X Y : Type 0} (f : X → Y) (xs : List X) (before ys more : List Y) (i : ℕ) (d : X) (y : Y)
+    → i < length xs → ys ≡ before ++ map f (take i xs) → more ≡ ys ++ y ∷ [] → y ≡ f (slice_index_or xs i d)
+    → more ≡ before ++ map f (take (i + 1) xs)
+map_added f xs before ys more i d y lt is pushed new =
+    rw (map_more f xs i d lt, pushed, is, new) (append_assoc before (map f (take i xs)) (f (slice_index_or xs i d) ∷ []))
+
+pub map_added_all : {X Y : Type 0} (f : X → Y) (xs : List X) (before ys : List Y) (i : ℕ) → length xs ≤ i
+    → ys ≡ before ++ map f (take i xs) → ys ≡ before ++ map f xs
+map_added_all f xs before ys i all is = is ∙ ap (λ (l : List _). before ++ map f l) (take_all i xs all)

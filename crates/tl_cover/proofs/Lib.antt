@@ -1,9 +1,10 @@
 pub mod Lists
 pub mod Pasts
-pub mod Rows
-pub mod Links
 pub mod Changed
+pub mod Rows
 pub mod Counted
 pub mod Awaited
 pub mod Scenes
+pub mod Links
 pub mod Answered
+mod Worked

@@ -1,10 +1,13 @@
 -- Lists of what is pending, where something is taken away or added.
-use Rattle.std.proofs.Common.{◌≡◌, ℕ, Bool, true, false, ◌==◌, ◌&&◌, ◌||◌, List, [], ◌∷◌, ◌++◌, refl, ap, ◌∙◌, arith}
-use Rattle.std.specs.Prelude.{if◌then◌else◌, not, filter}
+use Rattle.std.proofs.Common.{◌≡◌, ℕ, Bool, true, false, ◌==◌, ◌&&◌, ◌||◌, List, [], ◌∷◌, ◌++◌, refl, ap, ◌∙◌, arith, inl, inr}
+use Rattle.std.specs.Prelude.{if◌then◌else◌, not, filter, option_map, Option, Some, None}
+use Rattle.std.proofs.lemmas.Bool.{cases_Bool}
 use Rattle.std.proofs.lemmas.List.Folds.{list_any-append}
 use Rattle.std.proofs.lemmas.Map.Views.{any-filter_same}
-use Rattle.tl_cover.specs.code.Past.{awaits, has, turned}
+use Rattle.tl_cover.specs.code.Past.{awaits, found, has, turned}
 use Rattle.tl_cover.specs.declared.acknowledged.Awaited.{Awaited}
+use Rattle.tl_cover.specs.declared.asked.Asked.{Asked}
+use Rattle.tl_cover.specs.declared.scene.ProbeAt.{ProbeAt}
 
 -- what is kept of the numbers that are this one
 kept_at : (x k b : ℕ) → (x == k) ≡ true → not (x == b) ≡ not (b == k)
@@ -72,3 +75,67 @@ awaits-with k s block sink all =
     last true false before = refl
     last false now true = refl
     last false now false = refl
+
+same_other : (x b k : ℕ) → (x == b) ≡ true → (b == k) ≡ false → (x == k) ≡ false
+same_other x b k e f = grind arith
+
+other_same : (x b k : ℕ) → (x == b) ≡ false → (x == k) ≡ true → (b == k) ≡ false
+other_same x b k e f = grind arith
+
+abbrev nothing : Option ProbeAt
+nothing = None
+
+nothing_left : (here : Bool) → nothing ≡ (if here then nothing else nothing)
+nothing_left true = refl
+nothing_left false = refl
+
+-- the Probe of a block is taken away
+pub found-without : (k b : ℕ) (all : List Asked)
+    → found k (filter (λ a. not (a.block == b)) all) ≡ (if b == k then None else found k all)
+found-without k b [] = nothing_left (b == k)
+found-without k b (a ∷ all) = one_more a (found-without k b all)
+  where
+    one_more : (x : Asked) → found k (filter (λ y. not (y.block == b)) all) ≡ (if b == k then None else found k all)
+        → found k (filter (λ y. not (y.block == b)) (x ∷ all)) ≡ (if b == k then None else found k (x ∷ all))
+    one_more x before = elim (cases_Bool (x.block == b)) [
+      | inl gone ↦ elim (cases_Bool (b == k)) [
+        | inl here ↦ rw (gone, here) (rw here at before)
+        | inr other ↦
+            let no : (x.block == k) ≡ false = same_other x.block b k gone other in
+            rw (gone, other, no) (rw other at before)
+      ]
+      | inr stays ↦ elim (cases_Bool (x.block == k)) [
+        | inl here ↦ let no : (b == k) ≡ false = other_same x.block b k stays here in rw (stays, here, no) refl
+        | inr other ↦ rw (stays, other) before
+      ]
+    ]
+
+-- one more Probe is added, where none of its block is left
+pub found-with : (k : ℕ) (a : Asked) (old kept new : List Asked)
+    → ((j : ℕ) → found j kept ≡ (if a.block == j then None else found j old)) → new ≡ kept ++ a ∷ []
+    → found k new ≡ (if a.block == k then Some a.probe else found k old)
+found-with k a old kept new left is = rw is (over kept) ∙ at (a.block == k) (left k)
+  where
+    last : Option ProbeAt → Bool → Option ProbeAt
+    last None here = if here then Some a.probe else None
+    last (Some p) here = Some p
+
+    over : (all : List Asked) → found k (all ++ a ∷ []) ≡ last (found k all) (a.block == k)
+    over [] = go (a.block == k)
+      where
+        go : (here : Bool) → option_map (λ x. x.probe) (if here then Some a else None) ≡ (if here then Some a.probe else None)
+        go true = refl
+        go false = refl
+    over (b ∷ all) = elim (cases_Bool (b.block == k)) [
+      | inl here ↦ rw here refl
+      | inr other ↦ rw other (over all)
+    ]
+
+    at : (here : Bool) → found k kept ≡ (if here then None else found k old)
+        → last (found k kept) here ≡ (if here then Some a.probe else found k old)
+    at true e = rw e refl
+    at false e = rw e (same (found k old))
+      where
+        same : (o : Option ProbeAt) → last o false ≡ o
+        same None = refl
+        same (Some p) = refl

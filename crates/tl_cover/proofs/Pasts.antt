@@ -1,17 +1,19 @@
 -- What is kept of a link, with one more beat.
-use Rattle.std.proofs.Common.{◌≡◌, ℕ, Bool, true, false, ◌==◌, ◌&&◌, List, [], ◌∷◌, refl, sym, ap, ◌∙◌, arith}
+use Rattle.std.proofs.Common.{◌≡◌, ℕ, Bool, true, false, ◌==◌, ◌&&◌, List, [], ◌∷◌, refl, subst, sym, ap, ◌∙◌, arith}
 use Rattle.std.specs.Prelude.{if◌then◌else◌, not, Option, Some, None, is_some}
 use Rattle.tl_beat.specs.declared.beat.Beat.{Beat}
 use Rattle.tl_beat.specs.declared.beat.Beat.TheVariants as beat
 use Rattle.tl_beat.specs.statement.Control.{control_of}
 use Rattle.tl_burst.specs.statement.Messages.{History}
-use Rattle.tl_cover.specs.code.Past.{KnowsPast, asked_next, awaited_next, awaits}
-use Rattle.tl_cover.specs.code.Past.{block_released, has, is_of, released_next}
-use Rattle.tl_cover.specs.code.Past.{turned}
+use Rattle.tl_cover.specs.code.Past.{KnowsPast, awaited_next, awaits}
+use Rattle.tl_cover.specs.code.Past.{block_released, has, is_of, released_next, request_next}
+use Rattle.tl_cover.specs.code.Past.{KnowsUnderWay, no_messages, turned, under_way_next}
+use Rattle.tl_cover.specs.declared.under_way.UnderWay.{UnderWay}
+use Rattle.tl_cover.specs.statement.Scene.{under_way}
 use Rattle.tl_cover.specs.declared.past.LinkPast.{LinkPast}
 use Rattle.tl_monitor.specs.code.Count.{at}
 use Rattle.tl_params.specs.declared.key.Key.{Key}
-use Rattle.tl_params.specs.declared.key.Key.TheVariants.{AcquireOf, ReleaseOf, GrantSink, GrantAckOf, ProbeOf}
+use Rattle.tl_params.specs.declared.key.Key.TheVariants.{AcquireOf, ReleaseOf, GrantSink, GrantAckOf}
 use Rattle.tl_rules.proofs.Tables.{neither, sink-next}
 use Rattle.tl_rules.specs.code.Open.{request_fields}
 use Rattle.tl_rules.specs.code.Tables.{sink_next}
@@ -20,18 +22,22 @@ use Rattle.tl_rules.specs.statement.History.{block_at, grants, request_of}
 
 -- nothing is kept of a link that has carried nothing
 pub past_none : (w : ℕ) (p : LinkPast) → ((s : ℕ) → at p.requests s ≡ None) → ((s : ℕ) → at p.released s ≡ None)
-    → p.acquires.items ≡ [] → p.releases.items ≡ [] → p.probes.items ≡ [] → p.awaited.items ≡ []
-    → ((s : ℕ) → at p.sinks s ≡ None) → p.newest ≡ None → KnowsPast {w = w} p []
-unfolding request_of release_of pending grant_sink
-past_none w p requests released acquires releases probes awaited sinks newest = record {
+    → p.acquires.items ≡ [] → p.releases.items ≡ [] → p.awaited.items ≡ []
+    → ((s : ℕ) → at p.sinks s ≡ None) → p.newest ≡ None → p.under_way ≡ no_messages → KnowsPast {w = w} p []
+unfolding request_of release_of pending grant_sink under_way
+past_none w p requests released acquires releases awaited sinks newest messages = record {
   requests_are = requests;
   released_are = released;
   acquires_are = λ k. ap (has k) acquires;
   releases_are = λ k. ap (has k) releases;
-  probes_are = λ k. ap (has k) probes;
   awaited_are = λ k s. ap (awaits k s) awaited;
   sinks_are = λ s. ap is_some (sinks s);
   newest_is = newest;
+  under_way_is = record {
+    a_is = ap (λ (u : UnderWay). u.a) messages;
+    c_is = ap (λ (u : UnderWay). u.c) messages;
+    d_is = ap (λ (u : UnderWay). u.d) messages;
+  };
 }
 
 module _ {w : ℕ} (x : Beat w) (h : History w) (first last : Bool) (begun : first ≡ begins x h)
@@ -110,15 +116,15 @@ fields_if : {X Y : Type 0} (f : Option X → Option Y) (b : Bool) (o p : Option 
 fields_if f true o p = refl
 fields_if f false o p = refl
 
-asked-next : {w : ℕ} (x : Beat w) (h : History w) (s : ℕ)
-    → asked_next (begins x h) x s (request_fields (request_of s h)) ≡ request_fields (request_of s (x ∷ h))
+request-next : {w : ℕ} (x : Beat w) (h : History w) (s : ℕ)
+    → request_next (begins x h) x s (request_fields (request_of s h)) ≡ request_fields (request_of s (x ∷ h))
 unfolding request_of
-asked-next (beat.A x) h s =
+request-next (beat.A x) h s =
     fields_if request_fields (begins (beat.A x) h && (x.source == s)) (Some x) (request_of s h)
-asked-next (beat.B x) h s = refl
-asked-next (beat.C x) h s = refl
-asked-next (beat.D x) h s = refl
-asked-next (beat.E x) h s = refl
+request-next (beat.B x) h s = refl
+request-next (beat.C x) h s = refl
+request-next (beat.D x) h s = refl
+request-next (beat.E x) h s = refl
 
 released-next : {w : ℕ} (x : Beat w) (h : History w) (s : ℕ)
     → released_next (begins x h) x s (block_released (release_of s h)) ≡ block_released (release_of s (x ∷ h))
@@ -134,29 +140,43 @@ released-next (beat.C x) h s = go _
 released-next (beat.D x) h s = refl
 released-next (beat.E x) h s = refl
 
+-- ---- messages under way
+
+pub under_way-next : {w : ℕ} (x : Beat w) (h : History w) (last : Bool) (u : UnderWay) → last ≡ ends x h
+    → KnowsUnderWay u h → KnowsUnderWay (under_way_next last x u) (x ∷ h)
+unfolding under_way
+under_way-next (beat.A x) h last u complete had =
+    record { a_is = rw complete refl; c_is = had.c_is; d_is = had.d_is }
+under_way-next (beat.B x) h last u complete had = record { a_is = had.a_is; c_is = had.c_is; d_is = had.d_is }
+under_way-next (beat.C x) h last u complete had =
+    record { a_is = had.a_is; c_is = rw complete refl; d_is = had.d_is }
+under_way-next (beat.D x) h last u complete had =
+    record { a_is = had.a_is; c_is = had.c_is; d_is = rw complete refl }
+under_way-next (beat.E x) h last u complete had = record { a_is = had.a_is; c_is = had.c_is; d_is = had.d_is }
+
 -- ---- the whole
 
 pub past_taken : {w : ℕ} (p q : LinkPast) (x : Beat w) (h : History w) (first last : Bool) (block : Option ℕ)
     → first ≡ begins x h → last ≡ ends x h → KnowsPast p h
-    → ((s : ℕ) → at q.requests s ≡ asked_next first x s (at p.requests s))
+    → ((s : ℕ) → at q.requests s ≡ request_next first x s (at p.requests s))
     → ((s : ℕ) → at q.released s ≡ released_next first x s (at p.released s))
     → ((k : ℕ) → has k q.acquires.items ≡ pending (AcquireOf k) (x ∷ h))
     → ((k : ℕ) → has k q.releases.items ≡ pending (ReleaseOf k) (x ∷ h))
-    → ((k : ℕ) → has k q.probes.items ≡ pending (ProbeOf k) (x ∷ h))
     → ((k : ℕ) → is_of k block ≡ closes (AcquireOf k) x h)
     → ((k s : ℕ) → awaits k s q.awaited.items ≡ awaited_next first last x block k s (awaits k s p.awaited.items))
     → ((s : ℕ) → is_some (at q.sinks s) ≡ sink_next first last x s (is_some (at p.sinks s)))
-    → q.newest ≡ Some (control_of x) → KnowsPast q (x ∷ h)
-past_taken p q x h first last block begun complete had requests released acquires releases probes of awaited sinks
-    newest =
+    → q.newest ≡ Some (control_of x) → q.under_way ≡ under_way_next last x p.under_way → KnowsPast q (x ∷ h)
+past_taken p q x h first last block begun complete had requests released acquires releases of awaited sinks newest
+    messages =
     record {
-      requests_are = λ s. requests s ∙ rw (begun, had.requests_are s) (asked-next x h s);
+      requests_are = λ s. requests s ∙ rw (begun, had.requests_are s) (request-next x h s);
       released_are = λ s. released s ∙ rw (begun, had.released_are s) (released-next x h s);
       acquires_are = acquires;
       releases_are = releases;
-      probes_are = probes;
       awaited_are = λ k s. awaited k s ∙ rw (begun, complete, had.awaited_are k s) (awaited-next x h block of k s);
       sinks_are = sinks_taken x h first last begun complete (λ s. is_some (at p.sinks s)) (λ s. is_some (at q.sinks s))
           sinks had.sinks_are;
       newest_is = newest;
+      under_way_is = subst (λ (u : UnderWay). KnowsUnderWay u (x ∷ h)) (sym messages)
+          (under_way-next x h last p.under_way complete had.under_way_is);
     }

@@ -1,6 +1,9 @@
+pub mod Bins
 pub mod Covered
 pub mod Covers
 pub mod Kinds
+pub mod Messages
 pub mod Names
+pub mod Possible
 pub mod Scene
 pub mod Situations

@@ -1,11 +1,11 @@
-//! The blocks that were granted and whose GrantAcks are pending.
+//! The granted blocks whose GrantAcks are pending.
 
 ghost use Rattle.std.specs.Prelude.{ℕ, OnOk, false, not, ◌≡◌, ◌&&◌, ◌==◌, if◌then◌else◌};
 ghost use Rattle.tl_cover.specs.code.Past.{awaits, awaits_any};
 
 use std::alloc::AllocError;
 
-/// A block that was granted, and the sink that its GrantAck is to have.
+/// A granted block, and the sink of its Grant.
 #[derive(Clone, Copy)]
 pub struct Awaited {
     pub block: u32,
@@ -19,7 +19,7 @@ pub fn awaits_any(all: &Vec<Awaited>, block: u32) -> bool
     all.iter().any(|awaited| awaited.block == block)
 }
 
-/// Adds a block that is granted, in the place of what was known of it.
+/// Adds a granted block with its sink, in place of any earlier sink of the block.
 pub fn await_ack(all: &mut Vec<Awaited>, block: u32, sink: u8) -> Result<(), AllocError>
     ensures { OnOk result ((k s : ℕ) → awaits k s all.new.items
         ≡ (if block == k then sink == s else awaits k s all.old.items)) }
@@ -29,7 +29,7 @@ pub fn await_ack(all: &mut Vec<Awaited>, block: u32, sink: u8) -> Result<(), All
     Ok(())
 }
 
-/// Takes away what waits for a GrantAck with this sink.
+/// Removes the blocks whose Grants have this sink.
 pub fn acknowledge(all: &mut Vec<Awaited>, sink: u8)
     ensures { (k s : ℕ) → awaits k s all.new.items ≡ (awaits k s all.old.items && not (sink == s)) }
 {

@@ -5,14 +5,14 @@ ghost use Rattle.tl_cover.specs.code.Past.{has, is_of, turned};
 
 use std::alloc::AllocError;
 
-/// Whether a block is among them.
+/// Whether the list has a block.
 pub fn has(blocks: &Vec<u32>, block: u32) -> bool
     ensures { result ≡ has block blocks.now.items }
 {
     blocks.iter().any(|other| *other == block)
 }
 
-/// Takes a block away.
+/// Removes a block.
 fn remove(blocks: &mut Vec<u32>, block: u32)
     ensures { (k : ℕ) → has k blocks.new.items ≡ turned false (block == k) (has k blocks.old.items) }
 {

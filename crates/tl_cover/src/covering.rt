@@ -1,19 +1,21 @@
-//! Follows the situations of a trace, beat by beat.
+//! Counts the situations of a trace, beat by beat.
 
-ghost use Rattle.std.specs.Prelude.{ℕ, Bool, false, List, [], Some, ◌≡◌, ◌<◌, ◌∷◌, IfOk, OnOk, length, map};
+ghost use Rattle.std.specs.List.{flat_map};
+ghost use Rattle.std.specs.Prelude.{◌++◌, ℕ, Bool, false, List, [], ◌≡◌, ◌<◌, ◌∷◌, IfOk, OnOk, length, map};
 ghost use Rattle.tl_beat.specs.declared.beat.Beat.{Beat};
 ghost use Rattle.tl_beat.specs.statement.Width.{IsWidth};
-ghost use Rattle.tl_cover.specs.code.Covering.{KnowPasts, opening_of, row_with, unseen};
-ghost use Rattle.tl_cover.specs.code.Past.{KnowsPast};
-ghost use Rattle.tl_cover.specs.statement.Covered.{all_situations, covered};
+ghost use Rattle.tl_cover.specs.code.Covering.{AreUnused, KnowsLink, opening_of};
+ghost use Rattle.tl_cover.specs.statement.Covered.{cells, covered, table};
+ghost use Rattle.tl_cover.specs.statement.Covers.{cells_of};
 ghost use Rattle.tl_cover.specs.statement.Scene as scenes;
 ghost use Rattle.tl_params.specs.declared.level.Level.{Level};
 ghost use Rattle.tl_params.specs.declared.liberties.Liberties.{Liberties};
-ghost use Rattle.tl_rules.specs.statement.Conformance.{Trace, on_link};
+ghost use Rattle.tl_rules.specs.statement.Conformance.{Trace};
 
 use crate::acknowledged::awaits_any;
+use crate::asked::found;
 use crate::blocks::has;
-use crate::meets::meets;
+use crate::counts::{new_rows, note_all};
 use crate::past::LinkPast;
 use crate::row::{Row, one_more};
 use crate::scene::{NOTHING, Scene, Standing, is_same};
@@ -26,101 +28,75 @@ use tl_rules::level::Level;
 use tl_rules::liberties::Liberties;
 use tl_rules::perm::Perm;
 
-/// Judges the beats of up to 16 links as a monitor does, and counts how often their messages begin in each
-/// situation. It keeps what is pending and held on each link, and no beat.
+/// Judges the beats of up to 16 links as a monitor does, and counts the situations in which their messages begin. It
+/// keeps the pending messages and the held permissions of each link, and no data of beats.
 #[derive(Drop)]
 pub struct Covering<const W: usize> {
     monitor: Monitor<W>,
     pasts: Vec<LinkPast>,
-    /// How many links there are.
+    liberties: Liberties,
+    /// The number of links.
     count: u8,
     rows: Vec<Row>,
-    /// The line of the newest beat in a trace; 1 where none has come.
+    /// The line of the newest beat in a trace; 1 if there is none.
     line: u64,
 }
 
-/// So many links that have carried nothing.
-fn new_pasts(alloc: Global, count: usize) -> Result<Vec<LinkPast>, AllocError>
-    ensures known { IfOk result (λ pasts. (w : ℕ) → KnowPasts {w = w} pasts.items []) }
-    ensures many { IfOk result (λ pasts. length pasts.items ≡ count) }
+/// The pasts of links of these levels without beats.
+fn new_pasts(alloc: Global, levels: &[Level]) -> Result<Vec<LinkPast>, AllocError>
+    ensures unused { IfOk result (λ pasts. AreUnused pasts.items) }
+    ensures levels { IfOk result (λ pasts. map (λ p. p.level) pasts.items ≡ levels.now) }
 {
     let mut pasts = Vec::new(alloc);
-    for _ in 0..count {
-        pasts.push(LinkPast::new(alloc))?;
+    for level in levels {
+        pasts.push(LinkPast::new(alloc, *level)?)?;
     }
     Ok(pasts)
 }
 
-/// Each situation, which hasn't come.
-fn new_rows(alloc: Global) -> Result<Vec<Row>, AllocError>
-    ensures { IfOk result (λ rows. rows.items ≡ map unseen all_situations) }
-{
-    let mut rows = Vec::new(alloc);
-    for situation in Situation::ALL {
-        rows.push(Row::new(situation))?;
-    }
-    Ok(rows)
-}
-
-/// Notes the situations in which a message begins. The scene is what is known of it.
-fn note_scene<const W: usize>(
-    rows: &mut Vec<Row>,
-    line: u64,
-    beat: &Beat<W>,
-    scene: &Scene,
+/// Appends the counts of all bins on links with these pasts.
+fn append_tables<const W: usize>(
+    liberties: Liberties,
+    pasts: &[LinkPast],
+    cells: &mut Vec<Option<u64>>,
 ) -> Result<(), AllocError>
     requires { IsWidth W }
-    ensures { OnOk result (rows.new.items ≡ map (row_with line beat.now (Some scene.now)) rows.old.items) }
+    ensures { OnOk result (cells.new.items ≡ cells.old.items ++ flat_map (cells_of W liberties) pasts.now) }
 {
-    for i in 0..rows.len() {
-        let came = meets(rows[i].situation, beat, scene);
-        rows[i].note(came, line)?;
+    for past in pasts {
+        past.append_cells::<W>(liberties, cells)?;
     }
     Ok(())
 }
 
-/// The same for a beat of whose message this is known where it begins one.
-fn note_all<const W: usize>(
-    rows: &mut Vec<Row>,
-    line: u64,
-    beat: &Beat<W>,
-    opening: Option<Scene>,
-) -> Result<(), AllocError>
-    requires { IsWidth W }
-    ensures { OnOk result (rows.new.items ≡ map (row_with line beat.now opening) rows.old.items) }
-{
-    match opening {
-        None => Ok(()),
-        Some(scene) => note_scene(rows, line, beat, &scene),
-    }
-}
-
 impl<const W: usize> Covering<W> {
-    ghost use Rattle.tl_cover.specs.statement.Covers.{Covers, CoversAfter, Follows, IsNewCovering, rows_in};
+    ghost use Rattle.tl_cover.specs.statement.Covers.{Covers, CoversAfter, Follows, IsNewCovering, cells_in, rows_in, table_in};
     ghost use Rattle.tl_monitor.specs.statement.Knows.{Answers, KnowsUnder, fault_under};
 
-    /// A covering of links of these levels and liberties, which has seen no beat. There are to be 1 to 16 levels.
+    /// A covering of links of these levels and liberties, which has judged no beat. The error is `Levels` if there
+    /// aren't 1 to 16 levels, otherwise `Memory`.
     pub fn new(alloc: Global, levels: &[Level], liberties: Liberties) -> Result<Self, MonitorFault>
         requires { IsWidth W }
         ensures { IsNewCovering levels.now liberties result }
     {
         let monitor = Monitor::with_liberties(alloc, levels, liberties)?;
-        let Ok(pasts) = new_pasts(alloc, levels.len()) else {
+        let Ok(pasts) = new_pasts(alloc, levels) else {
             return Err(MonitorFault::Memory);
         };
-        let Ok(rows) = new_rows(alloc) else {
+        let Ok(rows) = new_rows(alloc, &Situation::ALL) else {
             return Err(MonitorFault::Memory);
         };
         Ok(Covering {
             monitor,
             pasts,
+            liberties,
             count: levels.len() as u8,
             rows,
             line: 1,
         })
     }
 
-    /// All situations, with how often they came, and in which line first.
+    /// All situations, with their counts and their first lines.
     pub fn rows(&self) -> &[Row]
         ensures value { result.now ≡ rows_in self.now }
         ensures covered { (levels : List Level) (l : Liberties) (t : Trace W) (closed : Bool) →
@@ -129,7 +105,33 @@ impl<const W: usize> Covering<W> {
         &self.rows
     }
 
-    /// Whether an Acquire of a block is pending on link `m`, which is another than this one.
+    /// The table of a link: its bins, with their counts and their first lines; none if there is no such link.
+    pub fn table(&self, link: Link) -> &[Row]
+        ensures value { result.now ≡ table_in self.now link.0 }
+        ensures counted { (levels : List Level) (l : Liberties) (t : Trace W) (closed : Bool) →
+            Covers self.now levels l t closed → link.0 < length levels →
+            result.now ≡ table l (length levels) link.0 t }
+    {
+        match self.pasts.get(usize::from(link.0)) {
+            None => &[],
+            Some(past) => &past.rows,
+        }
+    }
+
+    /// The counts of all bins on all links, link after link; None for a bin that a link can't have, by its level and its
+    /// liberties, and that didn't come.
+    pub fn cells(&self, alloc: Global) -> Result<Vec<Option<u64>>, AllocError>
+        requires { IsWidth W }
+        ensures value { IfOk result (λ cells. cells.items ≡ cells_in self.now) }
+        ensures counted { IfOk result (λ it. (levels : List Level) (l : Liberties) (t : Trace W) (closed : Bool) →
+            Covers self.now levels l t closed → it.items ≡ cells l levels t) }
+    {
+        let mut cells = Vec::new(alloc);
+        append_tables::<W>(self.liberties, &self.pasts, &mut cells)?;
+        Ok(cells)
+    }
+
+    /// Whether an Acquire of a block is pending on link `m`, another than this one.
     fn is_acquiring(&self, m: u8, link: Link, block: u32) -> bool
         ensures { (levels : List Level) (l : Liberties) (t : Trace W) (closed : Bool) →
             Covers self.now levels l t closed → m < length levels →
@@ -141,7 +143,7 @@ impl<const W: usize> Covering<W> {
         }
     }
 
-    /// On how many other links an Acquire of a block is pending.
+    /// The number of other links on which an Acquire of a block is pending.
     fn acquiring(&self, link: Link, block: u32) -> usize
         ensures { (levels : List Level) (l : Liberties) (t : Trace W) (closed : Bool) →
             Covers self.now levels l t closed → result ≡ scenes.acquiring (length levels) link.0 block t }
@@ -153,7 +155,31 @@ impl<const W: usize> Covering<W> {
         number
     }
 
-    /// Whether link `m`, which is another than this one, holds so much of a block.
+    /// Whether a Grant is incomplete on link `m`, another than this one.
+    fn is_granting(&self, m: u8, link: Link) -> bool
+        ensures { (levels : List Level) (l : Liberties) (t : Trace W) (closed : Bool) →
+            Covers self.now levels l t closed → m < length levels →
+            result ≡ scenes.grants_beside link.0 t m }
+    {
+        match self.pasts.get(usize::from(m)) {
+            None => false,
+            Some(past) => m != link.0 && past.is_granting(),
+        }
+    }
+
+    /// The number of other links on which a Grant is incomplete.
+    fn granting(&self, link: Link) -> usize
+        ensures { (levels : List Level) (l : Liberties) (t : Trace W) (closed : Bool) →
+            Covers self.now levels l t closed → result ≡ scenes.granting (length levels) link.0 t }
+    {
+        let mut number = 0;
+        for m in 0..self.count {
+            number += usize::from(self.is_granting(m, link));
+        }
+        number
+    }
+
+    /// Whether link `m`, another than this one, holds this permission of a block.
     fn is_holder(&self, m: u8, link: Link, block: u32, held: Perm) -> bool
         ensures { (levels : List Level) (l : Liberties) (t : Trace W) (closed : Bool) →
             Covers self.now levels l t closed → m < length levels →
@@ -162,7 +188,7 @@ impl<const W: usize> Covering<W> {
         m != link.0 && is_same(self.monitor.held_under(Link(m), block), held)
     }
 
-    /// How many other links hold so much of a block.
+    /// The number of other links that hold this permission of a block.
     fn holders(&self, link: Link, block: u32, held: Perm) -> usize
         ensures { (levels : List Level) (l : Liberties) (t : Trace W) (closed : Bool) →
             Covers self.now levels l t closed → result ≡ scenes.holders l (length levels) link.0 block held t }
@@ -174,10 +200,11 @@ impl<const W: usize> Covering<W> {
         number
     }
 
-    /// How things stand with a block, seen from a link.
+    /// The state of a block, for a message on a link; `NOTHING` without a block.
     fn standing(&self, link: Link, past: &LinkPast, block: Option<u32>) -> Standing
         ensures { (levels : List Level) (l : Liberties) (t : Trace W) (closed : Bool) →
-            Covers self.now levels l t closed → link.0 < length levels → KnowsPast past.now (on_link link.0 t) →
+            Covers self.now levels l t closed → link.0 < length levels →
+            KnowsLink l (length levels) past.now link.0 t →
             result ≡ scenes.standing_of l (length levels) link.0 block t }
     {
         let Some(block) = block else {
@@ -187,7 +214,7 @@ impl<const W: usize> Covering<W> {
             held: self.monitor.held_under(link, block),
             acquire: has(&past.acquires, block),
             release: has(&past.releases, block),
-            probe: has(&past.probes, block),
+            probe: found(&past.probes, block).is_some(),
             grant_ack: awaits_any(&past.awaited, block),
             acquiring: self.acquiring(link, block),
             owners: self.holders(link, block, Perm::Trunk),
@@ -195,25 +222,31 @@ impl<const W: usize> Covering<W> {
         }
     }
 
-    /// What is known of the message that begins with a beat, where it begins one.
+    /// The facts about the message that begins with a beat; None if it doesn't begin one.
     fn opening(&self, link: Link, past: &LinkPast, beat: &Beat<W>) -> Option<Scene>
         ensures { (levels : List Level) (l : Liberties) (t : Trace W) (closed : Bool) →
             Covers self.now levels l t closed → link.0 < length levels →
-            KnowsPast past.now (on_link link.0 t) →
+            KnowsLink l (length levels) past.now link.0 t →
             result ≡ opening_of l (length levels) link.0 beat.now t }
     {
         if !self.monitor.begins(link, beat) {
             return None;
         }
+        let block = past.block_named(beat);
         Some(Scene {
-            block: self.standing(link, past, past.block_named(beat)),
+            line: self.line,
+            asked: past.asked_of(block),
+            block: self.standing(link, past, block),
             waiting: past.sinks.len(),
             request: past.request_named(beat),
             previous: past.newest,
+            answered: past.answered(beat),
+            between: past.is_between(),
+            granting: self.granting(link),
         })
     }
 
-    /// Takes a beat that the monitor has taken, where this was known of the message that begins with it.
+    /// Takes a beat that the monitor has taken, with the facts about the message that begins with it.
     fn take(&mut self, link: Link, beat: &Beat<W>, opening: Option<Scene>) -> Result<(), AllocError>
         requires width { IsWidth W }
         requires within { link.0 < length self.old.pasts.items }
@@ -222,15 +255,18 @@ impl<const W: usize> Covering<W> {
             opening ≡ opening_of l (length levels) link.0 beat.now t → Follows self.old (length levels) l t →
             Follows self.new (length levels) l ((link, beat.now) ∷ t)) }
         ensures monitor { self.new.monitor ≡ self.old.monitor }
+        ensures levels { OnOk result (map (λ p. p.level) self.new.pasts.items
+            ≡ map (λ p. p.level) self.old.pasts.items) }
+        ensures liberties { self.new.liberties ≡ self.old.liberties }
     {
         let last = self.monitor.begins(link, beat);
         self.line = one_more(self.line)?;
         note_all(&mut self.rows, self.line, beat, opening)?;
-        self.pasts[usize::from(link.0)].take(opening.is_some(), last, beat)
+        self.pasts[usize::from(link.0)].take(self.line, opening, last, beat)
     }
 
-    /// Judges a beat of a link as a monitor does, and counts it where it breaks no rule. After a broken rule every
-    /// call is answered `Closed`. After `Memory` the rows needn't be those of the beats that were taken.
+    /// Judges a beat of a link as a monitor does, and counts it if it breaks no rule. After a broken rule each call
+    /// returns `Closed`. After `Memory` the rows may differ from those of the beats that were taken.
     pub fn push(&mut self, link: Link, beat: &Beat<W>) -> Result<(), MonitorFault>
         requires { IsWidth W }
         ensures answer { (levels : List Level) (l : Liberties) (t : Trace W) (closed : Bool) →

@@ -1,13 +1,19 @@
-//! What a trace has tried: which situations its links have been in, how often, and where first.
+//! The situations in which the messages of a trace begin, with their counts and their first lines.
 #![tactic(auto)]
 
 mod acknowledged;
+mod asked;
+pub mod bins;
 mod blocks;
+mod counts;
 pub mod covering;
 mod kind;
 mod meets;
+pub mod message;
 pub mod name;
 mod past;
+mod possible;
 pub mod row;
 pub mod scene;
 pub mod situation;
+mod under_way;

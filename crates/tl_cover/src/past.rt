@@ -1,40 +1,62 @@
-//! What is kept of the beats that one link has carried.
+//! The record of the beats that one link has carried.
 
-ghost use Rattle.std.specs.Prelude.{ℕ, OnOk, ◌≡◌, ◌∷◌, [], ◌&&◌, is_some};
+ghost use Rattle.std.specs.Prelude.{ℕ, IfOk, OnOk, ◌≡◌, ◌∷◌, ◌++◌, [], ◌&&◌, is_some, map};
 ghost use Rattle.tl_beat.specs.declared.beat.Beat.{Beat};
+ghost use Rattle.tl_beat.specs.declared.channel.Channel.TheVariants as channel;
+ghost use Rattle.tl_beat.specs.statement.Width.{IsWidth};
 ghost use Rattle.tl_burst.specs.statement.Messages.{History};
-ghost use Rattle.tl_cover.specs.code.Past.{KnowsPast, asked_next, awaited_next, awaits, is_of, released_next};
-ghost use Rattle.tl_cover.specs.statement.Scene;
+ghost use Rattle.tl_cover.specs.code.Past.{KnowsPast, asked_in, awaited_next, awaits};
+ghost use Rattle.tl_cover.specs.code.Past.{is_of, released_next, request_next};
+ghost use Rattle.tl_cover.specs.code.Covering.{Taken, unseen};
+ghost use Rattle.tl_cover.specs.statement.Bins.{all_bins};
+ghost use Rattle.tl_cover.specs.statement.Covered.{cell};
+ghost use Rattle.tl_cover.specs.statement.Covers.{cells_of};
+ghost use Rattle.tl_cover.specs.statement.Scene as scenes;
 ghost use Rattle.tl_monitor.specs.code.Count.{at};
-ghost use Rattle.tl_params.specs.declared.key.Key.TheVariants.{AcquireOf, ReleaseOf, ProbeOf};
+ghost use Rattle.tl_params.specs.declared.key.Key.TheVariants.{AcquireOf, ReleaseOf};
 ghost use Rattle.tl_rules.specs.code.Tables.{sink_next};
 ghost use Rattle.tl_rules.specs.statement.History.{begins, ends, closes, opens, grants};
 
 use crate::acknowledged::{Awaited, acknowledge, await_ack};
+use crate::asked::{Asked, found, note_probe};
+use crate::bins::BINS;
 use crate::blocks::turn;
+use crate::counts::{new_rows, note_all};
+use crate::possible::is_possible;
+use crate::row::Row;
+use crate::scene::{ProbeAt, Scene};
+use crate::under_way::{UnderWay, is_of_grant};
 use std::alloc::{AllocError, Global};
 use tl_beat::beat::Beat;
 use tl_beat::control::Control;
 use tl_monitor::byte_table::ByteTable;
 use tl_params::key::block_at;
-use tl_rules::kind::{is_acquire, is_grant, is_probe, is_probe_ack, is_release, is_release_ack};
+use tl_params::level::Level;
+use tl_params::liberties::Liberties;
+use tl_rules::kind::{is_acquire, is_grant, is_release, is_release_ack};
 use tl_rules::past::Request;
 
-/// What is kept of a link: the last request with each source and the block of the last Release, what is pending by
-/// block and by sink, and the newest beat.
+/// The record of a link: the last request with each source, the block of the last Release with each source, the pending
+/// messages by block and by sink, the newest beat, and the counts of the link's table.
 #[derive(Drop)]
 pub struct LinkPast {
     requests: ByteTable<Request>,
     released: ByteTable<u32>,
     pub acquires: Vec<u32>,
     pub releases: Vec<u32>,
-    pub probes: Vec<u32>,
+    pub probes: Vec<Asked>,
     /// The blocks whose GrantAcks are pending.
     pub awaited: Vec<Awaited>,
     /// The sinks whose GrantAcks are pending.
     pub sinks: ByteTable<()>,
     /// The control fields of the newest beat.
     pub newest: Option<Control>,
+    /// The newest beats of the messages that aren't complete.
+    pub under_way: UnderWay,
+    /// The level of the link.
+    pub level: Level,
+    /// The bins with their counts.
+    pub rows: Vec<Row>,
 }
 
 /// The block whose Acquire begins with a beat.
@@ -57,27 +79,7 @@ fn released<const W: usize>(first: bool, beat: &Beat<W>) -> Option<u32>
     }
 }
 
-/// The block whose Probe begins with a beat.
-fn probed<const W: usize>(first: bool, beat: &Beat<W>) -> Option<u32>
-    ensures { (k : ℕ) (h : History W) → is_of k result ≡ (first && opens (ProbeOf k) beat.now h) }
-{
-    match beat {
-        Beat::B(x) if first && is_probe(x.opcode) => Some(block_at(x.address)),
-        _ => None,
-    }
-}
-
-/// The block whose ProbeAck is complete with a beat.
-fn probe_acknowledged<const W: usize>(last: bool, beat: &Beat<W>) -> Option<u32>
-    ensures { (k : ℕ) (h : History W) → is_of k result ≡ (last && closes (ProbeOf k) beat.now h) }
-{
-    match beat {
-        Beat::C(x) if last && is_probe_ack(x.opcode) => Some(block_at(x.address)),
-        _ => None,
-    }
-}
-
-/// A block, where it counts.
+/// The block, if `counts` is true.
 fn only_if(counts: bool, block: Option<u32>) -> Option<u32>
     ensures { (k : ℕ) → is_of k result ≡ (counts && is_of k block) }
 {
@@ -86,7 +88,7 @@ fn only_if(counts: bool, block: Option<u32>) -> Option<u32>
 
 /// Notes a request that begins with a beat.
 fn note_request<const W: usize>(requests: &mut ByteTable<Request>, first: bool, beat: &Beat<W>)
-    ensures { (s : ℕ) → at requests.new s ≡ asked_next first beat.now s (at requests.old s) }
+    ensures { (s : ℕ) → at requests.new s ≡ request_next first beat.now s (at requests.old s) }
 {
     match beat {
         Beat::A(x) if first => requests.set(
@@ -114,7 +116,7 @@ fn note_release<const W: usize>(blocks: &mut ByteTable<u32>, first: bool, beat: 
     }
 }
 
-/// Notes the sink of a Grant that begins with a beat, and takes away that of a GrantAck.
+/// Notes the sink of a Grant that begins with a beat, and removes that of a GrantAck.
 fn note_sink<const W: usize>(sinks: &mut ByteTable<()>, first: bool, last: bool, beat: &Beat<W>)
     ensures { (s : ℕ) → is_some (at sinks.new s) ≡ sink_next first last beat.now s (is_some (at sinks.old s)) }
 {
@@ -125,7 +127,7 @@ fn note_sink<const W: usize>(sinks: &mut ByteTable<()>, first: bool, last: bool,
     }
 }
 
-/// Notes the block that a beat grants, where it begins the Grant, and takes away that of a GrantAck.
+/// Notes the block of a Grant that begins with a beat, and removes that of a GrantAck.
 fn note_grant<const W: usize>(
     awaited: &mut Vec<Awaited>,
     first: bool,
@@ -149,12 +151,44 @@ fn note_grant<const W: usize>(
     }
 }
 
+/// The count of a bin on a link of this level with these liberties; None if such a link can't have it, and it didn't
+/// come.
+fn cell_of<const W: usize>(liberties: Liberties, level: Level, row: &Row) -> Option<u64>
+    requires { IsWidth W }
+    ensures { result ≡ cell W liberties level row.now }
+{
+    if is_possible::<W>(liberties, level, row.situation) || row.count > 0 {
+        Some(row.count)
+    } else {
+        None
+    }
+}
+
+/// Appends the counts of these bins.
+fn append_counts<const W: usize>(
+    liberties: Liberties,
+    level: Level,
+    rows: &[Row],
+    cells: &mut Vec<Option<u64>>,
+) -> Result<(), AllocError>
+    requires { IsWidth W }
+    ensures { OnOk result (cells.new.items ≡ cells.old.items ++ map (cell W liberties level) rows.now) }
+{
+    for row in rows {
+        cells.push(cell_of::<W>(liberties, level, row))?;
+    }
+    Ok(())
+}
+
 impl LinkPast {
-    /// What is kept of a link that has carried nothing.
-    pub fn new(alloc: Global) -> Self
-        ensures { (w : ℕ) → KnowsPast {w = w} result [] }
+    /// The record of a link of this level that has carried nothing.
+    pub fn new(alloc: Global, level: Level) -> Result<Self, AllocError>
+        ensures level { IfOk result (λ p. p.level ≡ level) }
+        ensures past { IfOk result (λ p. (w : ℕ) → KnowsPast {w = w} p []) }
+        ensures probes { IfOk result (λ p. p.probes.items ≡ []) }
+        ensures rows { IfOk result (λ p. p.rows.items ≡ map unseen all_bins) }
     {
-        LinkPast {
+        Ok(LinkPast {
             requests: ByteTable::new(),
             released: ByteTable::new(),
             acquires: Vec::new(alloc),
@@ -163,12 +197,15 @@ impl LinkPast {
             awaited: Vec::new(alloc),
             sinks: ByteTable::new(),
             newest: None,
-        }
+            under_way: UnderWay::none(),
+            level,
+            rows: new_rows(alloc, &BINS)?,
+        })
     }
 
     /// The last request with the source of a response to one.
     pub fn request_named<const W: usize>(&self, beat: &Beat<W>) -> Option<Request>
-        ensures { (h : History W) → KnowsPast self.now h → result ≡ Scene.request_named beat.now h }
+        ensures { (h : History W) → KnowsPast self.now h → result ≡ scenes.request_named beat.now h }
     {
         match beat {
             Beat::D(x) if !is_release_ack(x.opcode) => self.requests.get(x.source),
@@ -176,9 +213,9 @@ impl LinkPast {
         }
     }
 
-    /// The block that the message of a beat bears on; for a response that of its request.
+    /// The block of a beat's message: that of its address, or for a response to a request that of the request.
     pub fn block_named<const W: usize>(&self, beat: &Beat<W>) -> Option<u32>
-        ensures { (h : History W) → KnowsPast self.now h → result ≡ Scene.block_named beat.now h }
+        ensures { (h : History W) → KnowsPast self.now h → result ≡ scenes.block_named beat.now h }
     {
         match beat {
             Beat::A(x) => Some(block_at(x.address)),
@@ -186,6 +223,40 @@ impl LinkPast {
             Beat::C(x) => Some(block_at(x.address)),
             _ => Some(self.request_named(beat)?.block),
         }
+    }
+
+    /// The pending Probe of a message's block, if it has one.
+    pub fn asked_of(&self, block: Option<u32>) -> Option<ProbeAt>
+        ensures { result ≡ asked_in self.now block }
+    {
+        found(&self.probes, block?)
+    }
+
+    /// The newest beat of the incomplete message on the channel that a beat answers.
+    pub fn answered<const W: usize>(&self, beat: &Beat<W>) -> Option<Control>
+        ensures { (h : History W) → KnowsPast self.now h → result ≡ scenes.answered beat.now h }
+    {
+        match beat {
+            Beat::D(x) if is_release_ack(x.opcode) => self.under_way.c,
+            Beat::D(_) => self.under_way.a,
+            Beat::E(_) => self.under_way.d,
+            _ => None,
+        }
+    }
+
+    /// Whether a message is incomplete on each of the channels A, C and D.
+    pub fn is_between(&self) -> bool
+        ensures { (w : ℕ) (h : History w) → KnowsPast self.now h → result ≡ scenes.is_between h }
+    {
+        self.under_way.is_full()
+    }
+
+    /// Whether a Grant is incomplete.
+    pub fn is_granting(&self) -> bool
+        ensures { (w : ℕ) (h : History w) → KnowsPast self.now h →
+            result ≡ scenes.is_of_grant (scenes.under_way channel.D h) }
+    {
+        is_of_grant(self.under_way.d)
     }
 
     /// The block that a beat grants.
@@ -208,16 +279,32 @@ impl LinkPast {
         }
     }
 
-    /// Takes a beat, which begins a message or doesn't, and completes it or doesn't.
+    /// Appends the counts of all bins; None for one that a link of this level with these liberties can't have, and that
+    /// didn't come.
+    pub fn append_cells<const W: usize>(
+        &self,
+        liberties: Liberties,
+        cells: &mut Vec<Option<u64>>,
+    ) -> Result<(), AllocError>
+        requires { IsWidth W }
+        ensures { OnOk result (cells.new.items ≡ cells.old.items ++ cells_of W liberties self.now) }
+    {
+        append_counts::<W>(liberties, self.level, &self.rows, cells)
+    }
+
+    /// Takes a beat in a line of the trace: with the facts about the message that it begins, if it begins one, and `last`
+    /// says that it ends one.
     pub fn take<const W: usize>(
         &mut self,
-        first: bool,
+        line: u64,
+        opening: Option<Scene>,
         last: bool,
         beat: &Beat<W>,
     ) -> Result<(), AllocError>
-        ensures { OnOk result ((h : History W) → KnowsPast self.old h → first ≡ begins beat.now h →
-            last ≡ ends beat.now h → KnowsPast self.new (beat.now ∷ h)) }
+        requires { IsWidth W }
+        ensures { OnOk result (Taken self.old self.new line opening last beat.now) }
     {
+        let first = opening.is_some();
         let granted = self.granted(beat);
         let answered = self.release_acknowledged(beat);
         turn(
@@ -230,16 +317,13 @@ impl LinkPast {
             released(first, beat),
             only_if(last, answered),
         )?;
-        turn(
-            &mut self.probes,
-            probed(first, beat),
-            probe_acknowledged(last, beat),
-        )?;
+        note_probe(&mut self.probes, line, first, last, beat)?;
         note_grant(&mut self.awaited, first, last, beat, granted)?;
         note_sink(&mut self.sinks, first, last, beat);
         note_request(&mut self.requests, first, beat);
         note_release(&mut self.released, first, beat);
         self.newest = Some(beat.control());
-        Ok(())
+        self.under_way = self.under_way.with(last, beat);
+        note_all(&mut self.rows, line, beat, opening)
     }
 }

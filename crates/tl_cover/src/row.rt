@@ -1,4 +1,4 @@
-//! How often a situation came, and where first.
+//! The count of a situation, and its first line.
 
 ghost use Rattle.std.specs.Prelude.{◌≡◌, ◌+◌, IfOk, OnOk};
 ghost use Rattle.tl_cover.specs.code.Covering.{noted_if, unseen};
@@ -6,7 +6,7 @@ ghost use Rattle.tl_cover.specs.code.Covering.{noted_if, unseen};
 use crate::situation::Situation;
 use std::alloc::AllocError;
 
-/// How often a situation came, and in which line first, where it came.
+/// The count of a situation, and the line in which it first came, if it came.
 #[derive(Clone, Copy, Debug, PartialEq, Eq)]
 pub struct Row {
     pub situation: Situation,
@@ -14,7 +14,7 @@ pub struct Row {
     pub first: Option<u64>,
 }
 
-/// One more. There is no number behind 2^64 - 1.
+/// One more. An error above 2^64 - 1.
 pub fn one_more(number: u64) -> Result<u64, AllocError>
     ensures { IfOk result (λ more. more ≡ number + 1) }
 {
@@ -22,7 +22,7 @@ pub fn one_more(number: u64) -> Result<u64, AllocError>
 }
 
 impl Row {
-    /// The situation hasn't come.
+    /// The row of a situation that never came.
     pub fn new(situation: Situation) -> Self
         ensures { result ≡ unseen situation }
     {
@@ -33,7 +33,7 @@ impl Row {
         }
     }
 
-    /// Notes whether the situation came in a line.
+    /// Notes that the situation came in a line, if it did.
     pub fn note(&mut self, came: bool, line: u64) -> Result<(), AllocError>
         ensures { OnOk result (self.new ≡ noted_if came line self.old) }
     {

@@ -1,4 +1,4 @@
-//! What is known of a message at its first beat, by the beats before it.
+//! The facts about a message at its first beat, from the beats before it.
 
 ghost use Rattle.std.specs.Prelude.{◌≡◌};
 ghost use Rattle.tl_rules.specs.statement.Conformance.{same_perm};
@@ -7,10 +7,10 @@ use tl_beat::control::Control;
 use tl_rules::past::Request;
 use tl_rules::perm::Perm;
 
-/// How things stand with a block on the link of a message, and on the links beside it.
+/// The state of a block on the link of a message, and on the other links.
 #[derive(Clone, Copy)]
 pub struct Standing {
-    /// What the link holds of the block.
+    /// The permission that the link holds of the block.
     pub held: Perm,
     /// An Acquire of the block is pending on the link.
     pub acquire: bool,
@@ -20,28 +20,45 @@ pub struct Standing {
     pub probe: bool,
     /// The GrantAck of the block is pending on the link.
     pub grant_ack: bool,
-    /// On how many other links an Acquire of the block is pending.
+    /// The number of other links on which an Acquire of the block is pending.
     pub acquiring: usize,
-    /// How many other links hold the block to write.
+    /// The number of other links that hold the block as Trunk.
     pub owners: usize,
-    /// How many other links hold the block to read.
+    /// The number of other links that hold the block as Branch.
     pub readers: usize,
 }
 
-/// What the beats before a message say of it.
+/// A Probe: its param, and its line in the trace.
+#[derive(Clone, Copy, Debug, PartialEq, Eq)]
+pub struct ProbeAt {
+    pub param: u8,
+    pub line: u64,
+}
+
+/// The facts about a message, from the beats before it.
 #[derive(Clone, Copy)]
 pub struct Scene {
-    /// How things stand with the block that the message bears on.
+    /// The line of the trace before its first beat.
+    pub line: u64,
+    /// The state of the message's block.
     pub block: Standing,
-    /// How many Grants of the link wait for their GrantAcks.
+    /// The pending Probe of the message's block.
+    pub asked: Option<ProbeAt>,
+    /// The number of Grants of the link that wait for their GrantAcks.
     pub waiting: usize,
-    /// The request with the source of a response.
+    /// The last request with the source of a response to one.
     pub request: Option<Request>,
     /// The control fields of the beat before it on the link.
     pub previous: Option<Control>,
+    /// The newest beat of the incomplete message on the channel that the message answers.
+    pub answered: Option<Control>,
+    /// A message is incomplete on each of the channels A, C and D.
+    pub between: bool,
+    /// The number of other links on which a Grant is incomplete.
+    pub granting: usize,
 }
 
-/// How things stand with no block.
+/// The state without a block.
 pub const NOTHING: Standing = Standing {
     held: Perm::None,
     acquire: false,

@@ -1,8 +1,9 @@
-//! The situations that a trace is looked through for.
+//! The situations that are counted in a trace.
 
-use tl_params::param::{Arithmetic, Cap, Grow, Logical, Prune, Report};
+use crate::message::MessageKind;
+use tl_params::param::{Arithmetic, Cap, Grow, Logical, Report};
 
-/// How many of the lanes of a beat a mask names.
+/// The lanes of a beat that a mask names.
 #[derive(Clone, Copy, Debug, PartialEq, Eq)]
 pub enum Lanes {
     Empty,
@@ -22,7 +23,28 @@ pub enum Bytes {
     SixtyFour,
 }
 
-/// A situation in which a message begins. What each means is a predicate on the beats before it, in the definitions.
+/// The number of beats of the trace between a Probe and the first beat of its answer.
+#[derive(Clone, Copy, Debug, PartialEq, Eq)]
+pub enum Wait {
+    None,
+    One,
+    /// 2 or 3.
+    Two,
+    /// 4 to 7.
+    Four,
+    /// 8 to 15.
+    Eight,
+    /// 16 to 31.
+    Sixteen,
+    /// 32 to 63.
+    ThirtyTwo,
+    /// 64 to 127.
+    SixtyFour,
+    /// 128 or more.
+    Longer,
+}
+
+/// A situation in which a message begins. Its definition is a predicate on the beats up to the message's first.
 #[derive(Clone, Copy, Debug, PartialEq, Eq)]
 pub enum Situation {
     /// A Probe of a block whose Release is pending.
@@ -41,57 +63,85 @@ pub enum Situation {
     UpgradeLostWithoutData,
     /// A Release of a block whose GrantAck is pending.
     ReleaseBeforeGrantAck,
-    /// A Grant beside one that waits for its GrantAck.
+    /// A Grant while at least one other waits for its GrantAck on the link.
     TwoGrants,
-    /// A Grant beside three that wait for their GrantAcks.
+    /// A Grant while at least three others wait for their GrantAcks on the link.
     FourGrants,
-    /// An Acquire that asks for this growth.
+    /// An Acquire with this grow.
     Acquired(Grow),
-    /// A Grant that lets what the link holds of the block grow so.
+    /// A Grant by which the permission held of the block grows in this way.
     Granted(Grow),
     /// A Probe with this cap.
     Probed(Cap),
     /// A ProbeAck with this report.
     Reported(Report),
-    /// A Release that gives this up.
-    Released(Prune),
-    /// An access to a block whose Acquire or Release is pending.
+    /// A Release with this report. The prunes are TtoB, TtoN and BtoN.
+    Released(Report),
+    /// An access to a block whose Acquire or Release is pending on the link.
     AccessBesideTransfer,
     /// An access to a block that its own link holds.
     AccessOfHeldBlock,
-    /// A PutPartialData whose first mask names so many lanes.
+    /// A PutPartialData whose first mask names these lanes.
     Masked(Lanes),
-    /// A Get of so many bytes.
+    /// A Get of this many bytes.
     GetOf(Bytes),
-    /// A Put of so many bytes.
+    /// A Put of this many bytes.
     PutOf(Bytes),
-    /// An atomic of so many bytes.
+    /// An atomic of this many bytes.
     AtomicOf(Bytes),
     /// An ArithmeticData of this operation.
     Arithmetic(Arithmetic),
     /// A LogicalData of this operation.
     Logical(Logical),
-    /// A response right behind a beat of its request.
+    /// A response right after a beat of its request or Release.
     ResponseAtOnce,
-    /// A GrantAck behind a beat of another channel than D.
+    /// A GrantAck right after a beat that isn't of channel D.
     GrantAckLater,
-    /// An Acquire of a block whose Acquire on another link is pending.
+    /// An Acquire of a block while an Acquire of it is pending on another link.
     Contention,
-    /// An Acquire of a block whose Acquires on two other links are pending.
+    /// An Acquire of a block while Acquires of it are pending on at least two other links.
     ThreeContend,
-    /// A Get from a block that another link holds to write.
+    /// A Get from a block that another link holds as Trunk.
     ReadOfOwned,
-    /// A Put to a block that another link holds to write.
+    /// A Put to a block that another link holds as Trunk.
     WriteToOwned,
-    /// An atomic on a block that another link holds to write.
+    /// An atomic on a block that another link holds as Trunk.
     AtomicOnOwned,
-    /// A Put to a block that two other links hold to read.
+    /// A Put to a block that at least two other links hold as Branch.
     WriteToShared,
+    /// A ProbeAckData between the beats of another link's Grant.
+    ReportBesideGrant,
+    /// A Probe or a GrantAck between the beats of messages of A, C and D.
+    BetweenBursts,
+    /// A response before the last beat of its request or Release (the liberty `early`).
+    EarlyResponse,
+    /// A GrantAck before the last beat of its Grant (`early`).
+    EarlyGrantAck,
+    /// A Probe whose source isn't 0 (`ids`).
+    ProbeWithSource,
+    /// A response other than a Grant, with a sink that isn't 0 (`sinks`).
+    SinkWithoutGrant,
+    /// A Grant toT for an Acquire NtoB (`writer`).
+    GrantOfMore,
+    /// An Acquire NtoB or NtoT, or a report NtoN, of a block that the link held (`drops`).
+    CopyDropped,
+    /// A Grant that is denied (`denied`).
+    GrantDenied,
+    /// A denied AccessAckData that isn't corrupt (`uncorrupt`).
+    DeniedUncorrupt,
+    /// A message of this kind.
+    Sent(MessageKind),
+    /// A ProbeAck with this report, to a Probe with this cap.
+    Answered(Report, Cap),
+    /// A ProbeAck to a Probe that waited so many beats.
+    Waited(Wait),
+    /// An access of this many bytes at a multiple of that many: the greatest number up to 64 that divides its address.
+    Aligned(Bytes, Bytes),
 }
 
 impl Situation {
-    /// All situations, in the order in which they are told.
-    pub const ALL: [Situation; 66] = [
+    /// All situations, in the order of the report.
+    pub const ALL: [Situation; 79] = [
         Situation::ProbeBesideRelease,
         Situation::ReleaseBesideProbe,
         Situation::ProbeBesideAcquire,
@@ -117,9 +167,12 @@ impl Situation {
         Situation::Reported(Report::TtoT),
         Situation::Reported(Report::BtoB),
         Situation::Reported(Report::NtoN),
-        Situation::Released(Prune::TtoB),
-        Situation::Released(Prune::TtoN),
-        Situation::Released(Prune::BtoN),
+        Situation::Released(Report::TtoB),
+        Situation::Released(Report::TtoN),
+        Situation::Released(Report::BtoN),
+        Situation::Released(Report::TtoT),
+        Situation::Released(Report::BtoB),
+        Situation::Released(Report::NtoN),
         Situation::AccessBesideTransfer,
         Situation::AccessOfHeldBlock,
         Situation::Masked(Lanes::Empty),
@@ -158,5 +211,15 @@ impl Situation {
         Situation::WriteToOwned,
         Situation::AtomicOnOwned,
         Situation::WriteToShared,
+        Situation::ReportBesideGrant,
+        Situation::BetweenBursts,
+        Situation::EarlyResponse,
+        Situation::EarlyGrantAck,
+        Situation::ProbeWithSource,
+        Situation::SinkWithoutGrant,
+        Situation::GrantOfMore,
+        Situation::CopyDropped,
+        Situation::GrantDenied,
+        Situation::DeniedUncorrupt,
     ];
 }

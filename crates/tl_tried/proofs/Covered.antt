@@ -1,7 +1,7 @@
 -- The situations of a trace, line by line.
-use Rattle.std.proofs.Common.{◌≡◌, ℕ, ◌+◌, ◌-◌, false, true, List, [], ◌∷◌}
-use Rattle.std.proofs.Common.{◌++◌, length, refl, ap, ◌∙◌, arith, append_assoc}
-use Rattle.std.proofs.Common.{length-append, inl, inr, subst}
+use Rattle.std.proofs.Common.{◌≡◌, ℕ, ◌+◌, ◌-◌, Bool, false, true, List, [], ◌∷◌}
+use Rattle.std.proofs.Common.{◌++◌, length, refl, ap, ap₂, ◌∙◌, arith, append_assoc}
+use Rattle.std.proofs.Common.{length-append, inl, inr}
 use Rattle.std.proofs.lemmas.List.{append-nil}
 use Rattle.std.specs.Prelude.{IfOk, Option, Some, None, Result, Ok, Err, option_map}
 use Rattle.std.specs.declared.alloc.Global.{Global}
@@ -11,8 +11,9 @@ use Rattle.tl_beat.specs.declared.fault.LineFault.{LineFault}
 use Rattle.tl_beat.specs.declared.fault.LineFault.TheVariants.{F1}
 use Rattle.tl_beat.specs.statement.Line.{Spells, line_fault}
 use Rattle.tl_cover.specs.declared.covering.Covering.{Covering}
+use Rattle.tl_cover.proofs.Answered.{cells_covered}
 use Rattle.tl_cover.specs.declared.row.Row.{Row}
-use Rattle.tl_cover.specs.statement.Covers.{Covers, rows_in}
+use Rattle.tl_cover.specs.statement.Covers.{Covers}
 use Rattle.tl_engine.proofs.Decoded.{open_fault}
 use Rattle.tl_engine.proofs.Judged.{said_at_end}
 use Rattle.tl_engine.proofs.JudgedTraces.{all_judged, bad_line, header_unread, header_unseen}
@@ -39,11 +40,11 @@ use Rattle.tl_params.specs.declared.width.Width.{Width}
 use Rattle.tl_rules.specs.statement.Conformance.{Trace}
 use Rattle.tl_rules.specs.statement.Liberties.{broken_on_link_under}
 use Rattle.tl_tried.specs.code.Following.{EndsLines, KnowsFollowing, KnowsLines, KnowsTrace, ReadsLine, TakesBeat}
-use Rattle.tl_tried.specs.code.Following.{rows_by, rows_of}
+use Rattle.tl_tried.specs.code.Following.{found_by, found_in, found_of_lines}
 use Rattle.tl_tried.specs.declared.cover_lines.CoverLines.{CoverLines}
 use Rattle.tl_tried.specs.declared.cover_lines.Following.{Following}
 use Rattle.tl_tried.specs.declared.cover_lines.Following.TheVariants.{Waiting, Four, Eight, Sixteen}
-use Rattle.tl_tried.specs.statement.Tried.{AreCovered, CoveredAfter}
+use Rattle.tl_tried.specs.statement.Tried.{AreCovered, CoveredAfter, Found, found_of}
 
 -- what is judged, as it is known of each link by itself
 abbrev judged_in : {w : ℕ} {allow : Liberties} {c : Covering w} {lines : List (List ℕ)} {text : List ℕ}
@@ -63,6 +64,13 @@ judged_in k = record {
 -- the beats that are known of a covering
 abbrev KnownTo : {w : ℕ} → Covering w → List Level → Liberties → Trace w → Type 0
 KnownTo c levels may t = Covers c levels may t false
+
+-- the situations and the counts of a covering are those of its trace
+found_are : {w : ℕ} (c : Covering w) (levels : List Level) (may : Liberties) (t : Trace w) (closed : Bool)
+    → Covers c levels may t closed → found_in c ≡ found_of may levels t
+found_are c levels may t closed known =
+    ap₂ (λ (rows : List Row) (counts : List (Option ℕ)). (rows, counts)) known.follows.rows_are
+    (cells_covered c levels may t closed known)
 
 -- ---- a beat
 
@@ -85,7 +93,7 @@ module _ {w : ℕ} (old new : Covering w) (link : Link) (beat : Beat w) where
       → TakesBeat old new link beat (Some (Breaks rule))
   beat_bad rule broken covers = λ levels l t known. (
     ap (option_map Breaks) (broken_by (broken_on_link_under l levels (link, beat) t) rule (broken levels l t known)),
-    (covers levels l t known).follows.rows_are,
+    found_are new levels l t true (covers levels l t known),
   )
 
 -- ---- a line behind the header
@@ -105,23 +113,23 @@ line_taken old new line link beat (Ok (Some fault)) spells takes = λ levels may
 -- a line that spells none is at fault
 pub line_unread : {w : ℕ} (c : Covering w) (line : List ℕ) (fault : LineFault) → line_fault w line ≡ Some fault
     → ReadsLine c c line (Some (Line fault))
-line_unread c line fault is = λ levels may t known. (inl (fault, is, refl), known.follows.rows_are)
+line_unread c line fault is = λ levels may t known. (inl (fault, is, refl), found_are c levels may t false known)
 
 -- the line is at fault, and the situations stay those before it, whatever follows
 covered_bad : {w : ℕ} (allow : Liberties) (c : Covering w) (lines : List (List ℕ)) (text line : List ℕ)
     (k : KnowsTrace allow c lines text) (fault : Fault) → IsAtFault (faults_by false) k.levels k.may k.trace line fault
-    → (rows : List Row) → rows ≡ rows_in c → (more : List (List ℕ)) → AreCovered allow (lines ++ line ∷ more) rows
+    → (found : Found) → found ≡ found_in c → (more : List (List ℕ)) → AreCovered allow (lines ++ line ∷ more) found
 unfolding CoveredAfter
-covered_bad allow c lines text line k fault is rows same more =
-    k.covers (line ∷ more) rows (inr (fault, is, same ∙ k.known.follows.rows_are))
+covered_bad allow c lines text line k fault is found same more =
+    k.covers (line ∷ more) found (inr (fault, is, same ∙ found_are c k.levels k.may k.trace false k.known))
 
 module _ {w : ℕ} (allow : Liberties) (wrap : Covering w → Following)
     (into : (c : Covering w) (lines : List (List ℕ)) (text : List ℕ) → KnowsFollowing allow (wrap c) lines text
     → KnowsTrace allow c lines text)
     (out : (c : Covering w) (lines : List (List ℕ)) (text : List ℕ) → KnowsTrace allow c lines text
     → KnowsFollowing allow (wrap c) lines text)
-    (out_ends : (c : Covering w) (lines : List (List ℕ)) → AreCovered allow lines (rows_in c)
-    → AreCovered allow lines (rows_by (wrap c))) where
+    (out_ends : (c : Covering w) (lines : List (List ℕ)) → AreCovered allow lines (found_in c)
+    → AreCovered allow lines (found_by (wrap c))) where
   -- the handler of these coverings
   abbrev handler : Covering w → CoverLines
   handler c = record { allow = allow; following = wrap c }
@@ -159,7 +167,7 @@ module _ {w : ℕ} (allow : Liberties) (wrap : Covering w → Following)
   read_ends old new line (Ok (Some other)) reads fault is = λ lines text known more.
       let k = into old lines text known in
       let (bad, rows) = reads k.levels k.may k.trace k.known in
-      out_ends new (lines ++ line ∷ more) (k.covers (line ∷ more) (rows_in new) (inr (other, bad, rows)))
+      out_ends new (lines ++ line ∷ more) (k.covers (line ∷ more) (found_in new) (inr (other, bad, rows)))
 
 -- ---- the header
 
@@ -211,9 +219,9 @@ module _ {w : ℕ} (allow : Liberties) (c : Covering w) where
       (judged_in k) (inl (F1, open_fault w line is, refl))
 
   opened_covered : (lines : List (List ℕ)) (text line : List ℕ) → KnowsTrace allow c lines text → IsOpen line
-      → (more : List (List ℕ)) → AreCovered allow (lines ++ line ∷ more) (rows_in c)
+      → (more : List (List ℕ)) → AreCovered allow (lines ++ line ∷ more) (found_in c)
   opened_covered lines text line k is =
-      covered_bad allow c lines text line k (Line F1) (inl (F1, open_fault w line is, refl)) (rows_in c) refl
+      covered_bad allow c lines text line k (Line F1) (inl (F1, open_fault w line is, refl)) (found_in c) refl
 
   ended : (count : ℕ) (lines : List (List ℕ)) (before was is : List ℕ) → is ≡ was ++ end_by false (count - 1)
       → KnowsTrace allow c lines (before ++ was) → count ≡ length lines
@@ -223,9 +231,9 @@ module _ {w : ℕ} (allow : Liberties) (c : Covering w) where
       (says ∙ ap (λ (x : List ℕ). was ++ x) (said_at_end false (count - 1))) (judged_in k) counted
 
   all_covered : (lines : List (List ℕ)) (text : List ℕ) → KnowsTrace allow c lines text
-      → AreCovered allow lines (rows_in c)
+      → AreCovered allow lines (found_in c)
   unfolding CoveredAfter
-  all_covered lines text k = rw (append-nil lines) at (k.covers [] (rows_in c) k.known.follows.rows_are)
+  all_covered lines text k = rw (append-nil lines) at (k.covers [] (found_in c) (found_are c k.levels k.may k.trace false k.known))
 
 abbrev IsRead : CoverLines → Type 0
 IsRead h = (alloc : Global) → h.following ≡ Waiting alloc → ⊥
@@ -246,7 +254,7 @@ open_stops h read line said is = λ lines before k. open_by h.allow h.following 
 
 open_covered : (allow : Liberties) (f : Following) (line : List ℕ) → IsOpen line
     → (lines : List (List ℕ)) (text : List ℕ)
-    → KnowsFollowing allow f lines text → (more : List (List ℕ)) → AreCovered allow (lines ++ line ∷ more) (rows_by f)
+    → KnowsFollowing allow f lines text → (more : List (List ℕ)) → AreCovered allow (lines ++ line ∷ more) (found_by f)
 unfolding AreCovered
 open_covered allow (Waiting alloc) line is lines text k more = rw k.0 (inr (open_heads false allow line is, refl))
 open_covered allow (Four c) line is lines text k more = opened_covered allow c lines text line k is more
@@ -281,7 +289,7 @@ all_clean h read count was is says = λ lines before k counted.
     end_by_all h.allow h.following read count lines before was is says k counted
 
 covered_by : (allow : Liberties) (f : Following) (lines : List (List ℕ)) (text : List ℕ)
-    → KnowsFollowing allow f lines text → AreCovered allow lines (rows_by f)
+    → KnowsFollowing allow f lines text → AreCovered allow lines (found_by f)
 unfolding AreCovered
 covered_by allow (Waiting alloc) lines text k = rw k.0 refl
 covered_by allow (Four c) lines text k = all_covered allow c lines text k
@@ -294,6 +302,6 @@ covered_here h = λ lines text k. covered_by h.allow h.following lines text k
 -- what a handler has of all lines is covered
 pub covered_at_end : (h : CoverLines) (lines : List (List ℕ)) (status : Status)
     → HasAll KnowsLines EndsLines h lines status
-    → AreCovered h.allow lines (rows_of h)
+    → AreCovered h.allow lines (found_of_lines h)
 covered_at_end h lines Clean (text, k) = covered_here h lines text k
 covered_at_end h lines Broken has = has

@@ -1,3 +1,5 @@
 pub mod Covered
 pub mod Joined
+pub mod Summed
 pub mod Telling
+mod Worked

@@ -1,5 +1,6 @@
--- What is told of a trace that was read.
-use Rattle.std.proofs.Common.{◌≡◌, ℕ, Bool, false, List, [], ◌++◌, refl, sym, ◌∙◌, subst}
+-- What is told of traces that were read.
+use Rattle.std.proofs.Common.{◌≡◌, ◌≢◌, ℕ, suc, Bool, false, true, not, nat_lt, ◌==◌, if◌then◌else◌}
+use Rattle.std.proofs.Common.{List, [], ◌∷◌, ◌++◌, length, refl, sym, ap, ap₂, ◌∙◌, subst, arith, lt-ltb, ne_eqb}
 use Rattle.std.specs.Io.KnownBytes.{Consumes}
 use Rattle.std.specs.Prelude.{Option}
 use Rattle.tl_cover.specs.declared.row.Row.{Row}
@@ -10,16 +11,19 @@ use Rattle.tl_engine.specs.declared.status.Status.{Status}
 use Rattle.tl_engine.specs.statement.JudgedLinks.{JudgedLinks}
 use Rattle.tl_params.specs.declared.liberties.Liberties.{Liberties}
 use Rattle.tl_tried.proofs.Covered.{covered_at_end}
-use Rattle.tl_tried.specs.code.Following.{EndsLines, KnowsLines, rows_of}
+use Rattle.tl_tried.specs.code.Following.{EndsLines, KnowsLines, found_of_lines}
 use Rattle.tl_tried.specs.declared.cover_lines.CoverLines.{CoverLines}
-use Rattle.tl_tried.specs.statement.Told.{told}
-use Rattle.tl_tried.specs.statement.Tried.{AreCovered, Tells}
+use Rattle.tl_tried.specs.declared.sum.Sum.{Sum}
+use Rattle.tl_tried.specs.declared.tried.Tried.{Tried}
+use Rattle.tl_tried.specs.statement.Sums.{cells_of, sums_of}
+use Rattle.tl_tried.specs.statement.Told.{Names, shown, told, told_named}
+use Rattle.tl_tried.specs.statement.Tried.{AreCovered, Found}
 
 -- what was read is judged, and the situations are those of it
 abbrev pub Gathered : Liberties → CoverLines → Option (List ℕ) → Option (List ℕ) → List ℕ → Status → Type 0
 Gathered allow h had left verdict status =
     (read : List ℕ) × Consumes had left read × JudgedLinks false allow (lines_of read) verdict status
-    × EndsAs (JudgedLinks false allow) left read verdict status × AreCovered allow (lines_of read) (rows_of h)
+    × EndsAs (JudgedLinks false allow) left read verdict status × AreCovered allow (lines_of read) (found_of_lines h)
 
 -- a handler that was made for this has gathered them
 pub gathered : (h old : CoverLines) (allow : Liberties) (had left : Option (List ℕ)) (verdict : List ℕ)
@@ -34,21 +38,40 @@ gathered h old allow had left verdict status was now (read, consumed, judged, en
   consumed,
   subst (λ (l : Liberties). JudgedLinks false l (lines_of read) verdict status) was judged,
   subst (λ (l : Liberties). EndsAs (JudgedLinks false l) left read verdict status) was ended,
-  subst (λ (l : Liberties). AreCovered l (lines_of read) (rows_of h)) now (covered_at_end h (lines_of read) status has),
+  subst (λ (l : Liberties). AreCovered l (lines_of read) (found_of_lines h)) now (covered_at_end h (lines_of read) status has),
 )
 
--- their text tells of it
-pub tells : (json : Bool) (allow : Liberties) (h : CoverLines) (had left : Option (List ℕ)) (verdict said : List ℕ)
-    (rows : List Row) (status : Status) (old text : List ℕ) → Gathered allow h had left verdict status → said ≡ verdict
-    → rows ≡ rows_of h → old ≡ [] → text ≡ old ++ told json said rows → Tells json allow had left status text
-tells json allow h had left verdict said rows status old text (read, consumed, judged, ended, covers) same are empty
-    is = (
-      read,
-      verdict,
-      rows,
-      consumed,
-      judged,
-      ended,
-      subst (λ (rs : List Row). AreCovered allow (lines_of read) rs) (sym are) covers,
-      is ∙ rw (empty, same) refl,
-    )
+-- a trace with them is tried
+pub tried : (allow : Liberties) (h : CoverLines) (had left : Option (List ℕ)) (verdict : List ℕ) (status : Status)
+    (said old rows : List Row) (counts : List (Option ℕ)) → Gathered allow h had left verdict status
+    → said ≡ (found_of_lines h).0 → counts ≡ (found_of_lines h).1 → old ≡ [] → rows ≡ old ++ said
+    → (read : List ℕ) × Consumes had left read × JudgedLinks false allow (lines_of read) verdict status
+    × EndsAs (JudgedLinks false allow) left read verdict status × AreCovered allow (lines_of read) (rows, counts)
+tried allow h had left verdict status said old rows counts (read, consumed, judged, ended, covers) are counted empty is = (
+  read,
+  consumed,
+  judged,
+  ended,
+  subst (λ (found : Found). AreCovered allow (lines_of read) found)
+      (sym (ap₂ (λ (rs : List Row) (cs : List (Option ℕ)). (rs, cs)) (is ∙ rw (empty, are) refl) counted)) covers,
+)
+
+-- what is told of traces, several of which have these names
+pub told_so : (json : Bool) (names by : Names) (all : List Tried) (sums : List Sum) (cells : List (Option ℕ))
+    (old text : List ℕ)
+    → by ≡ shown names → sums ≡ sums_of all → cells ≡ cells_of all → old ≡ []
+    → text ≡ old ++ told_named json by all sums cells → text ≡ told json names all
+told_so json names by all sums cells old text are summed counted empty is =
+    is ∙ ap (λ (o : List ℕ). o ++ told_named json by all sums cells) empty
+    ∙ ap (λ (b : Names). told_named json b all sums cells) are
+    ∙ ap (λ (ss : List Sum). told_named json (shown names) all ss cells) summed
+    ∙ ap (λ (cs : List (Option ℕ)). told_named json (shown names) all (sums_of all) cs) counted
+
+-- JSON, for several traces if there are names
+pub json_so : {X : Type 0} (json empty : Bool) (names : Names) (as_json : Bool → X) (as_text : X)
+    → json ≡ true → empty ≡ (length names == 0)
+    → as_json (not empty) ≡ (if json then as_json (nat_lt 0 (length names)) else as_text)
+json_so json empty [] as_json as_text is none = rw (is, none) refl
+json_so json empty (name ∷ names) as_json as_text is none =
+    let some : suc (length names) ≢ 0 = omega arith in
+    rw (is, none, ne_eqb (suc (length names)) 0 some, lt-ltb 0 (suc (length names)) (omega arith)) refl

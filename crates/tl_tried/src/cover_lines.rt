@@ -1,9 +1,9 @@
-//! Judges the lines of a trace, and counts the situations that its messages begin in.
+//! Judges the lines of a trace, and counts the situations in which its messages begin.
 
 ghost use Rattle.std.specs.Prelude.{◌≡◌, [], false, IfOk};
 ghost use Rattle.tl_beat.specs.statement.Width.{IsWidth};
 ghost use Rattle.tl_cover.specs.statement.Covers.{Covers};
-ghost use Rattle.tl_tried.specs.code.Following.{Begins, EndsLines, KnowsLines, TakesBeat, ReadsLine, rows_of};
+ghost use Rattle.tl_tried.specs.code.Following.{Begins, EndsLines, KnowsLines, TakesBeat, ReadsLine, found_of_lines};
 
 use std::alloc::{AllocError, Global};
 use tl_beat::beat::{Beat, Link};
@@ -20,7 +20,7 @@ use tl_monitor::fault::MonitorFault;
 use tl_params::liberties::Liberties;
 use tl_params::width::Width;
 
-/// What follows the beats of a trace, by the bytes of a beat.
+/// The covering of a trace's links, by the bytes of a beat.
 #[derive(Drop)]
 pub enum Following {
     /// The header hasn't been read.
@@ -33,7 +33,7 @@ pub enum Following {
 /// Judges the lines of a trace up to its first fault.
 #[derive(Drop)]
 pub struct CoverLines {
-    /// What the links may do besides what the header names.
+    /// The liberties of the links beyond those that the header names.
     pub allow: Liberties,
     pub following: Following,
 }
@@ -49,7 +49,7 @@ fn follow<const W: usize>(alloc: Global, header: &LinksHeader) -> Result<Coverin
     }
 }
 
-/// Judges a beat, and takes it where it isn't at fault.
+/// Judges a beat, and takes it if it isn't at fault.
 fn take<const W: usize>(
     covering: &mut Covering<W>,
     link: Link,
@@ -79,7 +79,7 @@ fn read<const W: usize>(
     }
 }
 
-/// Follows the links that a header names, which may do this besides. A line of another form names none.
+/// Follows the links that a header names; these liberties are allowed too. None if the line is no header.
 fn begin(alloc: Global, allow: Liberties, line: &[u8]) -> Result<Option<Following>, AllocError>
     ensures { IfOk result (Begins allow line.now) }
 {
@@ -95,7 +95,7 @@ fn begin(alloc: Global, allow: Liberties, line: &[u8]) -> Result<Option<Followin
 }
 
 impl CoverLines {
-    /// No line has been read. The links may do this besides what the header names.
+    /// No line has been read. The links have the liberties that the header names and those that are allowed.
     pub fn new(alloc: Global, allow: Liberties) -> CoverLines
         ensures knows { KnowsLines result [] [] }
         ensures allowed { result.allow ≡ allow }
@@ -106,15 +106,27 @@ impl CoverLines {
         }
     }
 
-    /// The situations with how often they came; none where no header was read.
+    /// The situations with their counts; none if no header was read.
     pub fn rows(&self) -> &[Row]
-        ensures { result.now ≡ rows_of self.now }
+        ensures { result.now ≡ (found_of_lines self.now).0 }
     {
         match &self.following {
             Following::Waiting(_) => &[],
             Following::Four(covering) => covering.rows(),
             Following::Eight(covering) => covering.rows(),
             Following::Sixteen(covering) => covering.rows(),
+        }
+    }
+
+    /// The counts of all bins on all links, link after link; none if no header was read.
+    pub fn cells(&self, alloc: Global) -> Result<Vec<Option<u64>>, AllocError>
+        ensures { IfOk result (λ cells. cells.items ≡ (found_of_lines self.now).1) }
+    {
+        match &self.following {
+            Following::Waiting(_) => Ok(Vec::new(alloc)),
+            Following::Four(covering) => covering.cells(alloc),
+            Following::Eight(covering) => covering.cells(alloc),
+            Following::Sixteen(covering) => covering.cells(alloc),
         }
     }
 }

@@ -1,71 +1,96 @@
-//! Tells the situations of a trace in JSON.
+//! Reports the situations of traces as JSON.
 
 ghost use Rattle.std.specs.Prelude.{◌≡◌, ◌++◌, ◌-◌, OnOk, length, take};
 ghost use Rattle.std.specs.List.{flat_map};
 ghost use Rattle.tl_tried.specs.statement.Told;
 
+use crate::bins_json::append_bins;
+use crate::sum::{Place, Sum};
 use crate::text::{all, append_number, append_with, seen_in};
+use crate::tried::Tried;
 use std::alloc::AllocError;
-use tl_cover::row::Row;
 
-/// Appends the number of a line, where there is one.
-fn append_line(line: Option<u64>, out: &mut Vec<u8>) -> Result<(), AllocError>
-    ensures { OnOk result (out.new.items ≡ out.old.items ++ Told.line_json line) }
+/// Appends the first place of a situation: the line, and for several traces the number of the trace.
+fn append_first(several: bool, place: Place, out: &mut Vec<u8>) -> Result<(), AllocError>
+    ensures { OnOk result (out.new.items ≡ out.old.items ++ Told.first_json several place) }
 {
-    match line {
-        None => out.extend_from_slice(b"null"),
-        Some(line) => append_number(line, out),
+    if several {
+        append_with("\"trace\": ", place.trace as u64, out)?;
+        append_with(", \"line\": ", place.line, out)
+    } else {
+        append_with("\"line\": ", place.line, out)
     }
 }
 
-/// Appends the front of a situation: its name and how often it came.
-fn append_count(row: &Row, out: &mut Vec<u8>) -> Result<(), AllocError>
-    ensures { OnOk result (out.new.items ≡ out.old.items ++ Told.count_json row.now) }
+/// Appends no place, for a situation that never came.
+fn append_nowhere(several: bool, out: &mut Vec<u8>) -> Result<(), AllocError>
+    ensures { OnOk result (out.new.items ≡ out.old.items ++ Told.nowhere_json several) }
+{
+    if several {
+        out.extend_from_slice(b"\"trace\": null, \"line\": null")
+    } else {
+        out.extend_from_slice(b"\"line\": null")
+    }
+}
+
+/// Appends the first place of a situation, if it came.
+fn append_place(several: bool, place: Option<Place>, out: &mut Vec<u8>) -> Result<(), AllocError>
+    ensures { OnOk result (out.new.items ≡ out.old.items ++ Told.place_json several place) }
+{
+    match place {
+        None => append_nowhere(several, out),
+        Some(place) => append_first(several, place, out),
+    }
+}
+
+/// Appends the front of a situation: its name and its count.
+fn append_count(sum: &Sum, out: &mut Vec<u8>) -> Result<(), AllocError>
+    ensures { OnOk result (out.new.items ≡ out.old.items ++ Told.count_json sum.now) }
 {
     out.extend_from_slice(b"{\"name\": \"")?;
-    row.situation.append_name(out)?;
-    append_with("\", \"count\": ", row.count, out)
+    sum.situation.append_name(out)?;
+    append_with("\", \"count\": ", sum.count, out)
 }
 
 /// Appends the end of a situation: its sentence.
-fn append_said(row: &Row, out: &mut Vec<u8>) -> Result<(), AllocError>
-    ensures { OnOk result (out.new.items ≡ out.old.items ++ Told.said_json row.now) }
+fn append_said(sum: &Sum, out: &mut Vec<u8>) -> Result<(), AllocError>
+    ensures { OnOk result (out.new.items ≡ out.old.items ++ Told.said_json sum.now) }
 {
     out.extend_from_slice(b", \"text\": \"")?;
-    out.extend_from_slice(row.situation.sentence().as_bytes())?;
+    out.extend_from_slice(sum.situation.sentence().as_bytes())?;
     out.extend_from_slice(b"\"}")
 }
 
 /// Appends a situation.
-fn append_row(row: &Row, out: &mut Vec<u8>) -> Result<(), AllocError>
-    ensures { OnOk result (out.new.items ≡ out.old.items ++ Told.row_json row.now) }
+fn append_sum(several: bool, sum: &Sum, out: &mut Vec<u8>) -> Result<(), AllocError>
+    ensures { OnOk result (out.new.items ≡ out.old.items ++ Told.sum_json several sum.now) }
 {
-    append_count(row, out)?;
-    out.extend_from_slice(b", \"line\": ")?;
-    append_line(row.first, out)?;
-    append_said(row, out)
+    append_count(sum, out)?;
+    out.extend_from_slice(b", ")?;
+    append_place(several, sum.first, out)?;
+    append_said(sum, out)
 }
 
-/// Appends situations, each behind a comma.
-fn append_others(rows: &[Row], out: &mut Vec<u8>) -> Result<(), AllocError>
-    ensures { OnOk result (out.new.items ≡ out.old.items ++ flat_map Told.next_json rows.now) }
+/// Appends situations, each after a comma.
+fn append_others(several: bool, sums: &[Sum], out: &mut Vec<u8>) -> Result<(), AllocError>
+    ensures { OnOk result (out.new.items ≡ out.old.items ++ flat_map (Told.next_json several) sums.now) }
 {
-    for row in rows {
+    for sum in sums {
         out.extend_from_slice(b",\n  ")?;
-        append_row(row, out)?;
+        append_sum(several, sum, out)?;
     }
     Ok(())
 }
 
 /// Appends situations, with commas between them.
-fn append_rows(rows: &[Row], out: &mut Vec<u8>) -> Result<(), AllocError>
-    ensures { OnOk result (out.new.items ≡ out.old.items ++ Told.rows_json rows.now) }
+fn append_sums(several: bool, sums: &[Sum], out: &mut Vec<u8>) -> Result<(), AllocError>
+    ensures { OnOk result (out.new.items ≡ out.old.items ++ Told.sums_json several sums.now) }
 {
-    match rows {
+    match sums {
         [] => Ok(()),
         [first, others @ ..] => {
-            append_row(first, out)?;
-            append_others(others, out)
+            append_sum(several, first, out)?;
+            append_others(several, others, out)
         }
     }
 }
@@ -79,37 +104,96 @@ fn line_said(verdict: &[u8]) -> &[u8]
 
 /// Appends a verdict, without the LF at its end.
 fn append_verdict(verdict: &[u8], out: &mut Vec<u8>) -> Result<(), AllocError>
-    ensures { OnOk result (out.new.items ≡ out.old.items ++ Told.verdict_json verdict.now) }
+    ensures { OnOk result (out.new.items ≡ out.old.items ++ Told.quoted verdict.now) }
 {
-    out.extend_from_slice(b"{\"verdict\": \"")?;
+    out.extend_from_slice(b"\"")?;
     out.extend_from_slice(line_said(verdict))?;
-    out.extend_from_slice(b"\", ")?;
+    out.extend_from_slice(b"\"")?;
     Ok(())
 }
 
-/// Appends how many situations came.
-fn append_summary(rows: &[Row], out: &mut Vec<u8>) -> Result<(), AllocError>
-    ensures { OnOk result (out.new.items ≡ out.old.items ++ Told.summary_json rows.now) }
+/// Appends verdicts, each after a comma.
+fn append_other_verdicts(all: &[Tried], out: &mut Vec<u8>) -> Result<(), AllocError>
+    ensures { OnOk result (out.new.items ≡ out.old.items ++ flat_map Told.next_verdict all.now) }
 {
-    append_with("\"seen\": ", seen_in(rows), out)?;
+    for tried in all {
+        out.extend_from_slice(b", ")?;
+        append_verdict(&tried.verdict, out)?;
+    }
+    Ok(())
+}
+
+/// Appends verdicts, with commas between them.
+fn append_verdicts(all: &[Tried], out: &mut Vec<u8>) -> Result<(), AllocError>
+    ensures { OnOk result (out.new.items ≡ out.old.items ++ Told.verdicts_json all.now) }
+{
+    match all {
+        [] => Ok(()),
+        [first, others @ ..] => {
+            append_verdict(&first.verdict, out)?;
+            append_other_verdicts(others, out)
+        }
+    }
+}
+
+/// The text before the verdict, or before the verdicts of several traces.
+fn before_verdicts(several: bool) -> &'static str
+    ensures { result.now ≡ Told.before_verdicts several }
+{
+    if several {
+        "{\"verdicts\": ["
+    } else {
+        "{\"verdict\": "
+    }
+}
+
+/// The text after the verdict, or after the verdicts of several traces.
+fn after_verdicts(several: bool) -> &'static str
+    ensures { result.now ≡ Told.after_verdicts several }
+{
+    if several { "], " } else { ", " }
+}
+
+/// Appends the verdict, or the list of verdicts.
+fn append_front(several: bool, all: &[Tried], out: &mut Vec<u8>) -> Result<(), AllocError>
+    ensures { OnOk result (out.new.items ≡ out.old.items ++ Told.front_json several all.now) }
+{
+    out.extend_from_slice(before_verdicts(several).as_bytes())?;
+    append_verdicts(all, out)?;
+    out.extend_from_slice(after_verdicts(several).as_bytes())
+}
+
+/// Appends the number of situations that came, and of all.
+fn append_summary(sums: &[Sum], out: &mut Vec<u8>) -> Result<(), AllocError>
+    ensures { OnOk result (out.new.items ≡ out.old.items ++ Told.summary_json sums.now) }
+{
+    append_with("\"seen\": ", seen_in(sums), out)?;
     append_with(", \"of\": ", all(), out)
 }
 
 /// Appends the list of situations.
-fn append_list(rows: &[Row], out: &mut Vec<u8>) -> Result<(), AllocError>
-    ensures { OnOk result (out.new.items ≡ out.old.items ++ Told.list_json rows.now) }
+fn append_list(several: bool, sums: &[Sum], out: &mut Vec<u8>) -> Result<(), AllocError>
+    ensures { OnOk result (out.new.items ≡ out.old.items ++ Told.list_json several sums.now) }
 {
     out.extend_from_slice(b", \"situations\": [")?;
-    append_rows(rows, out)?;
-    out.extend_from_slice(b"]}\n")?;
+    append_sums(several, sums, out)?;
+    out.extend_from_slice(b"]")?;
     Ok(())
 }
 
-/// Appends a verdict and the situations as one object.
-pub fn append_json(verdict: &[u8], rows: &[Row], out: &mut Vec<u8>) -> Result<(), AllocError>
-    ensures { OnOk result (out.new.items ≡ out.old.items ++ Told.told_json verdict.now rows.now) }
+/// Appends verdicts, situations and the tables of links as one object. For several traces each place has the number of
+/// its trace.
+pub fn append_json(
+    several: bool,
+    all: &[Tried],
+    sums: &[Sum],
+    cells: &[Option<u64>],
+    out: &mut Vec<u8>,
+) -> Result<(), AllocError>
+    ensures { OnOk result (out.new.items ≡ out.old.items ++ Told.told_json several all.now sums.now cells.now) }
 {
-    append_verdict(verdict, out)?;
-    append_summary(rows, out)?;
-    append_list(rows, out)
+    append_front(several, all, out)?;
+    append_summary(sums, out)?;
+    append_list(several, sums, out)?;
+    append_bins(cells, out)
 }

@@ -1,7 +1,10 @@
-//! What a recorded trace has tried: its verdict, and the situations that it has been in, as they are told.
+//! The report on recorded traces: their verdicts, and the situations that they were in.
 #![tactic(auto)]
 
+mod bins_json;
 mod cover_lines;
 mod json;
-pub mod run;
+pub mod sum;
+pub mod tell;
 mod text;
+pub mod tried;

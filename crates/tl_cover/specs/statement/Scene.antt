@@ -1,10 +1,15 @@
--- What the beats before a message say of it, when it begins.
-use Rattle.std.specs.Prelude.{ℕ, Bool, false, not, [], ◌∷◌, ◌==◌, ◌&&◌, if◌then◌else◌, Option, Some, None, option_map}
+-- The facts about a message that the beats before it give, at its first beat.
+use Rattle.std.specs.Prelude.{ℕ, Bool, false, not, [], ◌∷◌, ◌==◌, ◌&&◌, ◌+◌, length, if◌then◌else◌}
+use Rattle.std.specs.Prelude.{Option, Some, None, is_some, option_map}
 use Rattle.tl_beat.specs.declared.beat.Beat.{Beat}
 use Rattle.tl_beat.specs.declared.beat.Beat.TheVariants as beat
 use Rattle.tl_beat.specs.declared.control.Control.{Control}
 use Rattle.tl_beat.specs.statement.Control.{control_of}
-use Rattle.tl_burst.specs.statement.Messages.{History}
+use Rattle.tl_beat.specs.declared.channel.Channel.{Channel}
+use Rattle.tl_beat.specs.declared.channel.Channel.TheVariants as channel
+use Rattle.tl_beat.specs.declared.control.Control.TheVariants as control
+use Rattle.tl_burst.specs.statement.Messages.{History, on}
+use Rattle.tl_cover.specs.declared.scene.ProbeAt.{ProbeAt}
 use Rattle.tl_cover.specs.declared.scene.Scene.{Scene}
 use Rattle.tl_cover.specs.declared.scene.Standing.{Standing}
 use Rattle.tl_monitor.specs.code.Count.{count_below}
@@ -15,28 +20,29 @@ use Rattle.tl_params.specs.declared.perm.Perm.TheVariants as perm
 use Rattle.tl_rules.specs.code.Open.{request_fields}
 use Rattle.tl_rules.specs.declared.past.Request.{Request}
 use Rattle.tl_rules.specs.statement.Conformance.{Trace, on_link, same_perm}
-use Rattle.tl_rules.specs.statement.History.{block_at, is_release_ack, pending, request_of}
+use Rattle.tl_rules.specs.statement.History.{begins, block_at, closes, ends, is_grant, is_release_ack, opens, pending}
+use Rattle.tl_rules.specs.statement.History.{request_of}
 use Rattle.tl_rules.specs.statement.Liberties.{held_under}
 
--- Links go by their numbers, of which there are n; t is the trace before the message, the newest beat first.
+-- Links have numbers below n. t is the trace before the message, with the newest beat first.
 
--- an Acquire of block k is pending on link m, which is another than link i
+-- an Acquire of block k is pending on link m, another than link i
 abbrev pub acquires_beside : {w : ℕ} → ℕ → ℕ → Trace w → ℕ → Bool
 acquires_beside i k t m = not (m == i) && pending (AcquireOf k) (on_link m t)
 
--- link m, which is another than link i, holds so much of block k
+-- link m, another than link i, holds this permission of block k
 abbrev pub holds_beside : {w : ℕ} → Liberties → ℕ → ℕ → Perm → Trace w → ℕ → Bool
 holds_beside l i k held t m = not (m == i) && same_perm (held_under l k (on_link m t)) held
 
--- on how many links but link i an Acquire of block k is pending
+-- the number of links other than link i on which an Acquire of block k is pending
 abbrev pub acquiring : {w : ℕ} → ℕ → ℕ → ℕ → Trace w → ℕ
 acquiring n i k t = count_below n (acquires_beside i k t)
 
--- how many links but link i hold so much of block k
+-- the number of links other than link i that hold this permission of block k
 abbrev pub holders : {w : ℕ} → Liberties → ℕ → ℕ → ℕ → Perm → Trace w → ℕ
 holders l n i k held t = count_below n (holds_beside l i k held t)
 
--- how things stand with block k, seen from link i
+-- the state of block k, for a message on link i
 abbrev pub standing : {w : ℕ} → Liberties → ℕ → ℕ → ℕ → Trace w → Standing
 standing l n i k t = record {
   held = held_under l k (on_link i t);
@@ -49,7 +55,7 @@ standing l n i k t = record {
   readers = holders l n i k perm.Branch t;
 }
 
--- how things stand where a message bears on no block
+-- the state for a message without a block
 abbrev pub nothing : Standing
 nothing = record {
   held = perm.None;
@@ -62,32 +68,87 @@ nothing = record {
   readers = 0;
 }
 
+-- the state of the message's block, if it has one
 abbrev pub standing_of : {w : ℕ} → Liberties → ℕ → ℕ → Option ℕ → Trace w → Standing
 standing_of l n i None t = nothing
 standing_of l n i (Some k) t = standing l n i k t
 
--- the last request with the source of a response to one
+-- the last request with the source of a response, unless that is a ReleaseAck
 abbrev pub request_named : {w : ℕ} → Beat w → History w → Option Request
 request_named (beat.D x) h = if is_release_ack x.opcode then None else request_fields (request_of x.source h)
 request_named _ h = None
 
--- the block that a message bears on: that of its address, and for a response that of its request
+-- the block of a message: that of its address, or for a response to a request that of the request
 abbrev pub block_named : {w : ℕ} → Beat w → History w → Option ℕ
 block_named (beat.A x) h = Some (block_at x.address)
 block_named (beat.B x) h = Some (block_at x.address)
 block_named (beat.C x) h = Some (block_at x.address)
 block_named x h = option_map (λ r. r.block) (request_named x h)
 
+-- the param of a Probe
+abbrev pub cap_param : {w : ℕ} → Beat w → ℕ
+cap_param (beat.B x) = x.param
+cap_param _ = 0
+
+-- The pending Probe of block k on link i, with its line. Line 1 of a trace is its header, and each beat has a line.
+unfoldable pub probe_at : {w : ℕ} → ℕ → ℕ → Trace w → Option ProbeAt
+probe_at i k [] = None
+probe_at i k (x ∷ t) =
+    if not (x.0.0 == i) then probe_at i k t else
+    if begins x.1 (on_link i t) && opens (ProbeOf k) x.1 (on_link i t)
+    then Some (record { param = cap_param x.1; line = length t + 2 }) else
+    if ends x.1 (on_link i t) && closes (ProbeOf k) x.1 (on_link i t) then None else
+    probe_at i k t
+
+-- the pending Probe of the message's block, if it has one
+abbrev pub asked_of : {w : ℕ} → ℕ → Option ℕ → Trace w → Option ProbeAt
+asked_of i None t = None
+asked_of i (Some k) t = probe_at i k t
+
 -- the control fields of the newest beat
 abbrev pub newest : {w : ℕ} → History w → Option Control
 newest [] = None
 newest (y ∷ h) = Some (control_of y)
 
--- what is known of the message that begins with the beat x on link i
+-- the control fields of the newest beat of channel ch, if it doesn't complete its message
+unfoldable pub under_way : {w : ℕ} → Channel → History w → Option Control
+under_way ch [] = None
+under_way ch (y ∷ h) = if on ch y then (if ends y h then None else Some (control_of y)) else under_way ch h
+
+-- the control fields of the newest beat of an incomplete message on the channel that a beat answers: C for a
+-- ReleaseAck, A for another response, D for a GrantAck
+abbrev pub answered : {w : ℕ} → Beat w → History w → Option Control
+answered (beat.D x) h = if is_release_ack x.opcode then under_way channel.C h else under_way channel.A h
+answered (beat.E x) h = under_way channel.D h
+answered _ h = None
+
+-- a message is incomplete on each of the channels A, C and D
+abbrev pub is_between : {w : ℕ} → History w → Bool
+is_between h = is_some (under_way channel.A h) && (is_some (under_way channel.C h) && is_some (under_way channel.D h))
+
+-- the control fields are those of a Grant
+abbrev pub is_of_grant : Option Control → Bool
+is_of_grant (Some (control.D y)) = is_grant y.opcode
+is_of_grant _ = false
+
+-- a Grant is incomplete on link m, another than link i
+abbrev pub grants_beside : {w : ℕ} → ℕ → Trace w → ℕ → Bool
+grants_beside i t m = not (m == i) && is_of_grant (under_way channel.D (on_link m t))
+
+-- the number of links other than link i on which a Grant is incomplete
+abbrev pub granting : {w : ℕ} → ℕ → ℕ → Trace w → ℕ
+granting n i t = count_below n (grants_beside i t)
+
+-- the facts about the message that begins with the beat x on link i
 abbrev pub scene : {w : ℕ} → Liberties → ℕ → ℕ → Beat w → Trace w → Scene
 scene l n i x t = record {
+  line = length t + 1;
+  asked = asked_of i (block_named x (on_link i t)) t;
   block = standing_of l n i (block_named x (on_link i t)) t;
   waiting = count_below 256 (λ s. pending (GrantSink s) (on_link i t));
   request = request_named x (on_link i t);
   previous = newest (on_link i t);
+  answered = answered x (on_link i t);
+  between = is_between (on_link i t);
+  granting = granting n i t;
 }

@@ -1,16 +1,18 @@
--- Which situations a recorded trace has been in, and what is written of it.
-use Rattle.std.specs.Prelude.{◌≡◌, ◌⊎◌, ℕ, Bool, false, List, [], ◌∷◌, length, Option, Some, None}
+-- The situations of a recorded trace, and the end of a run that reports them.
+use Rattle.std.specs.Prelude.{◌≡◌, ◌⊎◌, ℕ, Bool, false, true, List, [], ◌∷◌, length, Option, None}
+use Rattle.std.specs.Prelude.{if◌then◌else◌}
 use Rattle.std.specs.Io.KnownBytes.{Consumes}
 use Rattle.tl_beat.specs.declared.beat.Beat.{Beat}
 use Rattle.tl_beat.specs.declared.beat.Link.{Link}
 use Rattle.tl_beat.specs.statement.Line.{Spells}
 use Rattle.tl_cover.specs.declared.row.Row.{Row}
-use Rattle.tl_cover.specs.statement.Covered.{covered}
+use Rattle.tl_cover.specs.statement.Covered.{cells, covered}
 use Rattle.tl_engine.specs.code.Lines.{lines_of}
 use Rattle.tl_engine.specs.code.Parts.{AppendsShort}
 use Rattle.tl_engine.specs.code.Run.{EndsAs}
 use Rattle.tl_engine.specs.declared.fault.Fault.{Fault}
 use Rattle.tl_engine.specs.declared.status.Status.{Status}
+use Rattle.tl_engine.specs.declared.status.Status.TheVariants.{Broken, Clean}
 use Rattle.tl_engine.specs.declared.status.ToolFault.{ToolFault}
 use Rattle.tl_engine.specs.declared.status.ToolFault.TheVariants.{Write}
 use Rattle.tl_engine.specs.statement.Judged.{IsAtFault}
@@ -20,41 +22,53 @@ use Rattle.tl_params.specs.declared.level.Level.{Level}
 use Rattle.tl_params.specs.declared.liberties.Liberties.{Liberties}
 use Rattle.tl_params.specs.declared.width.Width.{Width}
 use Rattle.tl_rules.specs.statement.Conformance.{Trace}
-use Rattle.tl_tried.specs.statement.Told.{told}
+use Rattle.tl_tried.specs.declared.tried.Tried.{Tried}
 
--- These lines, behind a header and the beats of t, have these situations: those of all beats up to the first line at
--- fault.
-unfoldable pub CoveredAfter : {w : ℕ} → List Level → Liberties → Trace w → List (List ℕ) → List Row → Type 0
-CoveredAfter levels may t [] rows = rows ≡ covered may (length levels) t
-CoveredAfter {w} levels may t (line ∷ lines) rows =
+-- the situations of a trace, and the counts of all bins on all links
+abbrev pub Found : Type 0
+Found = List Row × List (Option ℕ)
+
+-- those of the beats of t
+abbrev pub found_of : {w : ℕ} → Liberties → List Level → Trace w → Found
+found_of may levels t = (covered may (length levels) t, cells may levels t)
+
+-- The situations and counts of these lines after a header and the beats of t: those of all beats up to the first line at fault.
+unfoldable pub CoveredAfter : {w : ℕ} → List Level → Liberties → Trace w → List (List ℕ) → Found → Type 0
+CoveredAfter levels may t [] found = found ≡ found_of may levels t
+CoveredAfter {w} levels may t (line ∷ lines) found =
     ((link : Link) × (beat : Beat w) × Spells line link beat × (faults_by false w levels may (link, beat) t ≡ None)
-    × CoveredAfter levels may ((link, beat) ∷ t) lines rows)
-    ⊎ ((fault : Fault) × IsAtFault (faults_by false) levels may t line fault × (rows ≡ covered may (length levels) t))
+    × CoveredAfter levels may ((link, beat) ∷ t) lines found)
+    ⊎ ((fault : Fault) × IsAtFault (faults_by false) levels may t line fault × (found ≡ found_of may levels t))
 
--- The same of the lines of a whole trace, where this is allowed besides what its header names. There are no situations
--- where the first line isn't there or is no header.
-unfoldable pub AreCovered : Liberties → List (List ℕ) → List Row → Type 0
-AreCovered allow [] rows = rows ≡ []
-AreCovered allow (line ∷ lines) rows =
+-- The situations and counts of the lines of a whole trace, on links with the liberties that its header names and those that are
+-- allowed. There are none if the first line is no header or is missing.
+unfoldable pub AreCovered : Liberties → List (List ℕ) → Found → Type 0
+AreCovered allow [] found = found ≡ ([], [])
+AreCovered allow (line ∷ lines) found =
     ((width : Width) × (may : Liberties) × (levels : List Level) × heads_by false allow line width may levels
-    × CoveredAfter {w = bytes_of width} levels may [] lines rows)
+    × CoveredAfter {w = bytes_of width} levels may [] lines found)
     ⊎ (((width : Width) (may : Liberties) (levels : List Level) → ¬ heads_by false allow line width may levels)
-    × (rows ≡ []))
+    × (found ≡ ([], [])))
 
--- What was read, to its end or to a line at fault that no continuation can mend, has this verdict, that of `monitor`,
--- and
--- this text with it.
-abbrev pub Tells : Bool → Liberties → Option (List ℕ) → Option (List ℕ) → Status → List ℕ → Type 0
-Tells json allow had left status text =
-    (read verdict : List ℕ) × (rows : List Row) × Consumes had left read
-    × JudgedLinks false allow (lines_of read) verdict status
-    × EndsAs (JudgedLinks false allow) left read verdict status × AreCovered allow (lines_of read) rows
-    × (text ≡ told json verdict rows)
+-- The verdict, status, situations and counts of the input that was read, to its end or to a line at fault that no continuation
+-- can mend. The verdict and the status are those of `monitor`.
+abbrev pub IsTried : Liberties → Option (List ℕ) → Option (List ℕ) → Tried → Type 0
+IsTried allow had left tried =
+    (read : List ℕ) × Consumes had left read × JudgedLinks false allow (lines_of read) tried.verdict.items tried.status
+    × EndsAs (JudgedLinks false allow) left read tried.verdict.items tried.status
+    × AreCovered allow (lines_of read) (tried.rows.items, tried.cells.items)
 
--- It was given up for this. But for `Write` nothing was written. `Write`: the trace was judged, and some of the text is
--- left to be written.
-abbrev pub GivesUpTelling : Bool → Liberties → Option (List ℕ) → Option (List ℕ) → Option (List ℕ) → Option (List ℕ)
-    → ToolFault → Type 0
-GivesUpTelling json allow had left held holds Write =
-    (text : List ℕ) × (status : Status) × Tells json allow had left status text × AppendsShort held holds text
-GivesUpTelling json allow had left held holds fault = holds ≡ held
+-- a line is at fault
+abbrev pub is_broken : Status → Bool
+is_broken Broken = true
+is_broken Clean = false
+
+-- `Broken` if a line of one of these traces is at fault
+abbrev pub status_of : List Tried → Status
+status_of [] = Clean
+status_of (tried ∷ all) = if is_broken tried.status then Broken else status_of all
+
+-- A report ended with this fault. `Write`: the writer took only a front of the text. Otherwise nothing was written.
+abbrev pub GivesUpTelling : Option (List ℕ) → Option (List ℕ) → List ℕ → ToolFault → Type 0
+GivesUpTelling held holds text Write = AppendsShort held holds text
+GivesUpTelling held holds text fault = holds ≡ held

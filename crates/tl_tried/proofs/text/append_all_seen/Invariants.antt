@@ -3,6 +3,6 @@ use Rattle.std.specs.List.{flat_map}
 use Rattle.tl_tried.specs.statement.Told.{seen_text}
 use Rattle.tl_tried.proofs.text.append_all_seen.Given as goal
 
-abbrev pub invariant-loop-row : goal.invariant-loop-row
-invariant-loop-row l = l.out.items ++ flat_map seen_text (drop l.row-index l.rows) ≡ l.initial.out.items ++ flat_map
-    seen_text l.rows
+abbrev pub invariant-loop-sum : goal.invariant-loop-sum
+invariant-loop-sum l = l.out.items ++ flat_map (seen_text l.names) (drop l.sum-index l.sums)
+    ≡ l.initial.out.items ++ flat_map (seen_text l.names) l.sums

@@ -1,4 +1,3 @@
-use Rattle.std.proofs.Common.{ap, sym}
 use Rattle.tl_tried.proofs.Covered.{open_ends, open_stops, open_unheaded}
 use Rattle.tl_tried.proofs.cover_lines.CoverLinesLineHandler.open_fault.Goals as goal
 

@@ -1,0 +1,76 @@
+//! Judges a recorded trace, and counts its situations.
+
+ghost use Rattle.std.specs.Prelude.{◌≡◌, ◌≢◌, ◌++◌, [], ℕ, List, OnOk, IfErr, IfOk, false};
+ghost use Rattle.std.specs.Io.KnownBytes.{Consumes};
+ghost use Rattle.tl_engine.specs.code.Lines.{lines_of};
+ghost use Rattle.tl_engine.specs.code.Run.{EndsAs};
+ghost use Rattle.tl_engine.specs.declared.status.ToolFault.{ToolFault};
+ghost use Rattle.tl_engine.specs.statement.JudgedLinks.{JudgedLinks};
+ghost use Rattle.tl_tried.specs.code.Following.{found_of_lines};
+ghost use Rattle.tl_tried.specs.statement.Tried.{AreCovered, IsTried};
+
+use crate::cover_lines::CoverLines;
+use std::alloc::Global;
+use std::io::Read;
+use tl_cover::row::Row;
+use tl_engine::engine::judge_input;
+use tl_engine::lines::Lines;
+use tl_engine::status::{Status, ToolFault};
+use tl_params::liberties::Liberties;
+
+/// The result for a trace: its verdict, and its situations up to its first line at fault.
+#[derive(Drop)]
+pub struct Tried {
+    /// The verdict of `monitor`.
+    pub verdict: Vec<u8>,
+    /// Whether a line is at fault.
+    pub status: Status,
+    /// The situations, each with its count and its first line; none without a header.
+    pub rows: Vec<Row>,
+    /// The counts of all bins (`BINS`) on link 0, then on link 1, and so on; None for one that a link can't have, by its
+    /// level and its liberties, and that didn't come. None at all without a header.
+    pub cells: Vec<Option<u64>>,
+}
+
+/// Judges the input of a reader. Returns the covering and the status; the verdict is appended.
+fn gather<R: Read>(
+    alloc: Global,
+    allow: Liberties,
+    reader: &mut R,
+    verdict: &mut Vec<u8>,
+) -> Result<(CoverLines, Status), ToolFault>
+    requires { verdict.old.items ≡ [] }
+    ensures ok { IfOk result (λ both. (read : List ℕ) × Consumes (R.remaining reader.old) (R.remaining reader.new) read
+        × JudgedLinks false allow (lines_of read) verdict.new.items both.1
+        × EndsAs (JudgedLinks false allow) (R.remaining reader.new) read verdict.new.items both.1
+        × AreCovered allow (lines_of read) (found_of_lines both.0)) }
+    ensures fault { IfErr result (λ fault. fault ≢ ToolFault.Write) }
+{
+    let mut lines = Lines::new(CoverLines::new(alloc, allow));
+    let status = judge_input(alloc, &mut lines, reader, verdict)?;
+    Ok((lines.into_handler(), status))
+}
+
+/// Judges a recorded trace as `monitor` does, each link by itself, and counts the situations in which its messages
+/// begin, up to the first line at fault. The links have the liberties that the header names and those that are allowed.
+/// The reader has reached its end, or a line at fault that no continuation can mend. The fault is `Memory` or `Read`.
+pub fn try_trace<R: Read>(
+    alloc: Global,
+    allow: Liberties,
+    reader: &mut R,
+) -> Result<Tried, ToolFault>
+    ensures ok { IfOk result (IsTried allow (R.remaining reader.old) (R.remaining reader.new)) }
+    ensures fault { IfErr result (λ fault. fault ≢ ToolFault.Write) }
+{
+    let mut verdict = Vec::new(alloc);
+    let (lines, status) = gather(alloc, allow, reader, &mut verdict)?;
+    let mut rows = Vec::new(alloc);
+    rows.extend_from_slice(lines.rows())?;
+    let cells = lines.cells(alloc)?;
+    Ok(Tried {
+        verdict,
+        status,
+        rows,
+        cells,
+    })
+}

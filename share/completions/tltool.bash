@@ -7,7 +7,11 @@ _tltool() {
         return
     fi
     if [[ $previous == --width ]]; then
-        COMPREPLY=($(compgen -W '4 8 16' -- "$current"))
+        if [[ ${COMP_WORDS[1]} == decode ]]; then
+            COMPREPLY=($(compgen -W '4 8 16 32 64' -- "$current"))
+        else
+            COMPREPLY=($(compgen -W '4 8 16' -- "$current"))
+        fi
         return
     fi
     if [[ $previous == --allow ]]; then
@@ -23,7 +27,7 @@ _tltool() {
         return
     fi
     case ${COMP_WORDS[1]} in
-    decode) options='--width --help -h' ;;
+    decode) options='--wide --width --help -h' ;;
     monitor) options='--allow --all --report --junit --help -h' ;;
     coherent) options='--allow --all --report --junit --help -h' ;;
     explain) options='--coherent --allow --help -h' ;;

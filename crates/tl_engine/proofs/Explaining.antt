@@ -1,6 +1,6 @@
 -- What is read again up to the line at fault explains its verdict.
-use Rattle.std.proofs.Common.{◌≡◌, ℕ, ◌+◌, List, [], ◌∷◌, ◌++◌, length, ap, ◌∙◌, arith, subst, refl, true, false}
-use Rattle.std.specs.Prelude.{Option, Some, None, Err, IfSome, not}
+use Rattle.std.proofs.Common.{◌≡◌, ℕ, ◌+◌, List, [], ◌∷◌, ◌++◌, length, ap, ◌∙◌, arith, subst, sym, refl, true, false}
+use Rattle.std.specs.Prelude.{Option, Some, None, Err, IfSome, not, slice_get}
 use Rattle.std.specs.Io.KnownBytes.{Consumes}
 use Rattle.tl_beat.specs.declared.beat.Beat.{Beat}
 use Rattle.tl_beat.specs.declared.beat.Beat.TheVariants as beat
@@ -12,7 +12,7 @@ use Rattle.tl_params.specs.declared.rule.Rule.{Rule}
 use Rattle.tl_params.specs.statement.Refusal.{ok_unless}
 use Rattle.tl_rules.specs.statement.Conformance.{Trace}
 use Rattle.tl_explain.specs.code.Recorded.{IsRecordUnder}
-use Rattle.tl_explain.specs.code.Spelled.{spelled}
+use Rattle.tl_explain.specs.statement.Spelled.{spelled}
 use Rattle.tl_explain.specs.declared.reason.Reason.{Reason}
 use Rattle.tl_explain.specs.declared.turns.Subject.{Subject}
 use Rattle.tl_explain.specs.statement.Reasons.{IsEvidenceUnder, IsSubject, convicted_under}
@@ -46,14 +46,17 @@ broken_by (Some other) rule is = cc
 
 -- the beat of the line at fault was named, which breaks a rule by itself
 pub named : {w : ℕ} (allow : Liberties) (old new : Option (List ℕ)) (r : Replay w) (good number : ℕ) (rule : Rule) (link : Link) (x : Beat w)
-    (level : Option Level) (was front reasons grounds : List ℕ)
+    (was front reasons grounds : List ℕ)
     → (read : List ℕ) × Consumes old new read × HasReachedIn r read → r.good ≡ good → r.allow ≡ allow → Spells (spelled r.line) link x
-    → broken_alone r.may level x ≡ Some rule → number ≡ good + 1 → was ≡ []
+    → broken_alone r.may r.level x ≡ Some rule → number ≡ good + 1 → was ≡ []
     → front ≡ was ++ front_text rule number link x → reasons ≡ front ++ grounds
     → IsNamed allow old new (good + 1) rule reasons
-named {w} allow old new r good number rule link x level was front reasons grounds (read, consumed, at) is_good is_allow
+named {w} allow old new r good number rule link x was front reasons grounds (read, consumed, at) is_good is_allow
     spells breaks is_number none first text =
     let rec = at.recorded in
+    let of = at.for_line link x spells in
+    let level : r.level ≡ slice_get rec.levels link.0 = sym rec.level_is
+    ∙ ap (λ (l : Link). slice_get rec.levels l.0) (same_link r.recorder.subject link x of) in
     record {
       read = read;
       consumed = consumed;
@@ -71,11 +74,11 @@ named {w} allow old new r good number rule link x level was front reasons ground
       );
       number = omega (arith, is_good, at.good_is, rec.counted, ap length rec.lines_are);
       bytes = w;
+      of_width = rec.of_width;
       link = link;
       beat = x;
       spells = spells;
-      level = level;
-      breaks = breaks;
+      breaks = subst (λ (l : Option Level). broken_alone r.may l x ≡ Some rule) level breaks;
       grounds = grounds;
       begins = subst (λ (n : ℕ). reasons ≡ front_text rule n link x ++ grounds) is_number
           (behind was front reasons grounds (front_text rule number link x) none first text);

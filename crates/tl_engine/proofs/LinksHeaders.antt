@@ -17,7 +17,7 @@ use Rattle.tl_engine.specs.statement.Trace.{IsHeader, SpellsHeader, SpellsLevels
 use Rattle.tl_engine.specs.code.HeadReading.{front_at, with_eight, with_four, with_sixteen}
 use Rattle.tl_engine.specs.declared.links_header.LinksHeader.{LinksHeader}
 use Rattle.tl_engine.specs.code.TraceJudging.{ReadsHeader}
-use Rattle.tl_engine.specs.statement.LinksHeader.{IsLinks, NamesAllowed, NamesEarly, NamesLinks, SpellsFourth, fourth_front}
+use Rattle.tl_engine.specs.statement.LinksHeader.{IsLinks, NamesAllowed, NamesEarly, NamesLinks, SpellsFourth, SpellsNamed, fourth_front}
 use Rattle.tl_engine.specs.statement.JudgedLinks.{heads_by}
 use Rattle.tl_params.proofs.Headers.{after_taken}
 use Rattle.tl_params.proofs.Options.{some_pair}
@@ -128,16 +128,33 @@ module _ (line : List ℕ) (width : Width) (may : Liberties) (levels : List Leve
   pub fourth_unread : front_at line ≢ None
   fourth_unread none = let some = fourth_at in cc
 
+  -- what stands behind its front
+  pub named_behind : (wide : Width) (rest : List ℕ) → front_at line ≡ Some (wide, rest) → SpellsNamed rest may levels
+  named_behind wide rest is = record {
+    word = h.word;
+    spells = h.spells;
+    are_bytes = (fourth_behind (wide, rest) is).1;
+    so_many = h.so_many;
+  }
+
 -- what was read is a header
-pub fourth_spelled : (line rest left word : List ℕ) (width : Width) (may : Liberties) (levels : List Level)
-    → front_at line ≡ Some (width, rest) → SpellsLiberties word may → rest ≡ word ++ left → SpellsLevels left levels
-    → levels ≢ [] → SpellsFourth line width may levels
-fourth_spelled line rest left word width may [] front spells text (ends, few) some = absurd (some refl)
-fourth_spelled line rest left word width may (l ∷ levels) front spells text (ends, few) some = record {
+pub fourth_spelled : (line rest : List ℕ) (width : Width) (may : Liberties) (levels : List Level)
+    → front_at line ≡ Some (width, rest) → SpellsNamed rest may levels → SpellsFourth line width may levels
+fourth_spelled line rest width may levels front named = record {
+  word = named.word;
+  spells = named.spells;
+  is_line = front_taken line rest width front ∙ ap (λ (x : List ℕ). fourth_front width ++ x) named.are_bytes;
+  so_many = named.so_many;
+}
+
+-- so are liberties and levels
+pub named_spelled : (bytes left word : List ℕ) (may : Liberties) (levels : List Level) → SpellsLiberties word may
+    → bytes ≡ word ++ left → SpellsLevels left levels → levels ≢ [] → SpellsNamed bytes may levels
+named_spelled bytes left word may [] spells text (ends, few) some = absurd (some refl)
+named_spelled bytes left word may (l ∷ levels) spells text (ends, few) some = record {
   word = word;
   spells = spells;
-  is_line = front_taken line rest width front
-      ∙ ap (λ (x : List ℕ). fourth_front width ++ x) (text ∙ ap (λ (x : List ℕ). word ++ x) ends);
+  are_bytes = text ∙ ap (λ (x : List ℕ). word ++ x) ends;
   so_many = (omega arith, few);
 }
 
@@ -187,64 +204,83 @@ named_before header line found spelled every wide may_is many width may levels (
 
 -- ---- a line is a header, or none
 
+abbrev pub NamedOrNone : List ℕ → Type 0
+NamedOrNone bytes =
+    ((may : Liberties) × (levels : List Level) × SpellsNamed bytes may levels)
+    ⊎ ((may : Liberties) (levels : List Level) → ¬ SpellsNamed bytes may levels)
+
+module _ (bytes : List ℕ) where
+  at_levels : (left word : List ℕ) (may : Liberties) → SpellsLiberties word may → bytes ≡ word ++ left
+      → liberties_at bytes ≡ Some (may, left) → (o : Option (List Level)) → levels_at 16 left ≡ o → NamedOrNone bytes
+  at_levels left word may spells text named o is = go o is
+    where
+      unlike : (other : Liberties) (levels : List Level) → SpellsNamed bytes other levels
+          → levels_at 16 left ≡ Some levels
+      unlike other levels h =
+          let read = liberties_again h.word (tail levels) other h.spells (lacks_comma levels h.so_many) in
+          let (m, ends) = some_pair (may, left) (other, tail levels) (sym named ∙ ap liberties_at h.are_bytes ∙ read) in
+          ap (levels_at 16) ends ∙ levels_again 16 levels h.so_many.1
+
+      none_named : (other : Liberties) (levels : List Level) → levels_at 16 left ≡ None → ¬ SpellsNamed bytes other levels
+      none_named other levels none h = let some = unlike other levels h in absurd cc
+
+      not_empty : (other : Liberties) (levels : List Level) → levels_at 16 left ≡ Some []
+          → ¬ SpellsNamed bytes other levels
+      not_empty other [] empty h = absurd (omega (arith, h.so_many.0))
+      not_empty other (l ∷ levels) empty h = let some = unlike other (l ∷ levels) h in absurd cc
+
+      go : (o : Option (List Level)) → levels_at 16 left ≡ o → NamedOrNone bytes
+      go None is = inr (λ other levels. none_named other levels is)
+      go (Some []) is = inr (λ other levels. not_empty other levels is)
+      go (Some (l ∷ levels)) is =
+          inl (
+            may,
+            l ∷ levels,
+            named_spelled bytes left word may (l ∷ levels) spells text (levels_taken 16 left (l ∷ levels) is)
+                (λ none. absurd cc),
+          )
+
+  at_liberties : (o : Option (Liberties × List ℕ)) → liberties_at bytes ≡ o → NamedOrNone bytes
+  at_liberties None is = inr (λ other levels h. no other levels h)
+    where
+      no : (other : Liberties) (levels : List Level) → ¬ SpellsNamed bytes other levels
+      no other levels h =
+          let read = liberties_again h.word (tail levels) other h.spells (lacks_comma levels h.so_many) in
+          let some = ap liberties_at h.are_bytes ∙ read in
+          absurd cc
+  at_liberties (Some (may, left)) is =
+      let (word, spells, text) = liberties_taken bytes left may is in
+      at_levels left word may spells text is (levels_at 16 left) refl
+
+pub named_or_none : (bytes : List ℕ) → NamedOrNone bytes
+named_or_none bytes = at_liberties bytes (liberties_at bytes) refl
+
+-- bytes name this once
+pub named_so : (bytes : List ℕ) (may own : Liberties) (levels others : List Level) → SpellsNamed bytes may levels
+    → SpellsNamed bytes own others → may ≡ own
+named_so bytes may own levels others h g =
+    let read = liberties_again h.word (tail levels) may h.spells (lacks_comma levels h.so_many) in
+    let again = liberties_again g.word (tail others) own g.spells (lacks_comma others g.so_many) in
+    (some_pair (may, tail levels) (own, tail others)
+    (sym (ap liberties_at h.are_bytes ∙ read) ∙ ap liberties_at g.are_bytes ∙ again)).0
+
 abbrev FourthOrNone : List ℕ → Type 0
 FourthOrNone line =
     ((width : Width) × (may : Liberties) × (levels : List Level) × SpellsFourth line width may levels)
     ⊎ ((width : Width) (may : Liberties) (levels : List Level) → ¬ SpellsFourth line width may levels)
 
-module _ (line rest : List ℕ) (wide : Width) (front : front_at line ≡ Some (wide, rest)) where
-  at_levels : (left word : List ℕ) (may : Liberties) → SpellsLiberties word may → rest ≡ word ++ left
-      → liberties_at rest ≡ Some (may, left) → (o : Option (List Level)) → levels_at 16 left ≡ o → FourthOrNone line
-  at_levels left word may spells text named o is = go o is
-    where
-      unlike : (width : Width) (other : Liberties) (levels : List Level) → SpellsFourth line width other levels
-          → levels_at 16 left ≡ Some levels
-      unlike width other levels h =
-          let (w, t) = fourth_behind line width other levels h (wide, rest) front in
-          let read = liberties_again h.word (tail levels) other h.spells (lacks_comma levels h.so_many) in
-          let (m, ends) = some_pair (may, left) (other, tail levels) (sym named ∙ ap liberties_at t ∙ read) in
-          ap (levels_at 16) ends ∙ levels_again 16 levels h.so_many.1
-
-      none_named : (width : Width) (other : Liberties) (levels : List Level) → levels_at 16 left ≡ None
-          → ¬ SpellsFourth line width other levels
-      none_named width other levels none h = let some = unlike width other levels h in absurd cc
-
-      not_empty : (width : Width) (other : Liberties) (levels : List Level) → levels_at 16 left ≡ Some []
-          → ¬ SpellsFourth line width other levels
-      not_empty width other [] empty h = absurd (omega (arith, h.so_many.0))
-      not_empty width other (l ∷ levels) empty h = let some = unlike width other (l ∷ levels) h in absurd cc
-
-      go : (o : Option (List Level)) → levels_at 16 left ≡ o → FourthOrNone line
-      go None is = inr (λ width other levels. none_named width other levels is)
-      go (Some []) is = inr (λ width other levels. not_empty width other levels is)
-      go (Some (l ∷ levels)) is =
-          inl (
-            wide,
-            may,
-            l ∷ levels,
-            fourth_spelled line rest left word wide may (l ∷ levels) front spells text
-                (levels_taken 16 left (l ∷ levels) is) (λ none. absurd cc),
-          )
-
-  at_liberties : (o : Option (Liberties × List ℕ)) → liberties_at rest ≡ o → FourthOrNone line
-  at_liberties None is = inr (λ width other levels h. no width other levels h)
-    where
-      no : (width : Width) (other : Liberties) (levels : List Level) → ¬ SpellsFourth line width other levels
-      no width other levels h =
-          let (w, t) = fourth_behind line width other levels h (wide, rest) front in
-          let read = liberties_again h.word (tail levels) other h.spells (lacks_comma levels h.so_many) in
-          let some = ap liberties_at t ∙ read in
-          absurd cc
-  at_liberties (Some (may, left)) is =
-      let (word, spells, text) = liberties_taken rest left may is in
-      at_levels left word may spells text is (levels_at 16 left) refl
-
 fourth_or_none : (line : List ℕ) → FourthOrNone line
 fourth_or_none line = go (front_at line) refl
   where
+    behind : (wide : Width) (rest : List ℕ) → front_at line ≡ Some (wide, rest) → NamedOrNone rest → FourthOrNone line
+    behind wide rest is (inl (may, levels, named)) =
+        inl (wide, may, levels, fourth_spelled line rest wide may levels is named)
+    behind wide rest is (inr none) =
+        inr (λ width may levels h. none may levels (named_behind line width may levels h wide rest is))
+
     go : (o : Option (Width × List ℕ)) → front_at line ≡ o → FourthOrNone line
     go None is = inr (λ width may levels h. absurd (fourth_unread line width may levels h is))
-    go (Some (wide, rest)) is = at_liberties line rest wide is (liberties_at rest) refl
+    go (Some (wide, rest)) is = behind wide rest is (named_or_none rest)
 
 pub links_or_none : (line : List ℕ) → IsReadable NamesLinks line
 links_or_none line = go (header_or_none line) (fourth_or_none line)
@@ -319,11 +355,10 @@ named_once line wide width may own levels others (inl (p, s, is)) (inr h) =
 named_once line wide width may own levels others (inr h) (inl (q, u, of)) =
     absurd (versions_apart line width wide q may others levels u h)
 named_once line wide width may own levels others (inr h) (inr g) =
-    let (w, t) = fourth_behind line width own others g (wide, h.word ++ tail levels)
-    (fourth_at line wide may levels h) in
-    let read = liberties_again h.word (tail levels) may h.spells (lacks_comma levels h.so_many) in
-    let again = liberties_again g.word (tail others) own g.spells (lacks_comma others g.so_many) in
-    (some_pair (may, tail levels) (own, tail others) (sym read ∙ ap liberties_at t ∙ again)).0
+    let is = fourth_at line wide may levels h in
+    named_so (h.word ++ tail levels) may own levels others
+    (named_behind line wide may levels h wide (h.word ++ tail levels) is)
+    (named_behind line width own others g wide (h.word ++ tail levels) is)
 
 -- links that are judged together name nothing where their answers may be early
 pub none_early : (allow : Liberties) (line : List ℕ) (wide : Width) (own : Liberties) (levels : List Level)

@@ -12,7 +12,7 @@ use Rattle.tl_params.specs.declared.level.Level.{Level}
 use Rattle.tl_params.specs.declared.width.Width.{Width}
 use Rattle.tl_rules.specs.statement.Conformance.{Trace}
 use Rattle.tl_explain.specs.code.Recorded.{IsRecordUnder}
-use Rattle.tl_explain.specs.code.Spelled.{spelled}
+use Rattle.tl_explain.specs.statement.Spelled.{spelled}
 use Rattle.tl_explain.specs.declared.told.Spelling.{Spelling}
 use Rattle.tl_explain.specs.declared.turns.Subject.{Subject}
 use Rattle.tl_explain.specs.statement.Reasons.{IsSubject}
@@ -123,6 +123,7 @@ header_read {w} old new line before none takes = λ lines known.
         lines_are = rw is refl;
         names = still_named old new takes.kept line takes.width takes.levels takes.names;
         of_width = takes.of_width;
+        level_is = rw (takes.kept.level_is, takes.recorder_is) takes.level_is;
         beats_are = refl;
         counted = rw is takes.count_is;
         recorded = rw (takes.kept.may_is, takes.recorder_is) rec;
@@ -153,6 +154,7 @@ beat_read {w} old new line before some takes = λ lines known.
         lines_are = rw rec.lines_are refl;
         names = still_named old new takes.kept rec.header rec.width rec.levels rec.names;
         of_width = rec.of_width;
+        level_is = rw (takes.kept.level_is, takes.kept.subject_is) rec.level_is;
         beats_are = (rec.beats, line, refl, takes.spells, rec.beats_are);
         counted = omega (arith, takes.count_is, rec.counted, length-append lines (line ∷ []));
         recorded = subst (λ (l : Liberties). IsRecordUnder l new.recorder ((takes.link, takes.beat) ∷ t))

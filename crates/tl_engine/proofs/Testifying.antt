@@ -20,7 +20,7 @@ use Rattle.tl_rules.specs.declared.past.Request.{Request}
 use Rattle.tl_rules.specs.statement.Liberties.{broken_on_link_under}
 use Rattle.tl_rules.specs.statement.Conformance.{Trace, on_link}
 use Rattle.tl_rules.specs.statement.History.{capped}
-use Rattle.tl_explain.specs.code.Spelled.{spelled}
+use Rattle.tl_explain.specs.statement.Spelled.{spelled}
 use Rattle.tl_explain.specs.declared.told.Spelling.{Spelling}
 use Rattle.tl_explain.specs.statement.Evidence.{next_line}
 use Rattle.tl_memory.proofs.LinkTables.{link-there}

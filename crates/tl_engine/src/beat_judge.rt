@@ -24,7 +24,7 @@ pub enum BeatJudge<const W: usize> {
 }
 
 impl<const W: usize> BeatJudge<W> {
-    /// A judge of the links that a header names, 1 to 16, which has seen no beat.
+    /// A judge of the links that a header names, 1 to 16, which has judged no beat.
     pub fn new(alloc: Global, together: bool, header: &Header) -> Result<Self, AllocError>
         requires { IsWidth W }
         ensures { IfOk result (λ judge. KnowsBeats together judge header.now.levels.items header.now.profile []) }
@@ -39,7 +39,7 @@ impl<const W: usize> BeatJudge<W> {
         }
     }
 
-    /// Judges the next beat, and takes it where it isn't at fault.
+    /// Judges the next beat, and takes it if it isn't at fault.
     #[inline(always)]
     pub fn push(&mut self, link: Link, beat: &Beat<W>) -> Result<Option<Fault>, AllocError>
         requires { IsWidth W }

@@ -21,7 +21,7 @@ pub use tl_chart::window::Window;
 use tl_command::chart::Range;
 use tl_params::liberties::Liberties;
 
-/// What is drawn of a trace: the first 200 messages where no lines are given, at most 2,000 else.
+/// The window of a chart: the first 200 messages if no lines are given, otherwise at most 2,000.
 pub fn window_of(range: Range) -> Window {
     match range.lines {
         None => Window {
@@ -39,8 +39,8 @@ pub fn window_of(range: Range) -> Window {
     }
 }
 
-/// Judges what a reader gives, where links may do this besides what the header names. Answers what judged it, and what was
-/// gathered, beside its verdict.
+/// Judges the input of a reader. The links have the liberties that the header names and those that are allowed. Returns
+/// the judge with the drawing, and the status; the verdict is appended.
 fn gather<R: Read>(
     alloc: Global,
     allow: Liberties,
@@ -78,7 +78,7 @@ fn is_broken(status: Status) -> bool
     }
 }
 
-/// The chart of what was gathered, which is of this window.
+/// The chart of the drawing in this window, with the verdict.
 fn drawn(
     alloc: Global,
     window: Window,
@@ -104,11 +104,11 @@ fn drawn(
     Ok(chart)
 }
 
-/// Writes a chart of a trace, of the lines and the block of a window, where links may do this besides what the header
-/// names. The status is that of `monitor`; so is the verdict that stands in the chart.
+/// Writes a chart of a trace: the lines and the block of a window. The links have the liberties that the header names
+/// and those that are allowed. The status and the verdict in the chart are those of `monitor`.
 ///
-/// Nothing is written before the reader has come to its end or to the line at fault: `Write` alone comes
-/// behind that, where some of the text is left.
+/// Nothing is written before the reader has reached its end or the line at fault. After that the only fault is `Write`:
+/// the writer took only a front of the text.
 pub fn chart_input<R: Read, W: Write>(
     alloc: Global,
     allow: Liberties,

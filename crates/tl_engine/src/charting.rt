@@ -1,4 +1,4 @@
-//! Judges a recorded trace, and gathers what is drawn of it.
+//! Judges a recorded trace, and gathers the drawing of it.
 
 ghost use Rattle.std.specs.Prelude.{◌≡◌, ◌<◌, [], ◌∷◌, List, ℕ, IfOk, OnOk, false, length};
 ghost use Rattle.tl_beat.specs.declared.beat.Beat.{Beat};
@@ -38,18 +38,18 @@ use tl_params::perm::Perm;
 use tl_params::width::Width;
 use tl_rules::rule::Rule;
 
-/// A monitor of the links of a trace, and what was gathered of its beats.
+/// A monitor of the links of a trace, and the drawing of its beats.
 #[derive(Drop)]
 pub struct Charting<const W: usize> {
     monitor: Monitor<W>,
     gatherer: Gatherer,
-    /// The beat at fault, where it is drawn.
+    /// The beat at fault, if it is drawn.
     fault: Option<Arrow>,
-    /// How many lines have been read, without a fault.
+    /// The number of lines that have been read, without a fault.
     count: u64,
 }
 
-/// What a link holds of a block.
+/// The permission that a link holds of a block.
 fn held_on<const W: usize>(monitor: &Monitor<W>, link: Link, block: Option<u32>) -> Perm
     ensures { (levels : List Level) (may : Liberties) (t : Trace W) → KnowsUnder monitor.now levels may t false →
         link.0 < length levels → result ≡ holds (held_under may) block link t }
@@ -60,15 +60,14 @@ fn held_on<const W: usize>(monitor: &Monitor<W>, link: Link, block: Option<u32>)
     }
 }
 
-/// Whether these are the same permission.
+/// Whether the permissions are the same.
 fn is_same(one: Perm, other: Perm) -> bool
     ensures { result ≡ same_perm one other }
 {
     one == other
 }
 
-/// What a link holds of a block with a beat that the monitor has taken, where it held another permission
-/// before it.
+/// The permission that a link holds of a block after a beat that the monitor has taken, if it was another before.
 fn changed_from<const W: usize>(
     monitor: &Monitor<W>,
     link: Link,
@@ -87,7 +86,7 @@ fn changed_from<const W: usize>(
 }
 
 impl<const W: usize> Charting<W> {
-    /// Begins behind a header.
+    /// A new judge after a header.
     fn new(alloc: Global, header: &LinksHeader, window: Window) -> Result<Self, AllocError>
         requires { IsWidth W }
         ensures { IfOk result (λ charting. IsBegun charting header.now.levels.items header.now.may) }
@@ -102,8 +101,8 @@ impl<const W: usize> Charting<W> {
         })
     }
 
-    /// Gathers the beat of a line that breaks no rule, which the monitor has taken: whether it begins a
-    /// message, and what its link held before it of the block that is watched.
+    /// Gathers the beat of a line, which the monitor has taken. `first` says that it begins a message, and `before` is
+    /// the permission that its link held of the watched block before it.
     fn gather(
         &mut self,
         link: Link,
@@ -153,7 +152,7 @@ impl<const W: usize> Charting<W> {
         Fault::Rule(rule)
     }
 
-    /// Judges a beat, and gathers it. A beat at fault is drawn as it is.
+    /// Judges a beat, and gathers it. A beat at fault is drawn too.
     fn take(&mut self, link: Link, beat: &Beat<W>) -> Result<Option<Fault>, AllocError>
         requires { IsWidth W }
         ensures { IfOk result (λ fault. (allow : Liberties) (line : List ℕ) → Spells line link beat.now →
@@ -185,25 +184,25 @@ impl<const W: usize> Charting<W> {
     }
 }
 
-/// A judge of the links of a trace, which gathers what is drawn of it, by the bytes of a beat.
+/// A judge of the links of a trace, with the drawing, by the bytes of a beat.
 #[derive(Drop)]
 pub enum ChartJudge {
-    /// The header hasn't been read, and nothing was gathered.
+    /// The header hasn't been read, and nothing is drawn.
     Waiting(Global, Gatherer),
     Four(Charting<4>),
     Eight(Charting<8>),
     Sixteen(Charting<16>),
 }
 
-/// Judges the lines of a trace, and gathers what is drawn of it.
+/// Judges the lines of a trace, and gathers the drawing of it.
 #[derive(Drop)]
 pub struct ChartLines {
-    /// What the links may do besides what the header names.
+    /// The liberties of the links beyond those that the header names.
     allow: Liberties,
     judge: ChartJudge,
 }
 
-/// Begins with the links that a header names, which may do this besides. A line of another form names none.
+/// Begins with the links that a header names; these liberties are allowed too. None if the line is no header.
 #[inline(never)]
 fn begin(
     alloc: Global,
@@ -225,7 +224,7 @@ fn begin(
 }
 
 impl ChartLines {
-    /// No line has been read. The links may do this besides what the header names.
+    /// No line has been read. The links have the liberties that the header names and those that are allowed.
     pub fn new(alloc: Global, allow: Liberties, window: Window) -> Result<Self, AllocError>
         ensures knows { IfOk result (λ lines. KnowsChart lines [] []) }
         ensures allow { IfOk result (λ lines. lines.allow ≡ allow) }
@@ -236,7 +235,7 @@ impl ChartLines {
         })
     }
 
-    /// What was gathered.
+    /// The drawing of the lines so far.
     pub fn gatherer(&self) -> &Gatherer
         ensures { result.now ≡ gatherer_in self.now.judge }
     {
@@ -248,7 +247,7 @@ impl ChartLines {
         }
     }
 
-    /// The beat at fault, where it is drawn.
+    /// The beat at fault, if it is drawn.
     pub fn fault(&self) -> Option<Arrow>
         ensures { result ≡ fault_of_chart self.now.judge }
     {

@@ -1,4 +1,4 @@
-//! Says in words what each beat line spells.
+//! Writes each beat line as a readable line.
 
 ghost use Rattle.std.specs.Prelude.{IsTrue, ⊤};
 ghost use Rattle.tl_engine.specs.statement.Decoded.{DecodesBefore, DecodesTo, is_width};
@@ -11,8 +11,7 @@ use tl_beat::fault::LineFault;
 use tl_beat::read::read_into;
 use tl_explain::text::append_text;
 
-/// Judges lines of beats of `W` bytes (4, 8 or 16), each for itself: a line that spells a beat has a
-/// readable line.
+/// Judges lines of beats of `W` bytes (4, 8 or 16), each by itself. A line that spells a beat has a readable line.
 #[derive(Clone, Copy)]
 pub struct Decoder<const W: usize> {
     pub ghost width: { IsTrue (is_width W) },

@@ -1,4 +1,4 @@
-//! Reads an input to its end, and writes what a handler says of its lines.
+//! Reads an input to its end, and writes the text of a handler for its lines.
 
 ghost use Rattle.std.specs.Prelude.{◌≡◌, ◌≢◌, ◌⊎◌, ◌+◌, ◌++◌, [], ◌≤◌, ◌<◌, ℕ, List};
 ghost use Rattle.std.specs.Prelude.{IfOk, OnOk, OnErr, IfErr, length, take, vec_len};
@@ -19,7 +19,7 @@ use crate::status::{Status, ToolFault};
 use std::alloc::{AllocError, Global};
 use std::io::{Read, Write};
 
-/// How many bytes are asked of the reader at once.
+/// The number of bytes that the reader is asked for at once.
 const CHUNK: usize = 65536;
 
 /// Room for a piece of the input.
@@ -31,7 +31,7 @@ pub fn new_chunk(alloc: Global) -> Result<Vec<u8>, AllocError>
     Ok(chunk)
 }
 
-/// The next piece of the input; it is empty at the end alone.
+/// The next piece of the input; it is empty only at the end. The only fault is `Read`.
 pub fn next_piece<R: Read>(reader: &mut R, chunk: &mut Vec<u8>) -> Result<usize, ToolFault>
     requires { 0 < vec_len chunk.old }
     ensures some { IfOk result (λ count. count ≤ vec_len chunk.new) }
@@ -47,7 +47,7 @@ pub fn next_piece<R: Read>(reader: &mut R, chunk: &mut Vec<u8>) -> Result<usize,
         .map_err(|_| ToolFault::Read)
 }
 
-/// Judges a piece of the input, and writes what is said of it.
+/// Judges a piece of the input, and writes its text.
 fn pass<H: LineHandler, W: Write>(
     lines: &mut Lines<H>,
     piece: &[u8],
@@ -71,7 +71,7 @@ fn pass<H: LineHandler, W: Write>(
     Ok(status)
 }
 
-/// Judges the end of the input, and writes what is said of it.
+/// Judges the end of the input, and writes its text.
 fn close<H: LineHandler, W: Write>(
     lines: &Lines<H>,
     out: &mut Vec<u8>,
@@ -93,8 +93,8 @@ fn close<H: LineHandler, W: Write>(
 }
 
 #[tactic(auto, using(crate::proofs::GivenUp::unwritten_by, crate::proofs::GivenUp::unwritten_within))]
-/// Judges the lines of an input in turn, up to the first at fault. What is said of them is kept in memory, and
-/// what judges them has what it has of these lines. Any error of the reader is a `Read` fault.
+/// Judges the lines of an input in turn, up to the first at fault. The text stays in memory, and the handler keeps its
+/// state after these lines. Any error of the reader is a `Read` fault.
 pub fn judge_input<H: LineHandler, R: Read>(
     alloc: Global,
     lines: &mut Lines<H>,
@@ -126,9 +126,8 @@ pub fn judge_input<H: LineHandler, R: Read>(
     Err(ToolFault::Read)
 }
 
-/// Judges the lines of an input in turn, up to the first at fault, and writes what is said of each
-/// before more of the input is read. Apart from the handler's own, the memory that it takes doesn't grow
-/// with the input.
+/// Judges the lines of an input in turn, up to the first at fault. The text of each line is written before more of the
+/// input is read. Apart from the handler's own memory, the memory doesn't grow with the input.
 pub fn handle_input<H: LineHandler, R: Read, W: Write>(
     alloc: Global,
     handler: H,

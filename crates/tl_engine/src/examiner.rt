@@ -1,4 +1,4 @@
-//! Judges a recorded trace, and notes what an explanation of its first fault starts from.
+//! Judges a recorded trace, and notes the facts from which the explanation of its first fault starts.
 
 ghost use Rattle.std.specs.Prelude.{◌≡◌, ◌<◌, [], Bool, IfErr, IfOk, List, None, OnOk, Some, length, option_map, true};
 ghost use Rattle.tl_beat.specs.statement.Width.{IsWidth};
@@ -36,19 +36,19 @@ use tl_params::liberties::Liberties;
 use tl_rules::past::Request;
 use tl_rules::rule::Rule;
 
-/// What was found in a trace.
+/// The facts that were found in a trace.
 #[derive(Drop)]
 pub struct Found {
-    /// How many lines are without a fault, the header among them.
+    /// The number of lines without a fault, with the header.
     pub good: u64,
     pub header: Option<LinksHeader>,
-    /// The line at fault, where it has an LF and at most 256 bytes, and what it is at fault for.
+    /// The line at fault and its fault, if the line has an LF and at most 256 bytes.
     pub fault: Option<(Fault, Spelling)>,
-    /// The block of the request that is answered, of a Grant at fault or of a beat that breaks a rule of memory.
+    /// The block of the request that is answered, by a Grant at fault or by a beat that breaks a rule of memory.
     pub block: Option<u32>,
 }
 
-/// The request that a beat answers, where it is a response to one.
+/// The request that a beat answers, if it is a response to one.
 fn request_answered<const W: usize>(
     judge: &TraceJudge<W>,
     link: Link,
@@ -64,7 +64,7 @@ fn request_answered<const W: usize>(
     }
 }
 
-/// The block of the request that a line's beat answers, where it is a response to one.
+/// The block of the request that a line's beat answers, if it is a response to one.
 fn block_answered_in<const W: usize>(judge: &TraceJudge<W>, line: &[u8]) -> Option<u32>
     requires { IsWidth W }
     ensures { (together : Bool) → AnswersIn together judge.now line.now result }
@@ -97,8 +97,8 @@ fn block_at_fault(judge: &LinkJudge, line: &[u8], fault: Option<Fault>) -> Optio
     }
 }
 
-/// Whether the explanation of a fault needs the block of the request that the beat answers: of a Grant that breaks H6,
-/// and of what breaks a rule of memory.
+/// Whether the explanation of the fault needs the block of the request that the beat answers: for H6, and for the rules
+/// of memory.
 fn needs_block(fault: Fault) -> bool
     ensures { result ≡ tracing.needs_block fault }
 {
@@ -106,7 +106,7 @@ fn needs_block(fault: Fault) -> bool
 }
 
 impl Found {
-    /// Nothing yet.
+    /// No line has been read.
     pub fn new() -> Self
         ensures { result.fault ≡ None }
     {
@@ -118,8 +118,8 @@ impl Found {
         }
     }
 
-    /// What the line behind the good ones is at fault for, where one is: a first line that is no header,
-    /// or one that is too long or has no LF, isn't noted.
+    /// The fault of the line after the good ones, if there is one. A first line that is no header isn't noted, nor is a
+    /// line that is too long or has no LF.
     pub fn at_fault(&self) -> Fault
         ensures { result ≡ fault_of self.now }
     {
@@ -130,8 +130,7 @@ impl Found {
         }
     }
 
-    /// Whether a verdict is that of what was found: a clean one, or the fault of the line behind the good
-    /// ones.
+    /// Whether the verdict is the one of these facts: clean, or the fault of the line after the good ones.
     pub fn is_verdict(
         &self,
         alloc: Global,
@@ -151,7 +150,7 @@ impl Found {
         Ok(text.as_slice() == verdict)
     }
 
-    /// Notes a line without a fault, of links that are judged so. Behind the header begins what lists the beats.
+    /// Notes a line without a fault. The header starts the list of pending messages.
     fn note_good(
         &mut self,
         link_lines: &LinkLines,
@@ -181,8 +180,7 @@ impl Found {
         }
     }
 
-    /// Notes a line of links that are judged so, which is at fault for this or isn't, and whose beat answers a request of
-    /// this block.
+    /// Notes a line with its fault, if any. Its beat answers a request of this block.
     fn note(
         &mut self,
         link_lines: &LinkLines,
@@ -203,7 +201,7 @@ impl Found {
     }
 }
 
-/// Judges the lines of a trace, lists what is pending, and notes what it finds.
+/// Judges the lines of a trace, lists the pending messages, and notes the facts for an explanation.
 #[derive(Drop)]
 pub struct Examiner<'a> {
     pub link_lines: LinkLines,
@@ -246,8 +244,9 @@ impl LineHandler for Examiner<'_> {
     }
 }
 
-/// Judges what a reader gives, each link by itself or all together, where links may do this besides what the header
-/// names. Answers what is found, beside its verdict, and lists what is pending.
+/// Judges the input of a reader, each link by itself or all together. The links have the liberties that the header
+/// names and those that are allowed. Returns the facts and the status. The verdict is appended, and the pending
+/// messages are listed.
 pub fn examine<R: Read>(
     alloc: Global,
     together: bool,

@@ -1,4 +1,4 @@
-//! Explains what a recorded trace is judged, by reading it twice.
+//! Explains the verdict on a recorded trace, which is read twice.
 
 ghost use Rattle.std.specs.Prelude.{◌≡◌, ◌≢◌, ◌+◌, ◌++◌, [], ℕ, List, Err, IfErr};
 ghost use Rattle.std.specs.Prelude.{IfOk, IfSome, Ok, OnErr, OnOk, Some, not, true};
@@ -47,7 +47,7 @@ use tl_rules::legality::beat::check_beat_under;
 use tl_rules::level::Level;
 use tl_rules::rule::Rule;
 
-/// The outcome of a run that writes into memory alone, where a writer fails for want of it.
+/// The outcome of a run that writes only to memory: a `Write` fault there is a `Memory` fault.
 pub fn in_memory(outcome: Result<Status, ToolFault>) -> Result<Status, ToolFault>
     ensures ok { IfOk result (λ status. outcome ≡ Ok status) }
     ensures fault { IfErr result (λ fault. fault ≢ ToolFault.Write) }
@@ -62,7 +62,7 @@ pub fn in_memory(outcome: Result<Status, ToolFault>) -> Result<Status, ToolFault
     }
 }
 
-/// Whether a rule judges a beat by itself.
+/// Whether the rule is one of legality, which judges a beat by itself.
 fn is_legality(rule: Rule) -> bool
     ensures { result ≡ not (is_of_order rule) }
 {
@@ -72,13 +72,8 @@ fn is_legality(rule: Rule) -> bool
     )
 }
 
-/// The level of a link.
-fn level_of(header: &LinksHeader, link: Link) -> Option<Level> {
-    header.levels.as_slice().get(usize::from(link.0)).copied()
-}
-
 #[tactic(auto, using(crate::proofs::Explaining::broken_by))]
-/// Whether a beat breaks the rule by itself, where its link may do this.
+/// Whether the beat breaks the rule by itself, on a link with these liberties.
 fn is_illegal<const W: usize>(
     may: Liberties,
     level: Option<Level>,
@@ -97,7 +92,7 @@ fn is_illegal<const W: usize>(
     }
 }
 
-/// Appends what a rule says, and the beat that breaks it.
+/// Appends the text of a rule, and the beat that breaks it.
 pub fn append_front<const W: usize>(
     rule: Rule,
     number: u64,
@@ -113,7 +108,7 @@ pub fn append_front<const W: usize>(
     append_beat_line::<W>(number, line, out)
 }
 
-/// What a verdict on a beat speaks of; the block is that of the request that a Grant answers.
+/// The subject of a verdict on a beat. The block is that of the request that a Grant answers.
 pub fn subject_of<const W: usize>(link: Link, beat: &Beat<W>, block: Option<u32>) -> Subject
     ensures { IsSubject result link beat.now }
 {
@@ -132,7 +127,7 @@ pub fn subject_of<const W: usize>(link: Link, beat: &Beat<W>, block: Option<u32>
     }
 }
 
-/// Begins to record for a line at fault, where it spells a beat.
+/// Begins to record for a line at fault, if it spells a beat.
 fn start_of<const W: usize>(
     allow: Liberties,
     header: &LinksHeader,
@@ -150,6 +145,7 @@ fn start_of<const W: usize>(
         recorder: Recorder::with_liberties(header.may, subject_of(link, &beat, found.block)),
         allow,
         may: header.may,
+        level: header.level_of(link),
         good: found.good,
         line: *line,
         count: 0,
@@ -157,7 +153,7 @@ fn start_of<const W: usize>(
     })
 }
 
-/// Reads the lines up to the one at fault again, which spells a beat, and records what stands before it.
+/// Reads the lines again up to the one at fault, which spells a beat, and records the beats before it.
 fn replayed<const W: usize, R: Read>(
     alloc: Global,
     allow: Liberties,
@@ -204,10 +200,10 @@ fn explain_legality<const W: usize, R: Read>(
     let replay = replayed::<W, R>(alloc, allow, reader, header, found, line)?;
     let number = number_behind(found.good)?;
     let line = replay.line.line();
-    let Ok((link, beat)) = read_line::<W>(line) else {
+    let Ok((_, beat)) = read_line::<W>(line) else {
         return Err(ExplainFault::Changed);
     };
-    let level = level_of(header, link);
+    let level = replay.level;
     if !is_illegal(replay.may, level, rule, &beat) {
         return Err(ExplainFault::Changed);
     }
@@ -251,16 +247,16 @@ fn explain_order<const W: usize, R: Read>(
     Ok(())
 }
 
-/// What `clean` doesn't say, and what `coherent` doesn't.
+/// The limits of `clean`, or of `coherent`.
 fn unsaid(coherent: bool) -> &'static str {
     if coherent {
-        "  coherent says that no beat breaks a rule of its own link or of memory; it says nothing of what never comes, nor of a link that isn't in the trace\n"
+        "  coherent means that no beat breaks a rule of its own link or of memory; it says nothing about messages that never come, nor about a link that isn't in the trace\n"
     } else {
-        "  clean says that no beat breaks a rule of its own link; it says nothing of two links together, nor of the data\n"
+        "  clean means that no beat breaks a rule of its own link; it says nothing about two links together, nor about the data\n"
     }
 }
 
-/// Tells what is pending at the end of a trace without a fault.
+/// Lists the messages pending at the end of a trace without a fault.
 fn explain_clean<const W: usize>(
     coherent: bool,
     ledger: &mut Ledger,
@@ -275,7 +271,7 @@ fn explain_clean<const W: usize>(
 }
 
 #[tactic(auto, using(crate::proofs::Explaining::of_legality, crate::proofs::Explaining::of_order))]
-/// Explains what was found behind a header.
+/// Explains the facts that were found after a header.
 fn explain_found<const W: usize, R: Read>(
     alloc: Global,
     coherent: bool,
@@ -316,7 +312,7 @@ fn explain_found<const W: usize, R: Read>(
     }
 }
 
-/// Appends why a trace is judged so. Where it is at fault it is read again.
+/// Appends the reasons of a verdict. A trace at fault is read again.
 fn reasons<R: Read>(
     alloc: Global,
     coherent: bool,
@@ -354,7 +350,7 @@ fn reasons<R: Read>(
     }
 }
 
-/// Writes a verdict, and the reasons behind it.
+/// Writes a verdict, and its reasons after it. The only fault is `Write`.
 pub fn write_both<W: Write>(verdict: &[u8], reasons: &[u8], writer: &mut W) -> Result<(), ToolFault>
     ensures ok { OnOk result (Appends (W.contents writer.old) (W.contents writer.new) (verdict.now ++ reasons.now)) }
     ensures err { OnErr result (AppendsShort (W.contents writer.old) (W.contents writer.new)
@@ -366,15 +362,14 @@ pub fn write_both<W: Write>(verdict: &[u8], reasons: &[u8], writer: &mut W) -> R
 }
 
 #[tactic(auto, using(crate::proofs::Explaining::explains))]
-/// Writes what `monitor` says of a trace, or what `coherent` says, and behind it why. Links may do this besides what the
-/// header names, of any form. The two readers are of the same
-/// file, each at its front; the second is read up to the line at fault. Where they differ nothing is written. Where
-/// a rule of order is broken, what the second reader gave has a reason in it for that line and that rule; where a rule
-/// of memory is, what it gave is judged so too.
+/// Writes the verdict of `monitor`, or of `coherent`, on a trace, and the reasons after it. The links have the
+/// liberties that the header of any form names and those that are allowed. The two readers read the same file from its
+/// front. The second reads up to the line at fault. If they differ, nothing is written. For a broken rule of order, the
+/// second reading has a reason for that line and that rule. For a broken rule of memory, it has the same verdict.
 ///
-/// Nothing is written before both readings have come to their end: `Write` alone comes behind that, where
-/// some of the text is left. `Read` and `Memory` come of the first reading, before its verdict, where
-/// nothing was read again, or of the second; `Changed` comes behind the verdict.
+/// Nothing is written before both readings have reached their ends. After that the only fault is `Write`: the writer
+/// took only a front of the text. `Read` and `Memory` are faults of the first reading, before its verdict and before
+/// the second begins, or of the second. `Changed` comes only after the verdict.
 pub fn explain_input<R: Read, S: Read, W: Write>(
     alloc: Global,
     coherent: bool,

@@ -1,4 +1,4 @@
-//! Why nothing is explained.
+//! The reasons why nothing is explained.
 
 ghost use Rattle.std.specs.Prelude.{◌≡◌, ◌≢◌, ◌+◌, IfErr, IfOk};
 
@@ -6,7 +6,7 @@ use crate::status::ToolFault;
 use std::alloc::AllocError;
 use std::io;
 
-/// Why nothing is explained.
+/// The reason why nothing is explained.
 #[derive(Clone, Copy, Debug, PartialEq, Eq)]
 pub enum ExplainFault {
     Tool(ToolFault),
@@ -46,7 +46,7 @@ impl From<io::Error> for ExplainFault {
     }
 }
 
-/// The number of the line behind so many.
+/// The number of the line after these; `Changed` after line 2^64 - 1, the last.
 pub fn number_behind(good: u64) -> Result<u64, ExplainFault>
     ensures number { IfOk result (λ number. number ≡ good + 1) }
     ensures fault { IfErr result (λ fault. fault ≢ ExplainFault.Tool ToolFault.Write) }

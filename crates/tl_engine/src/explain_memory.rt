@@ -22,7 +22,7 @@ use tl_explain::told::Spelling;
 use tl_params::liberties::Liberties;
 use tl_rules::memory_rule::MemoryRule;
 
-/// Begins to inquire of the lines up to the one at fault, where the block is known that it speaks of.
+/// Begins an inquiry into the lines up to the one at fault, if the block of its request is known.
 fn inquiry_of(alloc: Global, found: &Found, rule: MemoryRule, line: &Spelling) -> Option<Inquiry>
     ensures { IfSome result (λ i. AsksAbout i found.now rule line.now) }
 {
@@ -38,7 +38,7 @@ fn inquiry_of(alloc: Global, found: &Found, rule: MemoryRule, line: &Spelling) -
     })
 }
 
-/// Judges what a reader gives again, all links together, and inquires of it. Answers what was gathered, with the status.
+/// Judges the input of a reader again, all links together, with an inquiry. Returns the inquiry, and the status.
 fn inquire<R: Read>(
     alloc: Global,
     allow: Liberties,
@@ -65,7 +65,7 @@ fn inquire<R: Read>(
     Ok((lines.into_handler().inquiry, status))
 }
 
-/// Whether a verdict is that line `number` breaks the rule.
+/// Whether the verdict is that line `number` breaks the rule.
 fn is_broken_there(
     alloc: Global,
     number: u64,

@@ -1,4 +1,4 @@
-//! What a line can be at fault for.
+//! The faults that a line can have.
 
 ghost use Rattle.std.specs.Prelude.{◌≡◌, ◌++◌, OnOk};
 ghost use Rattle.tl_engine.specs.statement.Coherent.{fault_of_breach};
@@ -12,7 +12,7 @@ use tl_rules::rule::Rule;
 use tl_schedule::line::EventFault;
 use tl_together::breach::Breach;
 
-/// What a line is at fault for.
+/// The fault of a line.
 #[derive(Clone, Copy, Debug, PartialEq, Eq)]
 pub enum Fault {
     /// The header of a trace or of a schedule was expected.
@@ -23,12 +23,14 @@ pub enum Fault {
     Rule(Rule),
     /// The beat breaks a rule of memory, and none of its link.
     MemoryRule(MemoryRule),
-    /// The line says no event.
+    /// The wide beat names a block, a source or a sink for which no number is left.
+    Beyond,
+    /// The line spells no event.
     Event(EventFault),
 }
 
 impl Fault {
-    /// The name that the text of a fault shows.
+    /// The name of the fault in the text.
     pub fn name(self) -> &'static str
         ensures { result.now ≡ fault_name self }
     {
@@ -39,10 +41,11 @@ impl Fault {
             Fault::Event(EventFault::F8) => "F8",
             Fault::Rule(rule) => rule.name(),
             Fault::MemoryRule(rule) => rule.name(),
+            Fault::Beyond => "F9",
         }
     }
 
-    /// What a beat is at fault for that breaks this rule.
+    /// The fault of a beat that breaks this rule.
     pub fn of_breach(breach: Breach) -> Fault
         ensures { result ≡ fault_of_breach breach }
     {
@@ -54,7 +57,7 @@ impl Fault {
 }
 
 #[tactic(auto, unfolding(crate::specs::statement::Fault::fault_text))]
-/// Appends `line N X`, where line N is at fault for X.
+/// Appends `line N X`: line N is at fault for X.
 pub fn append_fault(number: u64, fault: Fault, out: &mut Vec<u8>) -> Result<(), AllocError>
     ensures { OnOk result (out.new.items ≡ out.old.items ++ fault_text number fault) }
 {

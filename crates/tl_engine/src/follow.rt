@@ -1,4 +1,4 @@
-//! What goes with the judge of a trace.
+//! Followers of the judge of a trace.
 
 ghost use Rattle.std.specs.Prelude.{Bool, List, IfOk};
 ghost use Rattle.tl_beat.specs.statement.Width.{IsWidth};
@@ -13,9 +13,9 @@ use std::alloc::AllocError;
 use tl_beat::beat::{Beat, Link};
 use tl_explain::ledger::Ledger;
 
-/// Goes with the judge of a trace, and may note the beats that it takes.
+/// Follows the judge of a trace, and may note the beats that it takes.
 pub trait Follow<const W: usize> {
-    /// Has the judge judge the beat of a line, as it does alone, and notes it where it isn't at fault.
+    /// Lets the judge judge the beat of a line, with the same result as alone. Notes the beat if it isn't at fault.
     fn push(
         &mut self,
         judge: &mut TraceJudge<W>,
@@ -29,7 +29,7 @@ pub trait Follow<const W: usize> {
             JudgesBeat together judge.new levels may t (link, beat.now) fault) };
 }
 
-/// Goes with a judge of which no more is wanted than what it says.
+/// Follows a judge, and notes nothing.
 #[derive(Drop)]
 pub struct Alone;
 

@@ -15,8 +15,7 @@ use tl_params::width::Width;
 use tl_rules::level::Level;
 use tl_rules::profile::Profile;
 
-/// What the header of a trace names: the bytes of a beat, the profile, and the levels of the links
-/// from link 0 on.
+/// The header of a trace: the bytes of a beat, the profile, and the levels of the links from link 0 on.
 #[derive(Drop)]
 pub struct Header {
     pub width: Width,
@@ -40,7 +39,7 @@ fn levels(bytes: &[u8]) -> Option<ArrayVec<Level, MOST_CLIENTS>>
     Some(levels)
 }
 
-/// The levels up to the LF that ends a line, each behind a space, at most 16; there may be none.
+/// The levels up to the LF that ends a line, each after a space. There are at most 16, and may be none.
 pub fn read_levels(bytes: &[u8]) -> Option<ArrayVec<Level, MOST_CLIENTS>>
     // What is read is spelled by the bytes, and whatever they spell is read.
     ensures spelled { IfSome result (λ levels. SpellsLevels bytes.now levels.items) }
@@ -49,7 +48,7 @@ pub fn read_levels(bytes: &[u8]) -> Option<ArrayVec<Level, MOST_CLIENTS>>
     levels(bytes)
 }
 
-/// What follows the word at the front of a trace.
+/// The bytes after the word at the front of a trace.
 fn after_word(line: &[u8]) -> Option<&[u8]>
     ensures { MatchOption result ((rest : List ℕ) → line.now ≢ trace_word ++ rest) (λ rest. line.now
         ≡ trace_word ++ rest.now) }
@@ -74,7 +73,7 @@ fn whole_header(line: &[u8]) -> Option<Header>
     })
 }
 
-/// Reads the first line of a trace, its LF included. A line of another form has no header.
+/// Reads the first line of a trace, with its LF. None if the line is no header.
 pub fn read_header(line: &[u8]) -> Option<Header>
     // What is read is spelled by the line, and whatever the line spells is read.
     ensures spelled { IfSome result (λ header. SpellsHeader line.now header.width header.profile header.levels.items) }

@@ -7,11 +7,11 @@ use tl_explain::shown::{Span, append_line, shown};
 use tl_params::config::MOST_CLIENTS;
 use tl_params::header::{front_level, front_version};
 
-/// Why a header that names early answers is at fault where all links are judged together.
+/// The reason why a header that names early answers is at fault if all links are judged together.
 const EARLY_TOLD: &str =
     "  coherent takes no early answers: the rules between links don't say which bytes a response may bring before its request is complete; monitor judges each link by itself\n";
 
-/// Where reading a header stopped, and what was wanted there.
+/// The place in a header at which reading stopped, and the form that was expected there.
 #[derive(Clone, Copy)]
 struct Stop {
     at: usize,
@@ -22,7 +22,7 @@ fn stop_at(at: usize, wanted: &'static str) -> Stop {
     Stop { at, wanted }
 }
 
-/// How many bytes two lines have in common at their fronts.
+/// The length of the common front of two lines.
 fn common(line: &[u8], word: &[u8]) -> usize {
     let mut count = 0usize;
     for (one, other) in line.iter().zip(word) {
@@ -34,7 +34,7 @@ fn common(line: &[u8], word: &[u8]) -> usize {
     count
 }
 
-/// The levels, of which the first stands at this place.
+/// The place at which reading the levels stopped; the first level is at this place.
 fn levels_stop(line: &[u8], from: usize, bytes: &[u8]) -> Stop {
     let mut rest = bytes;
     let mut at = from;
@@ -52,12 +52,12 @@ fn levels_stop(line: &[u8], from: usize, bytes: &[u8]) -> Stop {
     stop_at(at, "a line feed")
 }
 
-/// How many bytes stand before what is left of a line.
+/// The number of bytes before the rest of a line.
 fn before(line: &[u8], rest: &[u8]) -> usize {
     line.len().saturating_sub(rest.len())
 }
 
-/// What follows the bytes of a beat in a header of the fourth form, where the word at its front has this behind it.
+/// The rest of a header of the fourth form after the bytes of a beat; None for another form.
 fn behind_width(bytes: &[u8]) -> Option<&[u8]> {
     match bytes {
         [b'4', b' ', b'4' | b'8', b' ', rest @ ..] => Some(rest),
@@ -66,7 +66,8 @@ fn behind_width(bytes: &[u8]) -> Option<&[u8]> {
     }
 }
 
-/// The liberties, whose word stands at the front of what is left, and the levels.
+/// The place at which reading the liberties and the levels stopped; the word of the liberties is at the front of these
+/// bytes.
 fn liberties_stop(line: &[u8], bytes: &[u8]) -> Stop {
     match front_liberties(bytes) {
         None => stop_at(before(line, bytes), LIBERTIES_WANTED),
@@ -74,7 +75,7 @@ fn liberties_stop(line: &[u8], bytes: &[u8]) -> Stop {
     }
 }
 
-/// What is wanted behind the word at the front, where no version of the first three stands.
+/// The place at which reading stopped after the first word, if the version is none of the first three.
 fn version_stop(line: &[u8], bytes: &[u8]) -> Stop {
     if let Some(rest) = behind_width(bytes) {
         return liberties_stop(line, rest);
@@ -120,7 +121,7 @@ fn is_beat_like(line: &[u8]) -> bool {
     )
 }
 
-/// What a file with this first line seems to be.
+/// The kind of file that has this first line.
 fn guess(line: &[u8]) -> Option<&'static str> {
     if line.is_empty() {
         return Some("the file is empty");
@@ -135,21 +136,19 @@ fn guess(line: &[u8]) -> Option<&'static str> {
         return Some("the file begins with a byte-order mark");
     }
     if is_beat_like(line) {
-        return Some(
-            "beats without a header stand here: its first line says the levels of the links",
-        );
+        return Some("there is no header: the first line of a trace names the levels of its links");
     }
     match line {
         [.., b'\r', b'\n'] => Some("the line ends in CR and LF"),
-        [.., b' ', b'\n'] => Some("a space stands before the line feed"),
+        [.., b' ', b'\n'] => Some("there is a space before the line feed"),
         [.., b'\n'] => None,
         _ if line.len() > 256 => Some("the line has more than 256 bytes"),
         _ => Some("the line has no line feed"),
     }
 }
 
-/// Appends the line as it stands, the place where reading stopped and what was wanted there, the forms
-/// of a header, and what the file seems to be.
+/// Appends the line, the place at which reading stopped and the form that was expected there, the forms of a header,
+/// and the probable kind of file.
 pub fn tell(line: &[u8], out: &mut Vec<u8>) -> io::Result<()> {
     let stop = find_stop(line);
     let at = stop.at.min(shown(line).len());
@@ -187,7 +186,7 @@ fn word_span(line: &[u8]) -> Span {
     }
 }
 
-/// Appends a header that names early answers, of links that are judged together, and why it is at fault.
+/// Appends a header that names early answers, and the reason why it is at fault if all links are judged together.
 pub fn tell_early(line: &[u8], out: &mut Vec<u8>) -> io::Result<()> {
     append_line(line, word_span(line), out)?;
     out.write_all(EARLY_TOLD.as_bytes())

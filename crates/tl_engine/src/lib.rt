@@ -1,4 +1,4 @@
-//! The command's engine: reads lines of text, line by line, and writes what a command says of them.
+//! The command's engine: reads an input line by line, and writes the text of a command for the lines.
 #![tactic(auto)]
 
 pub mod beat_judge;

@@ -1,4 +1,4 @@
-//! Cuts an input that comes in pieces into its lines.
+//! Splits an input that comes in pieces into its lines.
 
 ghost use Rattle.std.specs.Prelude.{◌≡◌, ◌+◌, ◌++◌, [], ◌≤◌, ◌<◌, ◌^◌, ◌-◌, ◌==◌, not, ℕ, List, length};
 ghost use Rattle.std.specs.Prelude.{IfOk, IfErr, MatchOption, Ok};
@@ -18,8 +18,7 @@ use memchr::memchr;
 use std::alloc::AllocError;
 use std::simd::u8x64;
 
-/// A handler, with the number of lines that it has judged, and the beginning of a line whose end
-/// hasn't come.
+/// A handler, the number of lines that it has judged, and the beginning of a line whose end hasn't come.
 #[derive(Drop)]
 pub struct Lines<H> {
     handler: H,
@@ -37,7 +36,7 @@ impl From<AllocError> for ToolFault {
     }
 }
 
-/// How many of these bytes stand before the first LF.
+/// The number of these bytes before the first LF.
 #[inline(always)]
 fn near_end(bytes: &[u8; 64]) -> usize
     ensures { result ≡ prefix_len (λ b. not (b == 10)) bytes.now }
@@ -52,7 +51,7 @@ fn near_end(bytes: &[u8; 64]) -> usize
     }
 }
 
-/// The place of the first LF, which mostly is among the first 64 bytes.
+/// The place of the first LF, which is mostly among the first 64 bytes.
 #[inline(always)]
 fn line_end(bytes: &[u8]) -> Option<usize>
     ensures { IsFirstByte (is_byte 10) bytes.now result }
@@ -66,7 +65,7 @@ fn line_end(bytes: &[u8]) -> Option<usize>
     memchr(b'\n', bytes)
 }
 
-/// The first line of these bytes with its LF, and what follows it.
+/// The first line of these bytes with its LF, and the bytes after it.
 #[inline(always)]
 pub(crate) fn first_line(bytes: &[u8]) -> Option<(&[u8], &[u8])>
     ensures { MatchOption result (LacksLf bytes.now) (λ parts. IsLine parts.0.now
@@ -76,7 +75,7 @@ pub(crate) fn first_line(bytes: &[u8]) -> Option<(&[u8], &[u8])>
     Some(bytes.split_at(end + 1))
 }
 
-/// The number of the line after these. There is none after line 2^64 - 1.
+/// The number of the line after these; `Read` after line 2^64 - 1, the last.
 fn number_after(count: u64) -> Result<u64, ToolFault>
     ensures next { IfOk result (λ number. number ≡ count + 1) }
     ensures fault { IfErr result (λ fault. (fault ≡ ToolFault.Read) × (count ≡ 2 ^ 64 - 1)) }
@@ -84,7 +83,7 @@ fn number_after(count: u64) -> Result<u64, ToolFault>
     count.checked_add(1).ok_or(ToolFault::Read)
 }
 
-/// Judges the line after these many, and appends its text or its fault.
+/// Judges the line after these, and appends its text or its fault.
 #[inline(always)]
 fn handle_counted_line<H: LineHandler>(
     handler: &mut H,
@@ -124,14 +123,14 @@ impl<H: LineHandler> Lines<H> {
         }
     }
 
-    /// What judges the lines.
+    /// The judge of the lines.
     pub fn handler(&self) -> &H
         ensures { result.now ≡ self.now.handler }
     {
         &self.handler
     }
 
-    /// What has judged the lines.
+    /// The judge of the lines, by value.
     pub fn into_handler(self) -> H
         ensures { result ≡ self.handler }
     {
@@ -155,7 +154,7 @@ impl<H: LineHandler> Lines<H> {
         Ok(Status::Broken)
     }
 
-    /// Judges a line, of which a beginning may have come with earlier pieces.
+    /// Judges a line, the beginning of which may have come with earlier pieces.
     pub(crate) fn take_line(&mut self, line: &[u8], out: &mut Vec<u8>) -> Result<Status, ToolFault>
         requires { IsLine line.now }
         ensures feeds { IfOk result (Feeds H.knows (H.tells (H.purpose self.old.handler)) self.old self.new line.now
@@ -216,7 +215,7 @@ impl<H: LineHandler> Lines<H> {
         self.keep(rest, out)
     }
 
-    /// Judges the end of the input. A rest without LF is a line too.
+    /// Judges the end of the input. A rest without an LF is a line too.
     pub fn finish(&self, out: &mut Vec<u8>) -> Result<Status, ToolFault>
         ensures finishes { IfOk result (FinishesInput H.knows (H.tells (H.purpose self.now.handler)) self.now out.old.items
             out.new.items) }

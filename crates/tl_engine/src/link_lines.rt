@@ -35,12 +35,12 @@ pub enum LinkJudge {
 #[derive(Drop)]
 pub struct LinkLines {
     pub together: bool,
-    /// What the links may do besides what the header names.
+    /// The liberties of the links beyond those that the header names.
     pub allow: Liberties,
     pub judge: LinkJudge,
 }
 
-/// Judges the line of the next beat. What goes with the judge may note it, where it isn't at fault.
+/// Judges the line of the next beat. The follower may note the beat if it isn't at fault.
 #[inline(always)]
 fn watch<const W: usize, F: Follow<W>>(
     judge: &mut TraceJudge<W>,
@@ -57,7 +57,7 @@ fn watch<const W: usize, F: Follow<W>>(
     }
 }
 
-/// Judges the links that a header names, which may do this besides. A line of another form names none.
+/// Begins to judge the links that a header names; these liberties are allowed too. None if the line is no header.
 fn begin(
     alloc: Global,
     together: bool,
@@ -78,7 +78,7 @@ fn begin(
     Ok(Some(judge))
 }
 
-/// Goes on with the judge of the links that the header names. A line of another form is at fault.
+/// Continues with the judge of the links that the header names. A line that is no header is at fault.
 #[cold]
 #[inline(never)]
 fn start(
@@ -102,7 +102,7 @@ fn start(
 }
 
 impl LinkLines {
-    /// No line has been read. The links may do this besides what the header names.
+    /// No line has been read. The links have the liberties that the header names and those that are allowed.
     pub fn new(alloc: Global, together: bool, allow: Liberties) -> LinkLines
         ensures knows { KnowsLines result [] [] }
         ensures purpose { judged_for result ≡ (together, allow) }
@@ -114,13 +114,13 @@ impl LinkLines {
         }
     }
 
-    /// The header that a first line is of links which are judged so.
+    /// The header in a first line, if its links can be judged by this judge.
     pub fn header(&self, line: &[u8]) -> Option<LinksHeader> {
         read_for(self.together, self.allow, line)
     }
 
-    /// Judges the next line, as `handle_line` does, and appends nothing. Where it is at fault, it is so behind the trace
-    /// that the lines before it spell. What goes with the judge may note the beats that aren't.
+    /// Judges the next line as `handle_line` does, and appends nothing. A fault is one after the trace that the lines
+    /// before it spell. The follower may note each beat without a fault.
     #[inline(always)]
     pub fn judge_line<F: Follow<4> + Follow<8> + Follow<16>>(
         &mut self,

@@ -15,10 +15,10 @@ use tl_beat::read::read_line;
 use tl_explain::spelling;
 use tl_params::liberties::Liberties;
 
-/// How many bytes of a line are looked at.
+/// The number of bytes of a line that are read.
 const LOOKED_AT: usize = 257;
 
-/// The beginning of the line of this number, from 1 on, with its LF if it stands there.
+/// The first 257 bytes, at most, of the line of this number, from 1 on, with its LF if it is among them.
 pub fn fetch<R: Read>(alloc: Global, reader: &mut R, number: u64) -> Result<Vec<u8>, ExplainFault>
     ensures fault { IfErr result (λ fault. fault ≢ ExplainFault.Tool ToolFault.Write) }
 {
@@ -45,7 +45,8 @@ pub fn fetch<R: Read>(alloc: Global, reader: &mut R, number: u64) -> Result<Vec<
     Ok(line)
 }
 
-/// Explains a first line that is no header of links which are judged so.
+/// Explains a first line that is no header, or one with `early` if all links are judged together. `Changed` if it is a
+/// header without fault.
 pub(crate) fn explain_header<R: Read>(
     alloc: Global,
     together: bool,

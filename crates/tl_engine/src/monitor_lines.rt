@@ -18,8 +18,8 @@ use tl_beat::fault::LineFault;
 use tl_beat::read::read_into;
 use tl_params::width::Width;
 
-/// Judges the lines of a trace: the header, and then the beats of up to 16 links, of each by itself, or of
-/// all together where `TOGETHER` is 1.
+/// Judges the lines of a trace: the header, and then the beats of up to 16 links. Each link is judged by itself, or all
+/// together if `TOGETHER` is 1.
 #[derive(Drop)]
 pub enum MonitorLines<const TOGETHER: usize> {
     /// The header hasn't been read.
@@ -29,7 +29,7 @@ pub enum MonitorLines<const TOGETHER: usize> {
     Sixteen(BeatJudge<16>),
 }
 
-/// Judges the line of the next beat. A judge that has found one at fault isn't asked again.
+/// Judges the line of the next beat. A judge isn't used again after a fault.
 #[inline(always)]
 fn watch<const W: usize>(judge: &mut BeatJudge<W>, line: &[u8]) -> Result<Option<Fault>, AllocError>
     requires { IsWidth W }
@@ -42,15 +42,14 @@ fn watch<const W: usize>(judge: &mut BeatJudge<W>, line: &[u8]) -> Result<Option
     }
 }
 
-/// The word of a trace without a fault.
+/// The word for a trace without a fault.
 fn word_by(together: bool) -> &'static str
     ensures { result.now ≡ word_by together }
 {
     if together { "coherent " } else { "clean " }
 }
 
-/// Appends what is said of a trace, where none of so many beats is at fault: `clean N`, or, of all links
-/// together, `coherent N`.
+/// Appends the text of a trace of this many beats without a fault: `clean N`, or `coherent N` for all links together.
 pub fn append_end(together: bool, number: u64, out: &mut Vec<u8>) -> Result<(), AllocError>
     ensures { OnOk result (out.new.items ≡ out.old.items ++ end_by together number) }
 {
@@ -61,7 +60,7 @@ pub fn append_end(together: bool, number: u64, out: &mut Vec<u8>) -> Result<(), 
     Ok(())
 }
 
-/// Judges the links that a header names. A line of another form names none.
+/// Judges the links that a header names. None if the line is no header.
 fn begin<const TOGETHER: usize>(
     alloc: Global,
     line: &[u8],
@@ -80,7 +79,7 @@ fn begin<const TOGETHER: usize>(
     Ok(Some(monitor_lines))
 }
 
-/// Goes on with the judges that the header names. A line of another form is at fault.
+/// Continues with the judge of the links that the header names. A line that is no header is at fault.
 #[cold]
 #[inline(never)]
 fn start<const TOGETHER: usize>(

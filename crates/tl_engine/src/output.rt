@@ -8,8 +8,8 @@ ghost use Rattle.tl_engine.specs.code.Parts.{AppendsPart, AppendsShort};
 use crate::status::ToolFault;
 use std::io::Write;
 
-/// Writes all of the bytes. A writer that fails or takes none of them is a `Write` fault: a beginning of
-/// the bytes was written then, and some of them are left.
+/// Writes all of the bytes. A writer that fails or takes none of them is a `Write` fault: it took only a front of the
+/// bytes.
 pub fn write_all<W: Write>(writer: &mut W, bytes: &[u8]) -> Result<(), ToolFault>
     ensures ok { OnOk result (Appends (W.contents writer.old) (W.contents writer.new) bytes.now) }
     ensures err { OnErr result (AppendsShort (W.contents writer.old) (W.contents writer.new) bytes.now) }
@@ -30,7 +30,7 @@ pub fn write_all<W: Write>(writer: &mut W, bytes: &[u8]) -> Result<(), ToolFault
     Ok(())
 }
 
-/// Writes a name between two texts. Its only fault is `Write`.
+/// Writes a name between two texts. The only fault is `Write`.
 fn write_around<W: Write>(
     front: &[u8],
     name: &str,
@@ -49,8 +49,7 @@ fn write_around<W: Write>(
     Ok(())
 }
 
-/// Writes the line for standard error where a file of this name can't be opened. Its only fault is
-/// `Write`.
+/// Writes the line for standard error if a file of this name can't be opened. The only fault is `Write`.
 pub fn write_open_fault<W: Write>(name: &str, writer: &mut W) -> Result<(), ToolFault>
     ensures ok { OnOk result (Appends (W.contents writer.old) (W.contents writer.new) (open_fault_text name.now)) }
     ensures err { OnErr result (AppendsPart (W.contents writer.old) (W.contents writer.new)
@@ -60,8 +59,8 @@ pub fn write_open_fault<W: Write>(name: &str, writer: &mut W) -> Result<(), Tool
     write_around(b"tltool: cannot open ", name, b"\n", writer)
 }
 
-/// Writes the line for standard error where a file of this name changed between its two readings. Its
-/// only fault is `Write`.
+/// Writes the line for standard error if a file of this name changed between its two readings. The only fault is
+/// `Write`.
 pub fn write_changed<W: Write>(name: &str, writer: &mut W) -> Result<(), ToolFault>
     ensures ok { OnOk result (Appends (W.contents writer.old) (W.contents writer.new) (changed_text name.now)) }
     ensures err { OnErr result (AppendsPart (W.contents writer.old) (W.contents writer.new) (changed_text name.now)) }
@@ -70,7 +69,7 @@ pub fn write_changed<W: Write>(name: &str, writer: &mut W) -> Result<(), ToolFau
     write_around(b"tltool: ", name, b" changed while it was read\n", writer)
 }
 
-/// Writes the line for standard error where all links are judged together, and the header names early answers. Its only
+/// Writes the line for standard error if all links are judged together and the header names early answers. The only
 /// fault is `Write`.
 pub fn write_early<W: Write>(writer: &mut W) -> Result<(), ToolFault>
     ensures ok { OnOk result (Appends (W.contents writer.old) (W.contents writer.new) early_text) }
@@ -83,8 +82,8 @@ pub fn write_early<W: Write>(writer: &mut W) -> Result<(), ToolFault>
     )
 }
 
-/// Writes the line for standard error where a file of this name can be read once alone, as a pipe. Its
-/// only fault is `Write`.
+/// Writes the line for standard error if a file of this name can be read only once, such as a pipe. The only fault is
+/// `Write`.
 pub fn write_once<W: Write>(name: &str, writer: &mut W) -> Result<(), ToolFault>
     ensures ok { OnOk result (Appends (W.contents writer.old) (W.contents writer.new) (once_text name.now)) }
     ensures err { OnErr result (AppendsPart (W.contents writer.old) (W.contents writer.new) (once_text name.now)) }

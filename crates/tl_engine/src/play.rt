@@ -1,4 +1,4 @@
-//! Plays the lines of a schedule behind its header.
+//! Plays the lines of a schedule after its header.
 
 ghost use Rattle.std.specs.Prelude.{◌≡◌, ◌++◌, [], IfOk, OnOk};
 ghost use Rattle.tl_beat.specs.statement.Width.{IsWidth};
@@ -22,7 +22,7 @@ use tl_schedule::line::{Line, read_event};
 use tl_schedule::outcome::{append_answer, append_drained, append_outcome, append_trace};
 use tl_world::world::World;
 
-/// Appends what is written of an event, or shown of it by a trace.
+/// Appends the line of an event's outcome, or its part of the trace.
 fn append_event<const W: usize>(
     trace: bool,
     event: &Event<W>,
@@ -40,7 +40,7 @@ fn append_event<const W: usize>(
     }
 }
 
-/// An event happens, and what comes of it is appended.
+/// Plays an event, and appends its outcome.
 fn play_event<const W: usize>(
     trace: bool,
     world: &mut World<W, AnyClient<W>, BitDirectory>,
@@ -54,7 +54,7 @@ fn play_event<const W: usize>(
     append_event(trace, &event, &outcome, out)
 }
 
-/// A delivery happens, and what comes of it is appended.
+/// Plays a delivery, and appends its outcome.
 fn play_delivery<const W: usize>(
     trace: bool,
     world: &mut World<W, AnyClient<W>, BitDirectory>,
@@ -70,8 +70,7 @@ fn play_delivery<const W: usize>(
     append_event(trace, &Event::Deliver { link, channel }, outcome, out)
 }
 
-/// What is next is delivered until nothing is, and what comes of each delivery is appended: the number
-/// of deliveries.
+/// Plays the next delivery until there is none, and appends the outcome of each. Returns the number of deliveries.
 fn deliver_all<const W: usize>(
     trace: bool,
     world: &mut World<W, AnyClient<W>, BitDirectory>,
@@ -93,7 +92,7 @@ fn deliver_all<const W: usize>(
     Ok(load)
 }
 
-/// Plays what a line says.
+/// Plays the event or the `drain` of a line.
 fn play_said<const W: usize>(
     trace: bool,
     world: &mut World<W, AnyClient<W>, BitDirectory>,
@@ -116,7 +115,7 @@ fn play_said<const W: usize>(
     }
 }
 
-/// Plays a line of any form, read from left to right, or answers its fault.
+/// Plays a line of any form, read from left to right, or returns its fault.
 fn play_any<const W: usize>(
     trace: bool,
     world: &mut World<W, AnyClient<W>, BitDirectory>,
@@ -135,7 +134,7 @@ fn play_any<const W: usize>(
     }
 }
 
-/// Appends what is written of an answer to a Load of this size, or with size 0 to a Store. A trace shows nothing.
+/// Appends the outcome of a Load of this size, or with size 0 of a Store. A trace doesn't have it.
 #[inline(always)]
 fn append_asked(
     trace: bool,
@@ -152,7 +151,7 @@ fn append_asked(
     }
 }
 
-/// A client is asked for a Load, and what it answers is appended.
+/// Plays a Load, and appends its outcome.
 #[inline(always)]
 fn play_load<const W: usize>(
     trace: bool,
@@ -170,7 +169,7 @@ fn play_load<const W: usize>(
     append_asked(trace, size, answer, out)
 }
 
-/// A client is asked for a Store, and what it answers is appended.
+/// Plays a Store, and appends its outcome.
 #[inline(always)]
 fn play_store<const W: usize>(
     trace: bool,
@@ -189,7 +188,7 @@ fn play_store<const W: usize>(
     append_asked(trace, 0, answer, out)
 }
 
-/// Plays what a common line says.
+/// Plays a common line.
 #[inline(always)]
 fn play_common<const W: usize>(
     trace: bool,
@@ -218,7 +217,7 @@ fn play_common<const W: usize>(
     }
 }
 
-/// Plays a line behind the header, its line feed included, or answers its fault.
+/// Plays a line after the header, with its LF, or returns its fault.
 pub fn play<const W: usize>(
     trace: bool,
     world: &mut World<W, AnyClient<W>, BitDirectory>,

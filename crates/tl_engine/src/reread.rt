@@ -1,4 +1,4 @@
-//! Reads the lines of a trace again, up to the line at fault, and records what stands before it.
+//! Reads the lines of a trace again, up to the line at fault, and records the beats before it.
 
 ghost use Rattle.std.specs.Prelude.{◌≡◌, ◌≢◌, ℕ, List, [], IfErr, IfOk, IfSome, true, ⊤};
 ghost use Rattle.std.specs.Io.KnownBytes.{Consumes};
@@ -19,7 +19,7 @@ use std::io::Read;
 use tl_beat::read::read_line;
 use tl_params::width::Width;
 
-/// How many bytes of data a beat carries.
+/// The bytes of data that a beat carries.
 fn bytes(width: Width) -> usize
     ensures { result ≡ bytes_of width }
 {
@@ -31,7 +31,7 @@ fn bytes(width: Width) -> usize
 }
 
 impl<const W: usize> Replay<W> {
-    /// Takes the header. Answers whether it is one of this width, whose links may do this.
+    /// Takes the header. Returns true if it has this width and these liberties, and this level of the link at fault.
     fn take_header(&mut self, line: &[u8]) -> bool
         ensures { result ≡ true → TakesHeader self.old self.new line.now }
     {
@@ -41,11 +41,14 @@ impl<const W: usize> Replay<W> {
         if header.may != self.may || bytes(header.width) != W {
             return false;
         }
+        if header.level_of(self.recorder.subject.link) != self.level {
+            return false;
+        }
         self.count = 1;
         true
     }
 
-    /// Records a beat. Answers whether the line spells one that can be recorded.
+    /// Records a beat. Returns true if the line spells one that can be recorded.
     fn take_beat(&mut self, line: &[u8]) -> bool
         ensures { result ≡ true → TakesBeat self.old self.new line.now }
     {
@@ -62,7 +65,7 @@ impl<const W: usize> Replay<W> {
         true
     }
 
-    /// Takes the line at fault. Answers whether it is what it was.
+    /// Takes the line at fault. Returns true if it is the same as before.
     fn take_fault(&mut self, line: &[u8]) -> bool
         ensures { result ≡ true → TakesFault self.old self.new line.now }
     {
@@ -73,7 +76,7 @@ impl<const W: usize> Replay<W> {
         true
     }
 
-    /// Takes the next line. Answers whether it can be what it was.
+    /// Takes the next line. Returns true if it may be the same as before.
     fn take_line(&mut self, line: &[u8]) -> bool
         ensures { result ≡ true → ReadsLine self.old self.new line.now }
     {
@@ -120,7 +123,7 @@ impl<const W: usize> LineHandler for Replay<W> {
 }
 
 #[tactic(auto, using(crate::proofs::GivenUp::unwritten_by))]
-/// Reads a piece, up to the line at fault. Answers `Broken` where a line can't be what it was.
+/// Reads a piece, up to the line at fault. Returns `Broken` if a line can't be the same as before.
 fn read_piece<const W: usize>(
     lines: &mut Lines<Replay<W>>,
     piece: &[u8],
@@ -143,8 +146,7 @@ fn read_piece<const W: usize>(
     lines.keep(rest, out)
 }
 
-/// Reads a trace again, up to the line at fault. Nothing where that line isn't reached, or a line isn't
-/// what it was.
+/// Reads a trace again, up to the line at fault. None if that line isn't reached, or a line isn't the same as before.
 pub fn read_again<const W: usize, R: Read>(
     alloc: Global,
     reader: &mut R,

@@ -18,8 +18,8 @@ use tl_schedule::header::read_schedule;
 use tl_schedule::line::EventFault;
 use tl_world::world::World;
 
-/// Plays the lines of a schedule: the header, and then what happens to a world of the clients that it
-/// names. What comes of it is written, or the trace of it where `TRACES` is 1.
+/// Plays the lines of a schedule: the header, and then the events of a world of the clients that it names. Writes the
+/// outcomes, or the trace if `TRACES` is 1.
 #[derive(Drop)]
 pub enum RunLines<const TRACES: usize> {
     /// The header hasn't been read.
@@ -29,7 +29,7 @@ pub enum RunLines<const TRACES: usize> {
     Sixteen(World<16, AnyClient<16>, BitDirectory>),
 }
 
-/// A world of the clients that a header names. A line of another form names none.
+/// A world of the clients that a header names. None if the line is no header.
 fn open<const TRACES: usize>(
     alloc: Global,
     line: &[u8],
@@ -49,7 +49,7 @@ fn open<const TRACES: usize>(
     Ok(Some(run_lines))
 }
 
-/// Goes on with the world that the header names. A line of another form is at fault.
+/// Continues with the world that the header names. A line that is no header is at fault.
 #[cold]
 #[inline(never)]
 fn start<const TRACES: usize>(

@@ -1,18 +1,18 @@
-//! How a run of the command ends.
+//! The ends of a run of the command.
 
 ghost use Rattle.std.specs.Prelude.{◌≡◌};
 ghost use Rattle.tl_engine.specs.statement.Exit.{exit_status};
 
 use thiserror::Error;
 
-/// How a run that came to its end ended: without a fault, or at a line that was at fault.
+/// The end of a complete run: without a fault, or at a line at fault.
 #[derive(Clone, Copy, Debug, PartialEq, Eq)]
 pub enum Status {
     Clean,
     Broken,
 }
 
-/// Why a run was given up. Displays as the line for standard error.
+/// The fault that ended a run. It displays as the line for standard error.
 #[derive(Clone, Copy, Debug, PartialEq, Eq, Error)]
 pub enum ToolFault {
     #[error("tltool: no memory")]
@@ -23,7 +23,7 @@ pub enum ToolFault {
     Write,
 }
 
-/// The exit status of the program: 0 clean, 1 where a line was at fault, 3 for memory and devices.
+/// The exit status of the program: 0 for clean, 1 for a line at fault, 3 if memory, the reader or the writer failed.
 pub fn exit_of(outcome: &Result<Status, ToolFault>) -> u8
     ensures { result ≡ exit_status outcome.now }
 {

@@ -1,4 +1,4 @@
-//! Judges the lines of a trace again, all links together, and tells at the line at fault what a rule of memory rests on.
+//! Judges the lines of a trace again, all links together, and reports the grounds for a breach of a rule of memory.
 
 ghost use Rattle.std.specs.Prelude.{◌≡◌, ◌+◌, ◌++◌, Bool, List, IfOk, OnOk, Some, true};
 ghost use Rattle.tl_beat.specs.declared.beat.Beat.{Beat};
@@ -34,10 +34,10 @@ use tl_together::judge::Judge;
 use tl_witness::grounds::tell;
 use tl_witness::witness::Witness;
 
-/// How many blocks there are: an address has 32 bits.
+/// The number of blocks: an address has 32 bits.
 const BLOCKS: u32 = 1 << 26;
 
-/// Appends what a rule of memory says, and the beat that breaks it.
+/// Appends the text of a rule of memory, and the beat that breaks it.
 fn append_memory_front<const W: usize>(
     rule: MemoryRule,
     number: u64,
@@ -53,8 +53,8 @@ fn append_memory_front<const W: usize>(
     append_beat_line::<W>(number, line, out)
 }
 
-/// Appends what a rule of memory rests on at a response that breaks it, where it is recorded what each link holds.
-/// Answers whether it is. What the judge knows stays so.
+/// Appends the grounds for a breach of a rule of memory by a response, and returns true. Without a witness it returns
+/// false. The judge's knowledge stays the same.
 fn tell_recorded<const W: usize>(
     witness: &Option<Witness>,
     judge: &mut Judge<W>,
@@ -76,7 +76,7 @@ fn tell_recorded<const W: usize>(
     Ok(true)
 }
 
-/// The block of a request, where there is one.
+/// The block of a request, if there is one.
 pub(crate) fn block_asked(asked: Option<Request>) -> Option<u32>
     ensures { result ≡ elsewhere.block_asked asked }
 {
@@ -86,14 +86,14 @@ pub(crate) fn block_asked(asked: Option<Request>) -> Option<u32>
     }
 }
 
-/// Whether two rules of memory are one.
+/// Whether the rules of memory are the same.
 pub(crate) fn is_same_rule(one: MemoryRule, other: MemoryRule) -> bool
     ensures { result ≡ true → one ≡ other }
 {
     one == other
 }
 
-/// Whether a line is at fault for this rule.
+/// Whether the fault is a breach of this rule.
 fn is_breach(fault: Option<Fault>, rule: MemoryRule) -> bool
     ensures { result ≡ true → fault ≡ Some (Fault.MemoryRule rule) }
 {
@@ -103,28 +103,29 @@ fn is_breach(fault: Option<Fault>, rule: MemoryRule) -> bool
     }
 }
 
-/// What is asked of the lines up to the one at fault.
+/// An inquiry into the lines up to the one at fault.
 #[derive(Drop)]
 pub struct Inquiry {
     /// The rule of memory that the line at fault breaks.
     pub rule: MemoryRule,
     /// The block of the request that its response answers.
     pub block: u32,
-    /// How many lines come before it, the header among them.
+    /// The number of lines before it, with the header.
     pub good: u64,
     pub line: Spelling,
-    /// How many lines have been heard.
+    /// The number of lines that have been heard.
     pub count: u64,
-    /// What each link holds of the block; nothing before the header, or where a beat couldn't be recorded.
+    /// The permissions that each link holds of the block. None before the header, or after a beat that couldn't be
+    /// recorded.
     pub witness: Option<Witness>,
-    /// Whether the line at fault was reached, and breaks the rule.
+    /// The line at fault was reached, and breaks the rule.
     pub reached: bool,
-    /// What is said of it, and what its rule rests on.
+    /// The text of the rule, the response, and the grounds.
     pub reasons: Vec<u8>,
 }
 
 impl Inquiry {
-    /// Hears the header: begins to record what its links hold of the block, where there is such a block.
+    /// Hears the header, and begins to record the permissions of its links, if the block exists.
     fn hear_header(&mut self, alloc: Global, line: &[u8]) -> Result<(), AllocError>
         ensures { OnOk result (HearsHeader self.old self.new line.now) }
     {
@@ -139,7 +140,7 @@ impl Inquiry {
         Ok(())
     }
 
-    /// Takes the beat of a line of this number. Answers whether it could be recorded.
+    /// Takes the beat of a line of this number. Returns true if it could be recorded.
     fn take_beat<const W: usize>(&mut self, line: &[u8], number: u64) -> bool
         requires { IsWidth W }
         ensures same { IsSameInquiry self.old self.new }
@@ -155,8 +156,8 @@ impl Inquiry {
         }
     }
 
-    /// Records the beat of a line of this number. Where it can't be recorded, nothing is any more: then it isn't judged
-    /// to be without a fault.
+    /// Records the beat of a line of this number. If it can't be recorded, the witness is dropped, and later beats
+    /// aren't recorded.
     fn record<const W: usize>(&mut self, line: &[u8], number: u64)
         requires { IsWidth W }
         ensures same { IsSameInquiry self.old self.new }
@@ -178,8 +179,7 @@ impl Inquiry {
         }
     }
 
-    /// Tells of the response in the line at fault what the rule says and what it rests on. Answers whether that could
-    /// be told.
+    /// Appends the reasons for the response in the line at fault. Returns true if the grounds are complete.
     fn tell_response<const W: usize>(
         &mut self,
         judge: &mut Judge<W>,
@@ -204,8 +204,8 @@ impl Inquiry {
         tell_recorded(&self.witness, judge, self.rule, link, x, &mut self.reasons)
     }
 
-    /// Tells of the beat in the line at fault, where it is a response and all links are judged together. Answers whether
-    /// that could be told.
+    /// Appends the reasons for the beat in the line at fault, if it is a response and all links are judged together.
+    /// Returns true if the grounds are complete.
     fn tell_beat<const W: usize>(
         &mut self,
         judge: &mut TraceJudge<W>,
@@ -230,7 +230,7 @@ impl Inquiry {
         }
     }
 
-    /// Hears a line of this number, where it is the one at fault. Answers whether it is, and was told of.
+    /// Hears a line of this number if it is the one at fault. Returns true if it is, and its reasons were appended.
     fn hear_fault<const W: usize>(
         &mut self,
         judge: &mut TraceJudge<W>,
@@ -253,8 +253,8 @@ impl Inquiry {
         }
     }
 
-    /// Hears a line of this number behind the header, before it is judged. Answers whether it is the line at fault, and
-    /// was told of.
+    /// Hears a line of this number after the header, before it is judged. Returns true if it is the line at fault and
+    /// its reasons were appended.
     fn hear_beat<const W: usize>(
         &mut self,
         judge: &mut TraceJudge<W>,
@@ -271,8 +271,8 @@ impl Inquiry {
         Ok(told)
     }
 
-    /// Hears a line of this number, before it is judged. Answers whether it is the line at fault, and was told of. What
-    /// the judge knows stays so.
+    /// Hears a line of this number, before it is judged. Returns true if it is the line at fault and its reasons were
+    /// appended. The judge's knowledge stays the same.
     fn hear(&mut self, judge: &mut LinkJudge, line: &[u8], number: u64) -> Result<bool, AllocError>
         requires { number ≡ self.old.count + 1 }
         ensures { IfOk result (Hears judge.old judge.new self.old self.new number line.now) }
@@ -288,8 +288,8 @@ impl Inquiry {
         }
     }
 
-    /// Counts a line of this number, which is at fault for this or isn't; the line at fault is reached where it was told
-    /// of and breaks the rule.
+    /// Counts a line of this number with its fault, if any. The line at fault is reached if its reasons were appended
+    /// and it breaks the rule.
     fn conclude(&mut self, number: u64, told: bool, fault: Option<Fault>)
         ensures { Concludes self.old self.new number told fault }
     {
@@ -298,7 +298,7 @@ impl Inquiry {
     }
 }
 
-/// Judges the lines of a trace again, all links together, and inquires of them.
+/// Judges the lines of a trace again, all links together, with an inquiry.
 #[derive(Drop)]
 pub struct Testimony {
     pub link_lines: LinkLines,

@@ -14,19 +14,19 @@ use std::alloc::Global;
 use std::io::{Read, Write};
 use tl_command::command::{Command, Width};
 
-/// Runs a command: reads the input to its end or to the first line at fault, and writes the command's
-/// text of it; of `explain` the first line, since its reasons take a second reading. `decode` takes memory that doesn't
-/// grow with the input; `monitor` keeps what is unfinished,
-/// pending and held on each link besides, `coherent` also when each block that it has seen was last free and what its
-/// bytes may be, and `run` the world that the schedule's header names.
+/// Runs a command: reads the input to its end or to the first line at fault, and writes the command's text of it. For
+/// `explain` that is only the verdict, since its reasons need a second reading. The memory of `decode` doesn't grow
+/// with the input. `monitor` keeps the unfinished bursts, the pending messages and the held blocks of each link.
+/// `coherent` also keeps, for each block that it has seen, when it was last free and the possible values of its bytes.
+/// `run` keeps the world that the schedule's header names.
 ///
-/// `Broken` says that a `line N X` was written, and that it stands whatever follows the input, unless
-/// line N is what stands behind the last LF at the end of the input: fewer than 256 bytes, or nothing.
-/// `Clean` comes at the end of the input alone. At a fault of memory or of a device a beginning of the
-/// text of what was read has been written. Any error of the reader is a `Read` fault: all that was read
-/// is judged and written then; so is a line after line 2^64 - 1. A writer that fails or takes none of the
-/// bytes is a `Write` fault: some of them are left. `Memory` comes where what was read last, or the end,
-/// couldn't be judged, and nothing is left to be written of what came before.
+/// `Broken` means that a `line N X` was written. It holds for every continuation of the input, unless line N is the
+/// rest after the last LF at the end of the input: fewer than 256 bytes, or nothing. `Clean` comes only at the end of
+/// the input. After a fault of memory or of a device, a front of the text of the input that was read has been written.
+/// Any error of the reader is a `Read` fault, as is a line after line 2^64 - 1: all that was read has been judged and
+/// written. A writer that fails or takes none of the bytes is a `Write` fault: some of them are left. `Memory` means
+/// that the last piece that was read, or the end, couldn't be judged. The text of everything before it has been
+/// written.
 pub fn run_tool<R: Read, W: Write>(
     alloc: Global,
     command: Command,

@@ -68,7 +68,7 @@ pub fn level_word(level: Level) -> &'static str
     }
 }
 
-/// Appends the levels of clients, each behind a space.
+/// Appends the levels of clients, each after a space.
 fn append_levels(clients: &[ClientConfig], out: &mut Vec<u8>) -> Result<(), AllocError>
     ensures { OnOk result (out.new.items ≡ out.old.items ++ levels_text (map (λ client. client.level) clients.now)) }
 {
@@ -95,7 +95,7 @@ fn append_trace_header(
     Ok(())
 }
 
-/// Appends the header of the trace, where one is to be written.
+/// Appends the header of the trace, if one is to be written.
 pub fn append_header(
     trace: bool,
     version: Version,
@@ -111,7 +111,7 @@ pub fn append_header(
     }
 }
 
-/// A world of the clients of a configuration, to which nothing has happened.
+/// A new world of the clients of a configuration, with no events yet.
 pub fn world_of<const W: usize>(
     alloc: Global,
     config: Config,

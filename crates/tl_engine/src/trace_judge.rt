@@ -27,8 +27,9 @@ pub enum TraceJudge<const W: usize> {
     OfAll(Judge<W>),
 }
 
-/// Reads the header of a trace whose links are judged, each by itself or all together, and may do this besides. Those that
-/// are judged together may not have `early`.
+/// Reads the header of a trace that is judged link by link, or with all links together. The links have the liberties
+/// that it names and those that are allowed. None if the line is no header, or if all links are judged together and
+/// `early` is among the liberties.
 pub fn read_for(together: bool, allow: Liberties, line: &[u8]) -> Option<LinksHeader>
     ensures reads { ReadsHeader together allow line.now result }
     ensures late { IfSome result (λ header. together ≡ true → header.may.early ≡ false) }
@@ -43,8 +44,7 @@ pub fn read_for(together: bool, allow: Liberties, line: &[u8]) -> Option<LinksHe
     Some(LinksHeader { may, ..header })
 }
 
-/// Whether a first line is a header whose links may answer early, and so one that is at fault where all links are judged
-/// together.
+/// Whether a first line is a header whose links may answer early. All links together can't be judged with it.
 pub fn names_early(allow: Liberties, line: &[u8]) -> bool
     ensures early { result ≡ true → NamesEarly allow line.now }
     ensures late { result ≡ false → ¬ NamesEarly allow line.now }
@@ -56,7 +56,7 @@ pub fn names_early(allow: Liberties, line: &[u8]) -> bool
 }
 
 impl<const W: usize> TraceJudge<W> {
-    /// A judge of the links that a header names, 1 to 16, which has seen no beat.
+    /// A judge of the links that a header names, 1 to 16, which has judged no beat.
     pub fn new(alloc: Global, together: bool, header: &LinksHeader) -> Result<Self, AllocError>
         requires width { IsWidth W }
         requires late { together ≡ true → header.now.may.early ≡ false }
@@ -74,7 +74,7 @@ impl<const W: usize> TraceJudge<W> {
         }
     }
 
-    /// Judges the next beat, and takes it where it isn't at fault.
+    /// Judges the next beat, and takes it if it isn't at fault.
     #[inline(always)]
     pub fn push(&mut self, link: Link, beat: &Beat<W>) -> Result<Option<Fault>, AllocError>
         requires { IsWidth W }
@@ -96,7 +96,7 @@ impl<const W: usize> TraceJudge<W> {
         }
     }
 
-    /// Whether a beat begins a message on its link; on a link without a level none does.
+    /// Whether a beat begins a message on its link. None does on a link without a level.
     #[inline(always)]
     pub fn begins(&self, link: Link, beat: &Beat<W>) -> bool
         ensures { (together : Bool) (levels : List Level) (may : Liberties) (t : Trace W) →
@@ -108,7 +108,7 @@ impl<const W: usize> TraceJudge<W> {
         }
     }
 
-    /// The request with this source that is pending and complete on a link; none on a link without a level.
+    /// The complete pending request with this source on a link; none on a link without a level.
     pub fn request(&self, link: Link, source: u8) -> Option<Request>
         ensures { (together : Bool) (levels : List Level) (may : Liberties) (t : Trace W) →
             KnowsBeats together self.now levels may t → result ≡ request_on levels link source t }

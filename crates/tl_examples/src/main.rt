@@ -1,9 +1,9 @@
-//! Judges each trace of data/, some of them all links together, plays each schedule, and explains the traces
-//! and the rules; writes what comes of it.
+//! Judges each trace of data/, some of them with all links together, plays each schedule, and explains the traces and
+//! the rules. Writes the results.
 #![tactic(auto)]
 
 ghost use Rattle.std.specs.Prelude.{IfOk};
-ghost use Rattle.tl_examples.specs.Told.{Tells};
+ghost use Rattle.tl_examples.specs.Told.{Tells, TellsTrace};
 
 use std::alloc::Global;
 use std::io::{Read, Write};
@@ -17,6 +17,7 @@ use tl_engine::output::write_all;
 use tl_engine::status::{Status, ToolFault};
 use tl_engine::tool::run_tool;
 use tl_params::liberties::Liberties;
+use tl_wide_lines::run::run_trace;
 
 /// The traces, by their names in data/.
 const TRACES: [&str; 45] = [
@@ -162,11 +163,11 @@ const FAULTS: [&str; 28] = [
     "faults/H1_long_line_behind.trace",
 ];
 
-/// The traces at whose end something is pending.
+/// The traces with messages that are pending at the end.
 const PENDING: [&str; 2] = ["pending/each_kind.trace", "pending/more_than_twenty.trace"];
 
-/// The traces of links with liberties: for each liberty and rule that it touches one that it allows, and the nearest
-/// that stays at fault.
+/// The traces of links with liberties. For each liberty, and each rule that it changes, one is allowed, and the nearest
+/// one stays at fault.
 const LIBERTIES: [&str; 24] = [
     "rules/L2_ids_right.trace",
     "rules/H10_ids.trace",
@@ -194,15 +195,28 @@ const LIBERTIES: [&str; 24] = [
     "rules/L6_uncorrupt.trace",
 ];
 
-/// The names of the rules and faults that are explained.
-const NAMES: [&str; 33] = [
-    "L1", "L2", "L3", "L4", "L5", "L6", "L7", "S1", "H1", "H2", "H3", "H4", "H5", "H6", "H7", "H8",
-    "H9", "H10", "H11", "H12", "H13", "M1", "M2", "M3", "M4", "F1", "F2", "F3", "F4", "F5", "F6",
-    "F7", "F8",
+/// The traces of wide beats, and after each the trace that it becomes, narrowed by hand.
+const WIDE: [&str; 9] = [
+    "wide/two_caches.trace",
+    "wide/narrowed/two_caches.trace",
+    "wide/wrong_report.trace",
+    "wide/narrowed/wrong_report.trace",
+    "wide/second_part.trace",
+    "wide/narrowed/second_part.trace",
+    "wide/lane_of_no_part.trace",
+    "wide/narrowed/lane_of_no_part.trace",
+    "wide/narrow_line.trace",
 ];
 
-/// Writes the name of a file, a separator, and what the command tells of the file. Its faults are those
-/// of `run_tool`.
+/// The names of the rules and faults that are explained.
+const NAMES: [&str; 34] = [
+    "L1", "L2", "L3", "L4", "L5", "L6", "L7", "S1", "H1", "H2", "H3", "H4", "H5", "H6", "H7", "H8",
+    "H9", "H10", "H11", "H12", "H13", "M1", "M2", "M3", "M4", "F1", "F2", "F3", "F4", "F5", "F6",
+    "F7", "F8", "F9",
+];
+
+/// Writes the name of a file, a separator, and the text of the command for the file. The errors are those of
+/// `run_tool`.
 fn tell<R: Read, W: Write>(
     alloc: Global,
     command: Command,
@@ -219,7 +233,7 @@ fn tell<R: Read, W: Write>(
     run_tool(alloc, command, input, output)
 }
 
-/// Tells of each of the files with these names. Answers whether all could be read and told of.
+/// Writes that for each of the files with these names. Returns whether all could be read and written.
 fn tell_all(rt: &HostRuntime, command: Command, names: &[&str], separator: &[u8]) -> bool {
     for name in names {
         let Ok(mut file) = fs::open(rt, *name) else {
@@ -241,7 +255,46 @@ fn tell_all(rt: &HostRuntime, command: Command, names: &[&str], separator: &[u8]
     true
 }
 
-/// Writes the name of a trace, a separator, and explains what it is judged.
+/// Writes the name of a trace of any version, a separator, and its verdict. Its faults are those of `run_trace`.
+fn judge<R: Read, W: Write>(
+    alloc: Global,
+    together: bool,
+    name: &str,
+    separator: &[u8],
+    input: &mut R,
+    output: &mut W,
+) -> Result<Status, ToolFault>
+    ensures { IfOk result (TellsTrace together name.now separator.now (R.remaining input.old) (R.remaining input.new)
+        (W.contents output.old) (W.contents output.new)) }
+{
+    write_all(output, name.as_bytes())?;
+    write_all(output, separator)?;
+    run_trace(alloc, together, Liberties::none(), input, output)
+}
+
+/// Judges each of the traces with these names. Answers whether all could be read and judged.
+fn judge_all(rt: &HostRuntime, together: bool, names: &[&str], separator: &[u8]) -> bool {
+    for name in names {
+        let Ok(mut file) = fs::open(rt, *name) else {
+            return false;
+        };
+        if judge(
+            rt.alloc(),
+            together,
+            name,
+            separator,
+            &mut file,
+            &mut io::writer(rt),
+        )
+        .is_err()
+        {
+            return false;
+        }
+    }
+    true
+}
+
+/// Writes the name of a trace, a separator, and the explanation of its verdict.
 fn explain<R: Read, S: Read, W: Write>(
     alloc: Global,
     coherent: bool,
@@ -256,7 +309,7 @@ fn explain<R: Read, S: Read, W: Write>(
     explain_input(alloc, coherent, Liberties::none(), first, second, output)
 }
 
-/// Explains each of the traces with these names. Answers whether all could be read and explained.
+/// Explains each of the traces with these names. Returns whether all could be read and explained.
 fn explain_all(rt: &HostRuntime, coherent: bool, names: &[&str]) -> bool {
     for name in names {
         let Ok(mut first) = fs::open(rt, *name) else {
@@ -281,7 +334,7 @@ fn explain_all(rt: &HostRuntime, coherent: bool, names: &[&str]) -> bool {
     true
 }
 
-/// Writes what is said of each of these rules and faults. Answers whether it could.
+/// Writes the explanation of each of these rules and faults. Returns whether it could.
 fn tell_names(rt: &HostRuntime, names: &[&str]) -> bool {
     for name in names {
         let mut text = Vec::new(rt.alloc());
@@ -300,6 +353,8 @@ fn main(rt: HostRuntime) -> ExitCode {
     let trace = Command::Run { trace: true };
     if tell_all(&rt, Command::Monitor, &TRACES, b": ")
         && tell_all(&rt, Command::Coherent, &TOGETHER, b" coherent: ")
+        && judge_all(&rt, false, &WIDE, b": ")
+        && judge_all(&rt, true, &WIDE, b" coherent: ")
         && tell_all(&rt, run, &SCHEDULES, b":\n")
         && tell_all(&rt, trace, &TRACED, b" --trace:\n")
         && explain_all(&rt, false, &TRACES)

@@ -1,4 +1,4 @@
-//! Chooses what a client is asked for, by what it holds.
+//! Chooses the operation of a client, by the permission that it holds.
 
 ghost use Rattle.std.specs.Prelude.{◌≡◌, ◌≤◌, ◌<◌};
 ghost use Rattle.tl_beat.specs.statement.Width.{IsWidth};
@@ -19,7 +19,7 @@ use tl_params::param::{Arithmetic, Grow, Intent, Logical, Prune};
 use tl_params::perm::Perm;
 use tl_schedule::access::{beats, lanes};
 
-/// An address in a block that is a multiple of `2^size`.
+/// An address in a block, a multiple of `2^size`.
 #[tactic(auto, unfolding(crate::specs::statement::Choose::address_in))]
 fn address(rng: &mut Xoshiro256PlusPlus, block: u16, size: u8) -> u32
     requires { size ≤ 6 }
@@ -48,7 +48,7 @@ fn atomic_size(rng: &mut Xoshiro256PlusPlus) -> u8
     if is_one_in(rng, 2) { 2 } else { 3 }
 }
 
-/// The size of an access that a level has: at most a beat at TL-UL, and a block above it.
+/// The size of an access at a level: at most a beat at TL-UL, at most a block above it.
 #[tactic(auto, unfolding(crate::specs::statement::Choose::access_size))]
 fn access_size<const W: usize>(rng: &mut Xoshiro256PlusPlus, level: Level) -> u8
     requires { IsWidth W }
@@ -110,7 +110,7 @@ fn intent(rng: &mut Xoshiro256PlusPlus) -> Intent
     }
 }
 
-/// Some of the lanes of an access.
+/// Any of the lanes of an access.
 #[tactic(auto, unfolding(crate::specs::statement::Choose::mask_of))]
 fn mask<const W: usize>(rng: &mut Xoshiro256PlusPlus, size: u8, address: u32) -> u64
     requires width { IsWidth W }
@@ -189,7 +189,7 @@ fn hint<const W: usize>(rng: &mut Xoshiro256PlusPlus, level: Level, block: u16) 
     }
 }
 
-/// An access that a level has.
+/// An access that the level has.
 #[tactic(auto, unfolding(crate::specs::statement::Choose::access, crate::specs::statement::Draw::by_chance))]
 fn access<const W: usize>(rng: &mut Xoshiro256PlusPlus, level: Level, block: u16) -> Request
     requires { IsWidth W }
@@ -206,7 +206,7 @@ fn access<const W: usize>(rng: &mut Xoshiro256PlusPlus, level: Level, block: u16
     }
 }
 
-/// What grows from what is held; from Trunk nothing does.
+/// BtoT from Branch, otherwise NtoB or NtoT, which don't fit Trunk.
 #[tactic(auto, unfolding(crate::specs::statement::Choose::grow_from))]
 fn grow(rng: &mut Xoshiro256PlusPlus, held: Perm) -> Grow
     ensures { Draws (grow_from held) rng.old rng.new result }
@@ -223,7 +223,7 @@ fn grow(rng: &mut Xoshiro256PlusPlus, held: Perm) -> Grow
     }
 }
 
-/// What gives up some of what is held; of nothing nothing can be.
+/// TtoB or TtoN from Trunk, otherwise BtoN, which doesn't fit None.
 #[tactic(auto, unfolding(crate::specs::statement::Choose::prune_from))]
 fn prune(rng: &mut Xoshiro256PlusPlus, held: Perm) -> Prune
     ensures { Draws (prune_from held) rng.old rng.new result }
@@ -265,7 +265,7 @@ fn store(rng: &mut Xoshiro256PlusPlus, block: u16) -> Request
     }
 }
 
-/// What a client of TL-C is asked for, by what it holds of the block.
+/// An operation of a client of TL-C that holds this permission of the block.
 #[tactic(auto, unfolding(crate::specs::statement::Choose::of_copies, crate::specs::statement::Draw::by_chance))]
 fn of_copies<const W: usize>(rng: &mut Xoshiro256PlusPlus, block: u16, held: Perm) -> Request
     requires { IsWidth W }
@@ -291,7 +291,7 @@ fn of_copies<const W: usize>(rng: &mut Xoshiro256PlusPlus, block: u16, held: Per
     }
 }
 
-/// What a client of this level is asked for, by what it holds of the block.
+/// An operation of a client of this level that holds this permission of the block.
 #[tactic(auto, unfolding(crate::specs::statement::Choose::request))]
 pub(crate) fn request<const W: usize>(
     rng: &mut Xoshiro256PlusPlus,
@@ -309,7 +309,7 @@ pub(crate) fn request<const W: usize>(
     }
 }
 
-/// A channel that a level has.
+/// A channel of the level.
 #[tactic(auto, unfolding(crate::specs::statement::Choose::channel_of, crate::specs::statement::Draw::by_chance))]
 pub(crate) fn channel(rng: &mut Xoshiro256PlusPlus, level: Level) -> Channel
     ensures { Draws (channel_of level) rng.old rng.new result }

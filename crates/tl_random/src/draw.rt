@@ -16,7 +16,7 @@ pub(crate) fn below(rng: &mut Xoshiro256PlusPlus, limit: u64) -> u64
     rng.next_u64() % limit
 }
 
-/// Whether the one draw of so many came.
+/// True with a chance of one in `count`.
 #[tactic(auto, unfolding(crate::specs::statement::Draw::is_one_in))]
 pub(crate) fn is_one_in(rng: &mut Xoshiro256PlusPlus, count: u64) -> bool
     requires { 0 < count }
@@ -25,7 +25,7 @@ pub(crate) fn is_one_in(rng: &mut Xoshiro256PlusPlus, count: u64) -> bool
     below(rng, count) == 0
 }
 
-/// As many bytes as a block has.
+/// The bytes of a block.
 pub(crate) fn block_of_bytes(rng: &mut Xoshiro256PlusPlus) -> [u8; 64]
     ensures { Draws block_of_bytes rng.old rng.new result }
 {

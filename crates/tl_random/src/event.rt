@@ -1,4 +1,4 @@
-//! Whether a line says an event of a world.
+//! Whether a line spells an event of a world.
 
 ghost use Rattle.std.specs.Prelude.{◌≡◌, ◌&&◌, ◌||◌, IfSome, IsTrue, nat_le, not, slice_get};
 ghost use Rattle.tl_beat.specs.statement.Width.{IsWidth};
@@ -14,7 +14,7 @@ use tl_params::config::{ClientConfig, Config};
 use tl_params::level::Level;
 use tl_schedule::line::{Line, read_event};
 
-/// Whether a level has an operation on a map of this many blocks, of the form of its kind.
+/// Whether a level has an operation, and it is well formed and inside a map of this many blocks.
 fn level_has<const W: usize>(level: Level, blocks: u16, operation: &Op<W>) -> bool
     requires { IsWidth W }
     ensures { result ≡ (not (breaks_b4 level operation.now)
@@ -23,7 +23,7 @@ fn level_has<const W: usize>(level: Level, blocks: u16, operation: &Op<W>) -> bo
     check(level, blocks, operation).is_none()
 }
 
-/// What a client of a configuration is made from, if there is one of this number.
+/// The client of this number in a configuration, if there is one.
 fn client_of(config: &Config, client: u8) -> Option<ClientConfig>
     ensures { result ≡ slice_get config.now.clients.items client }
 {
@@ -42,7 +42,7 @@ fn client_has<const W: usize>(config: &Config, client: u8, operation: &Op<W>) ->
     }
 }
 
-/// Whether an event is one of the world that a configuration names.
+/// Whether an event is one of a world with this configuration.
 fn is_event_of<const W: usize>(config: &Config, event: &Event<W>) -> bool
     requires { IsWidth W }
     ensures { result ≡ is_event_of config.now event.now }
@@ -53,7 +53,7 @@ fn is_event_of<const W: usize>(config: &Config, event: &Event<W>) -> bool
     }
 }
 
-/// The event that a line says, if it says one of the world that a configuration names.
+/// The event that a line spells, if it is one of a world with this configuration.
 pub(crate) fn event_in<const W: usize>(config: &Config, line: &[u8]) -> Option<Event<W>>
     requires { IsWidth W }
     ensures spelled { IfSome result (λ event. SpellsEvent line.now event) }

@@ -1,4 +1,4 @@
-//! Draws the lines of a schedule, each by what came of those before it.
+//! Draws the lines of a schedule, each by the outcomes of those before it.
 
 ghost use Rattle.std.specs.Prelude.{◌≡◌, ◌<◌, ◌++◌, IfOk, OnOk, length};
 ghost use Rattle.tl_beat.specs.statement.Width.{IsWidth};
@@ -29,14 +29,14 @@ use tl_params::level::Level;
 use tl_params::perm::Perm;
 use tl_world::world::World;
 
-/// A line in so many drains the world.
+/// A line drains the world with a chance of one in this many, and after too many tries.
 const DRAIN: u64 = 64;
-/// An event that comes to nothing is taken once in so many times.
+/// An event without effect is kept with a chance of one in this many.
 const IDLE: u64 = 72;
-/// How many events are tried for a line before the world is drained.
+/// The number of events that are tried for a line before the world is drained.
 const TRIES: u8 = 64;
 
-/// Whether nothing came of an event: it was busy, missing, stalled or empty.
+/// Whether an event had no effect: busy, miss, stalled, empty, or no such client.
 fn is_idle<const W: usize>(outcome: &Outcome<W>) -> bool
     ensures { result ≡ is_idle outcome.now }
 {
@@ -47,7 +47,7 @@ fn is_idle<const W: usize>(outcome: &Outcome<W>) -> bool
     }
 }
 
-/// Whether an event is taken: where something came of it, and now and then where nothing did.
+/// Whether an event is kept: always if it had an effect, otherwise now and then.
 #[tactic(auto, unfolding(crate::specs::statement::Drawn::takes))]
 fn takes<const W: usize>(rng: &mut Xoshiro256PlusPlus, outcome: &Outcome<W>) -> bool
     ensures { Draws (takes outcome.now) rng.old rng.new result }
@@ -55,7 +55,7 @@ fn takes<const W: usize>(rng: &mut Xoshiro256PlusPlus, outcome: &Outcome<W>) -> 
     !is_idle(outcome) || is_one_in(rng, IDLE)
 }
 
-/// A generator, and the world in which what it drew was played.
+/// A generator, and the world in which its lines are played.
 #[derive(Drop)]
 pub(crate) struct Generator<const W: usize> {
     rng: Xoshiro256PlusPlus,
@@ -63,7 +63,7 @@ pub(crate) struct Generator<const W: usize> {
     line: Vec<u8>,
 }
 
-/// One of the first blocks, so many of them.
+/// One of the first `count` blocks; 0 if `count` is 0.
 #[tactic(auto, unfolding(crate::specs::statement::Drawn::block_below))]
 fn block_below(rng: &mut Xoshiro256PlusPlus, count: u16) -> u16
     ensures { Draws (block_below count) rng.old rng.new result }
@@ -74,7 +74,7 @@ fn block_below(rng: &mut Xoshiro256PlusPlus, count: u16) -> u16
     below(rng, u64::from(count)) as u16
 }
 
-/// A block: seven times in eight one of those of which most operations speak.
+/// A block: seven times in eight one of the contended blocks, otherwise any.
 #[tactic(auto, unfolding(crate::specs::statement::Drawn::block_of))]
 fn block(rng: &mut Xoshiro256PlusPlus, options: &Options) -> u16
     ensures { Draws (block_of options.now) rng.old rng.new result }
@@ -95,7 +95,7 @@ fn client(rng: &mut Xoshiro256PlusPlus, options: &Options) -> u8
     below(rng, options.config.clients.len() as u64) as u8
 }
 
-/// Appends the line that asks a client for something in a block, by what it holds of it.
+/// Appends the line by which a client, which holds this permission of the block, is asked for an operation.
 #[tactic(auto, unfolding(crate::specs::statement::Drawn::asking_line))]
 fn append_asking<const W: usize>(
     rng: &mut Xoshiro256PlusPlus,
@@ -130,7 +130,7 @@ fn append_delivering<const W: usize>(
     append_delivery::<W>(line, client, channel)
 }
 
-/// The world that the options name, to which nothing has happened.
+/// A new world with the options' configuration.
 fn fresh_world<const W: usize>(
     alloc: Global,
     options: &Options,
@@ -148,7 +148,7 @@ fn fresh_world<const W: usize>(
 }
 
 impl<const W: usize> Generator<W> {
-    /// A generator of the options' seed, and the world that they name.
+    /// A generator of the options' seed, and a new world with their configuration.
     pub(crate) fn new(alloc: Global, options: &Options) -> Result<Self, AllocError>
         requires { IsWidth W }
         ensures words { IfOk result (λ generator. words_from generator.rng ≡ words_of options.now.seed) }
@@ -161,7 +161,7 @@ impl<const W: usize> Generator<W> {
         })
     }
 
-    /// Draws a line into `line`: two times in five what a client is asked for, else a delivery.
+    /// Draws a line into `line`: two times in five an operation of a client, otherwise a delivery.
     #[tactic(auto, unfolding(crate::specs::statement::Drawn::line_drawn))]
     fn draw_line(&mut self, options: &Options) -> Result<(), AllocError>
         requires { IsWidth W }
@@ -192,8 +192,8 @@ impl<const W: usize> Generator<W> {
         out.extend_from_slice(b"drain\n")
     }
 
-    /// Appends the next line: of an event of the world that the options name, or that drains it. The world has then
-    /// gone on by the events that were tried in vain and by that line.
+    /// Appends the next line: an event of the world, or `drain`. The world then has the events that were tried without
+    /// effect, and that line.
     pub(crate) fn append_line(
         &mut self,
         options: &Options,

@@ -19,7 +19,7 @@ fn append_behind(byte: u8, number: u64, out: &mut Vec<u8>) -> Result<(), AllocEr
     out.extend_from_slice(digits.format(number).as_bytes())
 }
 
-/// Appends the clients, each behind a space.
+/// Appends the clients, each after a space.
 fn append_clients(clients: &[ClientConfig], out: &mut Vec<u8>) -> Result<(), AllocError>
     ensures { OnOk result (out.new.items ≡ out.old.items ++ clients_text clients.now) }
 {
@@ -31,7 +31,7 @@ fn append_clients(clients: &[ClientConfig], out: &mut Vec<u8>) -> Result<(), All
     Ok(())
 }
 
-/// Appends the header of a schedule, its LF included.
+/// Appends the header of a schedule, with its LF.
 pub(crate) fn append_schedule_header(
     version: Version,
     config: &Config,

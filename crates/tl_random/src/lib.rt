@@ -1,5 +1,5 @@
-//! Schedules at random: events of a world of clients, drawn from a seed and played along, so that
-//! most of them do something.
+//! Random schedules: events of a world of clients, drawn from a seed and played as they are drawn, so that most of them
+//! have an effect.
 #![tactic(auto)]
 
 mod choose;

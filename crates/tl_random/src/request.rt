@@ -1,8 +1,8 @@
-//! What a line of a random schedule asks of a client.
+//! The requests to a client in the lines of a random schedule.
 
 use tl_params::param::{Arithmetic, Grow, Intent, Logical, Prune};
 
-/// What an access asks for besides its size and address.
+/// The kind of an access, with its data.
 #[derive(Clone, Copy)]
 pub(crate) enum Asked {
     Get,
@@ -26,7 +26,7 @@ pub(crate) enum Asked {
     },
 }
 
-/// What a client is asked for. Of the bytes of an access the first `2^size` count.
+/// A request to a client. Of the bytes of an access the first `2^size` count.
 #[derive(Clone, Copy)]
 pub(crate) enum Request {
     Load {

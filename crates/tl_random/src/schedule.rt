@@ -16,10 +16,10 @@ use tl_engine::output::write_all;
 use tl_engine::status::ToolFault;
 use tl_params::width::Width;
 
-/// How many bytes of lines are gathered before they are written.
+/// The number of bytes of lines that are gathered before they are written.
 const CHUNK: usize = 65536;
 
-/// Appends the next line to those that are gathered, and writes them where they are many.
+/// Appends the next line to those that are gathered, and writes them if they are many.
 fn put_line<const BYTES: usize, W: Write>(
     generator: &mut Generator<BYTES>,
     options: &Options,
@@ -43,7 +43,7 @@ fn put_line<const BYTES: usize, W: Write>(
     Ok(())
 }
 
-/// Writes a schedule of events of this width.
+/// Writes a schedule for beats of this width.
 fn write_lines<const BYTES: usize, W: Write>(
     alloc: Global,
     options: &Options,
@@ -65,11 +65,10 @@ fn write_lines<const BYTES: usize, W: Write>(
     write_all(writer, &out)
 }
 
-/// Writes a schedule at random: its header, the options' number of lines, each of which says an event
-/// of the world that the header names or drains it, and a last `drain`. No clause says which of such
-/// schedules it is: what a line that is tried is drawn from, `line_drawn` defines. The memory that is
-/// taken doesn't grow with the number of lines. At a fault of memory or of the writer a beginning of
-/// such a schedule has been written.
+/// Writes a random schedule: its header, the options' number of lines, each an event of the header's world or `drain`,
+/// and a last `drain`. No clause says which schedule it is; `line_drawn` defines how a line is drawn. The memory used
+/// doesn't grow with the number of lines. The error is `Memory` or that of the writer; then a first part of such a
+/// schedule has been written.
 pub fn write_schedule<W: Write>(
     alloc: Global,
     options: &Options,

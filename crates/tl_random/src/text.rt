@@ -95,7 +95,7 @@ fn append_block(out: &mut Vec<u8>, word: &str, block: u16) -> Result<(), AllocEr
     append_number(out, u64::from(block), 3)
 }
 
-/// How many digits a mask has.
+/// The number of digits of a mask.
 fn mask_count<const W: usize>(size: u8) -> u8
     requires width { IsWidth W }
     requires small { size ≤ 6 }
@@ -105,7 +105,7 @@ fn mask_count<const W: usize>(size: u8) -> u8
     (W / 4) as u8 * beats::<W>(size)
 }
 
-/// How many digits the value of a Store has.
+/// The number of digits for the value of a Store.
 fn value_count(size: u8) -> u8
     requires { size ≤ 3 }
     ensures value { result ≡ 2 * 2 ^ size }
@@ -114,7 +114,7 @@ fn value_count(size: u8) -> u8
     2 << size
 }
 
-/// The word of an access.
+/// The word for an access.
 fn asked_word(asked: &Asked) -> &'static str
     ensures { result.now ≡ asked_name (said_of_access 0 asked.now) }
 {
@@ -128,7 +128,7 @@ fn asked_word(asked: &Asked) -> &'static str
     }
 }
 
-/// Appends what an access asks for behind its address.
+/// Appends the fields after an access's address.
 #[tactic(auto, unfolding(crate::specs::code::Written::behind_spaces))]
 fn append_asked<const W: usize>(
     out: &mut Vec<u8>,
@@ -159,7 +159,7 @@ fn append_asked<const W: usize>(
     }
 }
 
-/// Appends what a client is asked for.
+/// Appends the fields of a request.
 #[tactic(auto, unfolding(crate::specs::code::Written::behind_spaces))]
 fn append_fields<const W: usize>(out: &mut Vec<u8>, request: &Request) -> Result<(), AllocError>
     requires width { IsWidth W }

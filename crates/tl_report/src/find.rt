@@ -17,8 +17,8 @@ use tl_engine::lines::Lines;
 use tl_engine::output::write_all;
 use tl_engine::status::{Status, ToolFault};
 
-/// What is found in what a reader gives, up to its end or to the last line that is looked for. A line of more than 256
-/// bytes is the last that is read.
+/// Searches the input of a reader, to its end or to the last line at fault that is looked for. A line of more than 256
+/// bytes is the last that is read. The error is `Read` or `Memory`.
 pub fn search<R: Read>(alloc: Global, aim: Aim, reader: &mut R) -> Result<Findings, ToolFault>
     ensures ok { IfOk result (λ f. Searches aim (R.remaining reader.old) (R.remaining reader.new) f.faults.items f.beats f.cells.items) }
     ensures fault { IfErr result (λ fault. fault ≢ ToolFault.Write) }
@@ -29,12 +29,12 @@ pub fn search<R: Read>(alloc: Global, aim: Aim, reader: &mut R) -> Result<Findin
     Ok(lines.into_handler().into_findings(status)?)
 }
 
-/// Writes `line N X` for each line of a trace that is at fault, up to so many, and then `faults N`, how many they are;
-/// or, where none is, what `monitor` or `coherent` writes. The beat of a line at fault isn't taken: those behind it are
-/// judged after the beats that were.
+/// Writes `line N X` for each line of a trace that is at fault, at most as many as the aim asks for, and then `faults
+/// N`, their number. If there is none, it writes what `monitor` or `coherent` writes. The beat of a line at fault isn't
+/// taken: later lines are judged after the beats that were taken.
 ///
-/// Nothing is written before the search has come to its end: `Write` alone comes behind that, where some of the text is
-/// left.
+/// Nothing is written before the search has come to its end. With the error `Write` it has, and a part of the text
+/// isn't written.
 pub fn find_all<R: Read, W: Write>(
     alloc: Global,
     aim: Aim,

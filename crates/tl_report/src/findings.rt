@@ -1,4 +1,4 @@
-//! What is found in a trace.
+//! The findings in a trace.
 
 ghost use Rattle.std.specs.Prelude.{◌≡◌, ◌<◌, ◌∷◌, [], ℕ, List, IfOk, OnOk, OnErr};
 ghost use Rattle.tl_report.specs.statement.Taken.{AreCounted, most_cells};
@@ -10,25 +10,25 @@ use tl_engine::fault::Fault;
 /// A line at fault.
 #[derive(Clone, Copy, Debug, PartialEq, Eq)]
 pub struct Finding {
-    /// Its number, from 1 on.
+    /// Its number, counted from 1.
     pub line: u64,
-    /// What it is at fault for.
+    /// Its fault.
     pub fault: Fault,
 }
 
-/// What is found in a trace.
+/// The findings in a trace.
 #[derive(Drop)]
 pub struct Findings {
     /// The lines at fault, in their order.
     pub faults: Vec<Finding>,
-    /// How many beats were taken.
+    /// The number of beats that were taken.
     pub beats: u64,
-    /// How many of them in each cell, by link and message.
+    /// The number of these beats in each cell, by link and message.
     pub cells: Vec<u64>,
 }
 
 impl Findings {
-    /// Nothing is found, and no beat is taken.
+    /// No line at fault, and no beat.
     pub fn new(alloc: Global) -> Result<Findings, AllocError>
         ensures { IfOk result (λ f. (f.faults.items ≡ []) × AreCounted f.beats f.cells.items []) }
     {
@@ -41,7 +41,7 @@ impl Findings {
         })
     }
 
-    /// Counts a beat of this cell. There is none after beat 2^64 - 1.
+    /// Counts a beat of this cell. The error comes after beat 2^64 - 1, and changes nothing.
     pub fn count(&mut self, cell: usize) -> Result<(), AllocError>
         requires { cell < most_cells }
         ensures same { self.new.faults.items ≡ self.old.faults.items }

@@ -1,4 +1,4 @@
-//! What is found in a trace, beside the verdict of one that stops at its first fault: laws.
+//! Laws: the findings in a trace agree with the verdict that ends at the first fault.
 
 ghost use Rattle.std.specs.Prelude.{◌≤◌, ℕ, List, length};
 ghost use Rattle.tl_command.specs.declared.search.Aim.{Aim};
@@ -7,15 +7,14 @@ ghost use Rattle.tl_report.specs.declared.findings.Finding.{Finding};
 ghost use Rattle.tl_report.specs.statement.Found.{FindsFor, most_of};
 ghost use Rattle.tl_report.specs.statement.Said.{first_text, status_of};
 
-/// The first line that is found, and the status, are those of `monitor`, or of `coherent`, and where none is found so is
-/// the text.
+/// The first line at fault, the status and, if no line is at fault, the text are those of `monitor` or `coherent`.
 pub fn begins_with_the_verdict()
     ensures { (aim : Aim) (lines : List (List ℕ)) (found : List Finding) (beats : ℕ) (cells : List ℕ) →
         FindsFor aim lines found beats cells →
         JudgedLinks aim.together aim.allow lines (first_text aim.together found beats) (status_of found) }
 {}
 
-/// No more lines are found than are looked for.
+/// At most as many lines are found as are looked for.
 pub fn finds_at_most()
     ensures { (aim : Aim) (lines : List (List ℕ)) (found : List Finding) (beats : ℕ) (cells : List ℕ) →
         FindsFor aim lines found beats cells → length found ≤ most_of aim }

@@ -1,4 +1,4 @@
-//! What is found in a recorded trace: all its lines at fault.
+//! The findings in a recorded trace: all its lines at fault. An `AllocError` means that there is no memory left.
 #![tactic(auto)]
 
 pub mod find;

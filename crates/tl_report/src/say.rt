@@ -1,4 +1,4 @@
-//! The text of what is found in a trace.
+//! The text of the findings in a trace.
 
 ghost use Rattle.std.specs.Prelude.{◌≡◌, ◌++◌, OnOk};
 ghost use Rattle.tl_report.specs.statement.Said.{all_text, count_text, faults_text, status_of};
@@ -32,8 +32,8 @@ fn append_count(count: u64, out: &mut Vec<u8>) -> Result<(), AllocError>
     Ok(())
 }
 
-/// Appends `line N X` for each line at fault and how many they are, or, where none is, `clean N`, of all links together
-/// `coherent N`.
+/// Appends `line N X` for each line at fault, and their number. If there is none, appends `clean N`, or `coherent N`
+/// for all links together.
 pub fn append_all(together: bool, findings: &Findings, out: &mut Vec<u8>) -> Result<(), AllocError>
     ensures { OnOk result (out.new.items ≡ out.old.items ++ all_text together findings.now.faults.items
         findings.now.beats) }

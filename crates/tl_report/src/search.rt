@@ -1,4 +1,4 @@
-//! Judges the lines of a trace, and notes those at fault, whose beats aren't taken.
+//! Judges the lines of a trace and records those at fault, whose beats aren't taken.
 
 ghost use Rattle.std.specs.Prelude.{◌≡◌, ℕ, List, IfOk, false, true};
 ghost use Rattle.tl_beat.specs.declared.beat.Beat.{Beat};
@@ -20,15 +20,15 @@ use tl_engine::links_header::LinksHeader;
 use tl_engine::status::Status;
 use tl_engine::trace_judge::TraceJudge;
 
-/// A judge of the links of a trace, and what is found in it.
+/// A judge of the links of a trace, and the findings so far.
 #[derive(Drop)]
 pub struct Search<const W: usize> {
     pub aim: Aim,
     judge: TraceJudge<W>,
     findings: Findings,
-    /// How many lines were read, the header among them.
+    /// The number of lines that were read, with the header.
     lines: u64,
-    /// Whether the line that was read last ends the search, and is noted.
+    /// Whether the last line that was read ends the search and is recorded.
     over: bool,
 }
 
@@ -40,7 +40,7 @@ fn is_open(line: &[u8]) -> bool
 }
 
 impl<const W: usize> Search<W> {
-    /// Begins behind a header.
+    /// A search that begins after a header.
     pub fn new(alloc: Global, aim: Aim, header: &LinksHeader) -> Result<Self, AllocError>
         requires width { IsWidth W }
         requires late { aim.together ≡ true → header.now.may.early ≡ false }
@@ -55,7 +55,7 @@ impl<const W: usize> Search<W> {
         })
     }
 
-    /// Judges a beat, and takes it where it isn't at fault.
+    /// Judges a beat, and takes it if it isn't at fault.
     fn take(&mut self, link: Link, beat: &Beat<W>) -> Result<Option<Fault>, AllocError>
         requires { IsWidth W }
         ensures judges { IfOk result (λ fault. (line : List ℕ) → Spells line link beat.now →
@@ -71,7 +71,7 @@ impl<const W: usize> Search<W> {
         }
     }
 
-    /// Judges the line of a beat, and takes the beat where the line isn't at fault.
+    /// Judges the line of a beat, and takes the beat if the line isn't at fault.
     fn judge(&mut self, line: &[u8]) -> Result<Option<Fault>, AllocError>
         requires { IsWidth W }
         ensures judges { IfOk result (JudgesLine self.old self.new line.now) }
@@ -83,7 +83,7 @@ impl<const W: usize> Search<W> {
         }
     }
 
-    /// Notes a line at fault: whether more are looked for behind it.
+    /// Records a line at fault, and returns whether more lines are looked for after it.
     fn note(&mut self, line: &[u8], number: u64, fault: Fault) -> Result<bool, AllocError>
         ensures { IfOk result (Notes self.old self.new line.now number fault) }
     {
@@ -95,7 +95,7 @@ impl<const W: usize> Search<W> {
         Ok(!self.over)
     }
 
-    /// Judges the line of the next beat, and notes it where it is at fault. Answers the fault where it ends the search.
+    /// Judges the line of the next beat, and records it if it is at fault. Returns the fault if it ends the search.
     #[inline(never)]
     pub fn read(&mut self, line: &[u8]) -> Result<Option<Fault>, AllocError>
         requires { IsWidth W }
@@ -119,7 +119,7 @@ impl<const W: usize> Search<W> {
         }
     }
 
-    /// What was found, at the end of the input or at a line that ends the search.
+    /// The findings, at the end of the input or at a line that ends the search.
     pub fn into_findings(self, status: Status) -> Result<Findings, AllocError>
         ensures { IfOk result (EndsWith status self.entry.over self.entry.findings self.entry.lines) }
     {

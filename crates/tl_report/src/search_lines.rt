@@ -17,7 +17,7 @@ use tl_engine::status::Status;
 use tl_engine::trace_judge::read_for;
 use tl_params::width::Width;
 
-/// Judges the lines of a trace, and notes those at fault.
+/// Judges the lines of a trace, and records those at fault.
 #[derive(Drop)]
 pub enum SearchLines {
     /// The header hasn't been read.
@@ -27,7 +27,7 @@ pub enum SearchLines {
     Sixteen(Search<16>),
 }
 
-/// Begins with the links that a header names. A line of another form names none.
+/// Begins with the links that a header names; `None` if the line is no header.
 #[inline(never)]
 fn begin(alloc: Global, aim: Aim, line: &[u8]) -> Result<Option<SearchLines>, AllocError>
     ensures begins { IfOk result (Begins aim line.now) }
@@ -44,7 +44,7 @@ fn begin(alloc: Global, aim: Aim, line: &[u8]) -> Result<Option<SearchLines>, Al
     Ok(Some(lines))
 }
 
-/// What is found in a trace without a header.
+/// The findings in a trace without a header.
 fn no_header(alloc: Global) -> Result<Findings, AllocError>
     ensures { IfOk result (λ f. (f.faults.items ≡ no_header) × AreCounted f.beats f.cells.items []) }
 {
@@ -57,7 +57,7 @@ fn no_header(alloc: Global) -> Result<Findings, AllocError>
 }
 
 impl SearchLines {
-    /// What was found, at the end of the input or at a line that ends the search.
+    /// The findings, at the end of the input or at a line that ends the search.
     pub fn into_findings(self, status: Status) -> Result<Findings, AllocError>
         ensures { IfOk result (HasFound self status) }
     {

@@ -5,10 +5,10 @@ ghost use Rattle.tl_report.specs.statement.Taken.{cell_of, message_of, most_cell
 
 use tl_beat::beat::{Beat, Link};
 
-/// How many cells there are: 33 for each of 256 links.
+/// The number of cells: 33 for each of 256 links.
 pub const CELLS: usize = 8448;
 
-/// The number of a beat's message: eight for each channel from A to D, by the opcode, and GrantAck.
+/// The number of a beat's message: eight for each channel from A to D, by the opcode, and one for GrantAck.
 #[tactic(auto, using(crate::proofs::Counted::below_a, crate::proofs::Counted::below_b, crate::proofs::Counted::below_c, crate::proofs::Counted::below_d))]
 fn message_of<const W: usize>(beat: &Beat<W>) -> u8
     ensures number { result ≡ message_of beat.now }
@@ -23,7 +23,7 @@ fn message_of<const W: usize>(beat: &Beat<W>) -> u8
     }
 }
 
-/// The number of the cell in which a beat is counted: 33 cells for each link, one for each message.
+/// The number of the cell in which a beat counts: each link has 33 cells, one for each message.
 pub fn cell_of<const W: usize>(link: Link, beat: &Beat<W>) -> usize
     ensures cell { result ≡ cell_of link beat.now }
     ensures below { result < most_cells }

@@ -1,4 +1,4 @@
-//! What is noted of an input that comes in pieces: how many bytes, the first of them, and their SHA-256.
+//! Facts about an input that comes in pieces: its number of bytes, the first of them, and its SHA-256.
 
 ghost use Rattle.std.specs.Prelude.{◌≡◌, ◌++◌, ℕ, [], List, OnOk, IfErr, length, take};
 ghost use Rattle.sha2.specs.Sha256.{sha256};
@@ -9,13 +9,13 @@ use arrayvec::ArrayVec;
 use sha2::{Digest, Sha256};
 use tl_engine::status::ToolFault;
 
-/// How many bytes of an input are kept from its front on: as many as a line of a trace may have.
+/// The number of bytes that are kept from the front of an input: as many as a line of a trace may have.
 const FRONT: usize = 256;
 
-/// What was read.
+/// Facts about an input.
 #[derive(Drop)]
 pub struct Input {
-    /// How many bytes.
+    /// The number of its bytes.
     pub bytes: u64,
     /// The first 256 of them.
     pub front: ArrayVec<u8, 256>,
@@ -23,7 +23,7 @@ pub struct Input {
     pub sum: [u8; 32],
 }
 
-/// What is noted of the bytes that have come.
+/// Facts about the bytes that have come so far.
 #[derive(Drop)]
 pub struct Notes {
     hasher: Sha256,
@@ -31,7 +31,7 @@ pub struct Notes {
     front: ArrayVec<u8, 256>,
 }
 
-/// The first bytes of a piece, at most so many.
+/// The first bytes of a piece, at most this many.
 fn at_most(piece: &[u8], most: usize) -> &[u8]
     ensures { result.now ≡ take most piece.now }
 {
@@ -43,7 +43,7 @@ fn at_most(piece: &[u8], most: usize) -> &[u8]
 }
 
 impl Notes {
-    /// Nothing has come.
+    /// No byte has come.
     pub fn new() -> Notes
         ensures { IsNoted result [] }
     {
@@ -54,7 +54,7 @@ impl Notes {
         }
     }
 
-    /// Notes a piece. There is none behind byte 2^64 - 1.
+    /// Takes a piece. The error is `Read` after byte 2^64 - 1.
     pub fn add(&mut self, piece: &[u8]) -> Result<(), ToolFault>
         ensures notes { OnOk result ((input : List ℕ) → IsNoted self.old input → IsNoted self.new (input ++ piece.now)) }
         ensures fault { IfErr result (λ fault. fault ≡ ToolFault.Read) }
@@ -72,7 +72,7 @@ impl Notes {
         Ok(())
     }
 
-    /// What was read.
+    /// The facts about the whole input.
     pub fn into_input(self) -> Input
         ensures { (input : List ℕ) → IsNoted self input → (result.bytes ≡ length input)
             × (result.front.items ≡ take 256 input) × (result.sum ≡ sha256 input) }

@@ -1,4 +1,4 @@
-//! Judges an input to its end, and notes what it was.
+//! Judges an input to its end, and keeps the facts about it.
 
 ghost use Rattle.std.specs.Prelude.{◌≡◌, ◌≢◌, ◌++◌, [], ℕ, List, IfErr, IfOk};
 ghost use Rattle.std.specs.Io.KnownBytes.{Consumes, IsAtEnd};
@@ -18,7 +18,7 @@ use tl_engine::lines::Lines;
 use tl_engine::status::{Status, ToolFault};
 use tl_report::search_lines::SearchLines;
 
-/// Judges the lines that end in a piece, unless a line before has ended the search.
+/// Judges the lines that end in a piece, unless an earlier line has ended the search.
 fn go_on(
     lines: &mut Lines<SearchLines>,
     status: Status,
@@ -36,7 +36,7 @@ fn go_on(
     }
 }
 
-/// Judges the end of an input, unless a line before has ended the search.
+/// Judges the end of an input, unless an earlier line has ended the search.
 fn close(lines: &Lines<SearchLines>, status: Status, out: &mut Vec<u8>) -> Result<Status, ToolFault>
     ensures judged { IfOk result (λ end. (input : List ℕ) → IsJudged status lines.now input out.old.items →
         IsJudgedWhole lines.now.handler input end) }
@@ -48,7 +48,8 @@ fn close(lines: &Lines<SearchLines>, status: Status, out: &mut Vec<u8>) -> Resul
     }
 }
 
-/// Reads an input to its end, judges its lines up to the last that is looked for, and notes all its bytes.
+/// Reads an input to its end, judges its lines up to the last at fault that is looked for, and keeps the facts about
+/// all bytes.
 fn read_whole<R: Read>(
     alloc: Global,
     lines: &mut Lines<SearchLines>,
@@ -77,8 +78,8 @@ fn read_whole<R: Read>(
     Err(ToolFault::Read)
 }
 
-/// Reads an input to its end, and judges its lines up to the last that is looked for. What follows that line is read for
-/// the sum alone.
+/// Reads an input to its end, and judges its lines up to the last at fault that is looked for. Later lines are read for
+/// the sum alone. The error is `Read` or `Memory`.
 pub fn judge_whole<R: Read>(alloc: Global, aim: Aim, reader: &mut R) -> Result<Account, ToolFault>
     ensures ok { IfOk result (λ account. (input : List ℕ)
         × Consumes (R.remaining reader.old) (R.remaining reader.new) input × IsAtEnd (R.remaining reader.new)

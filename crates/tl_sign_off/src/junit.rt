@@ -1,4 +1,4 @@
-//! The report of a trace that was judged, as JUnit has it.
+//! The report of a trace in the form of JUnit.
 
 ghost use Rattle.std.specs.Prelude.{◌≡◌, ◌++◌, [], IfOk, OnOk, codes};
 ghost use Rattle.std.specs.Fmt.{decimal};
@@ -44,7 +44,7 @@ fn append_count(
     append_property(alloc, name, digits.format(number).as_bytes(), out)
 }
 
-/// What was judged, and by what, as properties.
+/// The tool, the input and its number of beats, as properties.
 #[tactic(auto, unfolding(crate::specs::statement::Junit::properties_of))]
 fn properties_text(alloc: Global, account: &Account) -> Result<Vec<u8>, AllocError>
     ensures { IfOk result (λ text. text.items ≡ properties_of account.now) }
@@ -59,7 +59,7 @@ fn properties_text(alloc: Global, account: &Account) -> Result<Vec<u8>, AllocErr
     Ok(text)
 }
 
-/// Appends what was judged, and by what.
+/// Appends the tool, the input and its number of beats.
 fn append_properties(alloc: Global, account: &Account, out: &mut Vec<u8>) -> Result<(), AllocError>
     ensures { OnOk result (out.new.items ≡ out.old.items ++ properties_element account.now) }
 {
@@ -78,7 +78,7 @@ fn class_name(together: bool) -> &'static str
     }
 }
 
-/// The attributes of the test case of this name.
+/// The attributes of the test case with this name.
 #[tactic(auto, unfolding(crate::specs::statement::Junit::case_named))]
 fn case_attributes(alloc: Global, together: bool, name: &[u8]) -> Result<Vec<u8>, AllocError>
     ensures { IfOk result (λ text. text.items ≡ case_named together name.now) }
@@ -100,7 +100,7 @@ fn line_name(alloc: Global, line: u64) -> Result<Vec<u8>, AllocError>
     Ok(name)
 }
 
-/// What failed: the rule or fault, and what it says.
+/// The failure: the rule or fault, and its sentence.
 #[tactic(auto, unfolding(crate::specs::statement::Junit::failure_of))]
 fn failure_text(alloc: Global, fault: Fault) -> Result<Vec<u8>, AllocError>
     ensures { IfOk result (λ text. text.items ≡ failure_of fault) }
@@ -130,7 +130,7 @@ fn append_failed(
     append_element(b"testcase", &attributes, &failure, out)
 }
 
-/// Appends the test case of a trace of which no line is at fault, which passed.
+/// Appends the test case of a trace without a line at fault, which passed.
 fn append_passed(alloc: Global, together: bool, out: &mut Vec<u8>) -> Result<(), AllocError>
     ensures { OnOk result (out.new.items ≡ out.old.items ++ cases_of together []) }
 {
@@ -167,7 +167,7 @@ fn suite_name(together: bool) -> &'static str
     }
 }
 
-/// How many test cases there are.
+/// The number of test cases.
 fn many_cases(faults: &[Finding]) -> u64
     ensures { result ≡ many_cases faults.now }
 {
@@ -209,8 +209,8 @@ fn suite_content(alloc: Global, account: &Account) -> Result<Vec<u8>, AllocError
     Ok(text)
 }
 
-/// The text of the report of an account, as JUnit has it: a suite with a test case for each line at fault, which failed, or
-/// with one that passed.
+/// The text of the report of an account in the form of JUnit: a suite with a failed test case for each line at fault,
+/// or with one that passed.
 pub fn junit_text(alloc: Global, account: &Account) -> Result<Vec<u8>, AllocError>
     ensures { IfOk result (λ text. text.items ≡ junit_of account.now) }
 {

@@ -1,4 +1,4 @@
-//! What the report counts: a law.
+//! A law of the report's counts.
 
 ghost use Rattle.std.specs.Prelude.{◌≡◌, ℕ};
 ghost use Rattle.tl_beat.specs.declared.beat.Beat.{Beat};
@@ -6,7 +6,7 @@ ghost use Rattle.tl_beat.specs.declared.beat.Link.{Link};
 ghost use Rattle.tl_report.specs.statement.Taken.{cell_of};
 ghost use Rattle.tl_sign_off.specs.statement.Report.{count_data, count_of};
 
-/// What is said of the cell in which a beat is counted names its link, the letter of its channel and its message.
+/// The entry for the cell of a beat names the beat's link, channel and message.
 pub fn counts_by_link_and_message()
     ensures { (w : ℕ) (link : Link) (beat : Beat w) (n : ℕ) → count_data (cell_of link beat) n ≡ count_of link beat n }
 {}

@@ -1,4 +1,5 @@
-//! What a sign-off archives of a trace that was judged: its report, in JSON and as JUnit has it.
+//! The report of a trace that a sign-off archives, in JSON or in the form of JUnit. An `AllocError` means that there is
+//! no memory left.
 #![tactic(auto)]
 
 pub mod account;

@@ -1,4 +1,4 @@
-//! The messages in which beats are counted, by their numbers.
+//! The messages by which beats are counted, by their numbers.
 
 ghost use Rattle.std.specs.Prelude.{◌≡◌};
 ghost use Rattle.tl_sign_off.specs.statement.Message.{channel_name, message_name};
@@ -18,7 +18,7 @@ pub fn channel_name(message: u8) -> &'static str
     }
 }
 
-/// The name of a message, which is empty where its number stands for none.
+/// The name of a message; empty if no message has this number.
 pub fn message_name(message: u8) -> &'static str
     ensures { result.now ≡ message_name message }
 {

@@ -1,4 +1,4 @@
-//! The report of a trace that was judged, in JSON.
+//! The report of a trace, in JSON.
 
 ghost use Rattle.std.specs.Prelude.{◌≡◌, ◌++◌, ◌<◌, ◌==◌, ℕ, List, Some, IfOk, OnOk, codes, map, position};
 ghost use Rattle.serde_json.specs.Data.{string};
@@ -21,7 +21,7 @@ use tl_report::findings::Finding;
 /// The version, as `tltool --version` writes it.
 pub(crate) const VERSION: &str = "1.0.0";
 
-/// What it is proved with, as `tltool --version` writes it.
+/// The kit that proved the tool, as `tltool --version` writes it.
 pub(crate) const KIT: &str = "Rattle, logic dac8208d650f15bf";
 
 /// A text.
@@ -34,7 +34,7 @@ fn text_value(alloc: Global, bytes: &[u8]) -> Result<Value, AllocError>
     }
 }
 
-/// What a rule or fault says.
+/// The sentence of a rule or fault.
 fn sentence_value(alloc: Global, fault: Fault) -> Result<Value, AllocError>
     ensures { IfOk result (λ v. view v ≡ string (sentence_of fault)) }
 {
@@ -42,7 +42,7 @@ fn sentence_value(alloc: Global, fault: Fault) -> Result<Value, AllocError>
     text_value(alloc, &sentence)
 }
 
-/// A line at fault: its number, the name of its rule or fault, and what that says.
+/// A line at fault: its number, the name of its rule or fault, and its sentence.
 fn fault_value(alloc: Global, finding: &Finding) -> Result<Value, AllocError>
     ensures { IfOk result (λ v. view v ≡ fault_data finding.now) }
 {
@@ -63,7 +63,7 @@ fn faults_value(alloc: Global, faults: &[Finding]) -> Result<Value, AllocError>
     Ok(Value::from(list))
 }
 
-/// So many beats of the link and the message that are counted in a cell.
+/// The number of beats in a cell, with the link and message of the cell.
 fn count_value(alloc: Global, cell: usize, number: u64) -> Result<Value, AllocError>
     ensures { IfOk result (λ v. view v ≡ count_data cell number) }
 {
@@ -74,7 +74,7 @@ fn count_value(alloc: Global, cell: usize, number: u64) -> Result<Value, AllocEr
     json!(in alloc; {"beats": number, "channel": channel, "link": link, "message": name})
 }
 
-/// Adds the beats that are counted in a cell, where there are some.
+/// Adds the entry for a cell, if the cell has beats.
 fn push_count(
     list: &mut Vec<Value>,
     alloc: Global,
@@ -90,7 +90,7 @@ fn push_count(
     Ok(())
 }
 
-/// The beats of each link and message that were taken.
+/// The numbers of beats by link and message.
 fn counts_value(alloc: Global, cells: &[u64]) -> Result<Value, AllocError>
     ensures { IfOk result (λ v. view v ≡ counts_data cells.now) }
 {
@@ -118,7 +118,7 @@ fn first_end(front: &[u8]) -> Option<usize>
     front.iter().position(|b| *b == b'\n')
 }
 
-/// The first of these lines.
+/// The first line of these bytes.
 fn line_in(front: &[u8]) -> &[u8]
     ensures { result.now ≡ line_in front.now }
 {
@@ -128,7 +128,7 @@ fn line_in(front: &[u8]) -> &[u8]
     }
 }
 
-/// The header as it stands, or null where the first line is none.
+/// The header, or null if the first line is none.
 fn header_value(alloc: Global, faults: &[Finding], front: &[u8]) -> Result<Value, AllocError>
     ensures { IfOk result (λ v. view v ≡ header_data faults.now front.now) }
 {
@@ -139,7 +139,7 @@ fn header_value(alloc: Global, faults: &[Finding], front: &[u8]) -> Result<Value
     }
 }
 
-/// What was read.
+/// The input: its number of bytes, its header, and its SHA-256.
 fn input_value(alloc: Global, faults: &[Finding], input: &Input) -> Result<Value, AllocError>
     ensures { IfOk result (λ v. view v ≡ input_data faults.now input.now) }
 {
@@ -149,21 +149,21 @@ fn input_value(alloc: Global, faults: &[Finding], input: &Input) -> Result<Value
     json!(in alloc; {"bytes": bytes, "header": header, "sha256": sum})
 }
 
-/// What has judged it.
+/// The tool that judged the input.
 fn tool_value(alloc: Global) -> Result<Value, AllocError>
     ensures { IfOk result (λ v. view v ≡ tool_data) }
 {
     json!(in alloc; {"name": "tltool", "proved_with": KIT, "version": VERSION})
 }
 
-/// The command that judges all links together, or each by itself.
+/// The command: `coherent` judges all links together, `monitor` each by itself.
 pub(crate) fn command_name(together: bool) -> &'static str
     ensures { result.now ≡ command_name together }
 {
     if together { "coherent" } else { "monitor" }
 }
 
-/// What is said of the whole.
+/// The verdict on the whole input.
 pub(crate) fn verdict_name(together: bool, faults: &[Finding]) -> &'static str
     ensures { result.now ≡ verdict_name together faults.now }
 {
@@ -197,7 +197,7 @@ fn report_value(alloc: Global, account: &Account) -> Result<Value, AllocError>
     })
 }
 
-/// The text of the report of an account: JSON in one line, which an LF ends.
+/// The text of the report of an account: JSON in one line, with an LF at its end.
 #[tactic(auto, using(crate::proofs::Reported::no_float, crate::proofs::Reported::few_deep))]
 pub fn report_text(alloc: Global, account: &Account) -> Result<Vec<u8>, AllocError>
     ensures text { IfOk result (λ text. text.items ≡ json_line account.now) }

@@ -1,4 +1,4 @@
-//! What the name of a fault says.
+//! The sentence of a fault.
 
 ghost use Rattle.std.specs.Prelude.{◌≡◌, ◌++◌, codes, IfOk, OnOk};
 ghost use Rattle.tl_engine.specs.statement.Fault.{fault_name};
@@ -9,7 +9,7 @@ use tl_beat::fault::LineFault;
 use tl_engine::fault::Fault;
 use tl_explain::named::{append_memory_sentence, append_sentence};
 
-/// Where a line that is judged by no rule is at fault.
+/// The condition of a fault that is no rule.
 fn line_sentence(fault: Fault) -> &'static str
     ensures { result.now ≡ line_sentence fault }
 {
@@ -27,11 +27,12 @@ fn line_sentence(fault: Fault) -> &'static str
             "digits where the opcode carries no data, or `-` where it does"
         }
         Fault::Header => "the first line is no header",
+        Fault::Beyond => "more than 2^26 blocks, 256 sources of a link or 256 sinks",
         _ => "the line of a schedule says no event",
     }
 }
 
-/// Appends the name of a fault, and what it says, as a line.
+/// Appends the name of a fault and its condition, as a line.
 fn append_line_sentence(fault: Fault, out: &mut Vec<u8>) -> Result<(), AllocError>
     ensures { OnOk result (out.new.items ≡ out.old.items ++ fault_name fault ++ codes ": " ++ line_sentence fault
         ++ codes "\n") }
@@ -43,7 +44,7 @@ fn append_line_sentence(fault: Fault, out: &mut Vec<u8>) -> Result<(), AllocErro
     Ok(())
 }
 
-/// Appends what a rule or fault says, as `explain` writes it of its name, in a line.
+/// Appends the sentence of a rule or fault, as `explain` writes it, as a line.
 fn append_sentence_of(fault: Fault, out: &mut Vec<u8>) -> Result<(), AllocError>
     ensures { OnOk result (out.new.items ≡ out.old.items ++ sentence_of fault ++ codes "\n") }
 {
@@ -54,7 +55,7 @@ fn append_sentence_of(fault: Fault, out: &mut Vec<u8>) -> Result<(), AllocError>
     }
 }
 
-/// What a rule or fault says, as `explain` writes it of its name.
+/// The sentence of a rule or fault, as `explain` writes it.
 pub fn sentence_text(alloc: Global, fault: Fault) -> Result<Vec<u8>, AllocError>
     ensures { IfOk result (λ text. text.items ≡ sentence_of fault) }
 {

@@ -19,7 +19,8 @@ use tl_engine::status::ToolFault;
 use tl_report::findings::Findings;
 use tl_report::say::append_all;
 
-/// Appends `line N X` for the first line at fault, or, where none is, `clean N`, of all links together `coherent N`.
+/// Appends `line N X` for the first line at fault. If there is none, appends `clean N`, or `coherent N` for all links
+/// together.
 fn append_first(together: bool, findings: &Findings, out: &mut Vec<u8>) -> Result<(), AllocError>
     ensures { OnOk result (out.new.items ≡ out.old.items ++ first_text together findings.now.faults.items
         findings.now.beats) }
@@ -30,7 +31,7 @@ fn append_first(together: bool, findings: &Findings, out: &mut Vec<u8>) -> Resul
     }
 }
 
-/// Appends the verdict: all lines at fault and how many they are, or the first.
+/// Appends the verdict: all lines at fault and their number, or the first.
 fn append_verdict(all: bool, account: &Account, out: &mut Vec<u8>) -> Result<(), AllocError>
     ensures { OnOk result (out.new.items ≡ out.old.items ++ verdict_text all account.now) }
 {
@@ -41,9 +42,9 @@ fn append_verdict(all: bool, account: &Account, out: &mut Vec<u8>) -> Result<(),
     }
 }
 
-/// Judges an input to its end, and writes the verdict, as `tl_links::run::run_links` does, or as `tl_report::find::find_all`
-/// does where all lines at fault are asked for. Nothing is written before the input has come to its end: `Write` alone comes
-/// behind that, where some of the text is left.
+/// Judges an input to its end, and writes the verdict as `tl_links::run::run_links` does, or as
+/// `tl_report::find::find_all` does if `inquiry.all` is set. Nothing is written before the input has come to its end.
+/// With the error `Write` it has, and a part of the text isn't written.
 pub fn tell_verdict<R: Read, W: Write>(
     alloc: Global,
     inquiry: Inquiry,
@@ -64,8 +65,8 @@ pub fn tell_verdict<R: Read, W: Write>(
     Ok(account)
 }
 
-/// Writes the report of an account. Its only faults are `Memory`, where nothing is written, and `Write`, where some of it
-/// is left.
+/// Writes the report of an account. With the error `Memory` nothing is written, with `Write` a part isn't. There is no
+/// other error.
 pub fn write_report<W: Write>(
     alloc: Global,
     form: Form,

@@ -7,7 +7,7 @@ ghost use Rattle.tl_sign_off.specs.statement.Junit.{attribute, element, empty_el
 use itoa::Buffer;
 use std::alloc::AllocError;
 
-/// Appends what stands for a byte in the value of an attribute.
+/// Appends a byte, escaped for the value of an attribute.
 fn append_escaped_byte(byte: u8, out: &mut Vec<u8>) -> Result<(), AllocError>
     ensures { OnOk result (out.new.items ≡ out.old.items ++ escaped_byte byte) }
 {
@@ -50,7 +50,7 @@ pub fn append_number(name: &[u8], number: u64, out: &mut Vec<u8>) -> Result<(), 
     append_attribute(name, digits.format(number).as_bytes(), out)
 }
 
-/// Appends an element without content, in a line.
+/// Appends an element without content, on one line.
 #[tactic(auto, unfolding(crate::specs::statement::Junit::empty_element))]
 pub fn append_empty_element(
     name: &[u8],
@@ -66,7 +66,7 @@ pub fn append_empty_element(
     Ok(())
 }
 
-/// Appends an element with content, in lines.
+/// Appends an element with content, on several lines.
 #[tactic(auto, unfolding(crate::specs::statement::Junit::element))]
 pub fn append_element(
     name: &[u8],

@@ -30,37 +30,48 @@ use Rattle.tl_engine.specs.statement.JudgedLinks.{JudgedLinks, LinksSoFar}
 use Rattle.tl_random.specs.statement.Random.{WritesPart, WritesSchedule}
 use Rattle.tl_report.specs.declared.findings.Finding.{Finding}
 use Rattle.tl_report.specs.statement.Said.{GivesUpSearching, Searches, all_text, status_of}
+use Rattle.tl_wide.specs.declared.width.WideWidth.{WideWidth}
+use Rattle.tl_wide.specs.statement.Width.{wide_bytes_of}
+use Rattle.tl_wide_lines.specs.statement.JudgedTrace.{JudgedTrace, TraceSoFar}
+use Rattle.tl_wide_lines.specs.statement.WideDecoded.{DecodedSoFar, DecodedWide}
 
--- A command's text of these lines, with the status at their end; of `explain` what it begins with. `monitor`, `coherent`
--- and `explain` read headers that name liberties too, and allow links this besides.
+-- A command's text of these lines, with the status at their end; for `explain` the first line of its text. `monitor`,
+-- `coherent` and `explain` also read headers that name liberties, and take further ones; the first two also read
+-- headers of wide beats.
 abbrev pub program_told : Command → Liberties → List (List ℕ) → List ℕ → Status → Type 0
-program_told Monitor allow = JudgedLinks false allow
+program_told Monitor allow = JudgedTrace false allow
 program_told (Decode width) allow = text_told (Decode width)
-program_told Coherent allow = JudgedLinks true allow
+program_told Coherent allow = JudgedTrace true allow
 program_told (Explain together) allow = JudgedLinks together allow
 program_told (Run trace) allow = text_told (Run trace)
 
--- the text of these lines, of which none is at fault, before the end of the input
+-- the text of these lines without a fault, before the end of the input
 abbrev pub program_so_far : Command → Liberties → List (List ℕ) → List ℕ → Type 0
-program_so_far Monitor allow = LinksSoFar false allow
+program_so_far Monitor allow = TraceSoFar false allow
 program_so_far (Decode width) allow = text_so_far (Decode width)
-program_so_far Coherent allow = LinksSoFar true allow
+program_so_far Coherent allow = TraceSoFar true allow
 program_so_far (Explain together) allow = LinksSoFar together allow
 program_so_far (Run trace) allow = text_so_far (Run trace)
 
--- the outcome is one that these texts have over what was read and written
+-- the outcome is one that these texts have over the input and the output
 abbrev pub IsOutcome : (List (List ℕ) → List ℕ → Status → Type 0) → (List (List ℕ) → List ℕ → Type 0)
     → Option (List ℕ) → Option (List ℕ) → Option (List ℕ) → Option (List ℕ) → Result Status ToolFault → Type 0
 IsOutcome tells so_far had left held holds outcome =
     IfOk outcome (RunsTo tells had left held holds) × OnErr outcome (FailsAt tells had left held holds)
     × IfErr outcome (GivesUpFor so_far tells had left held holds)
 
--- The status is that of an outcome which the command, that allows links this besides, has over what was read and written.
+-- The status is that of an outcome which the command, under these further liberties, has over its input and output.
 abbrev pub EndsAs : Command → Liberties → Option (List ℕ) → Option (List ℕ) → Option (List ℕ) → Option (List ℕ) → ℕ
     → Type 0
 EndsAs command allow had left held holds status =
     (outcome : Result Status ToolFault) × (status ≡ exit_status outcome)
     × IsOutcome (program_told command allow) (program_so_far command allow) had left held holds outcome
+
+-- The status is that of an outcome of decoding wide beats.
+abbrev pub EndsDecoded : WideWidth → Option (List ℕ) → Option (List ℕ) → Option (List ℕ) → Option (List ℕ) → ℕ → Type 0
+EndsDecoded width had left held holds status =
+    (outcome : Result Status ToolFault) × (status ≡ exit_status outcome)
+    × IsOutcome (DecodedWide (wide_bytes_of width)) (DecodedSoFar (wide_bytes_of width)) had left held holds outcome
 
 -- whatever was left of the input
 abbrev pub EndsOver : Command → Liberties → Option (List ℕ) → Option (List ℕ) → Option (List ℕ) → ℕ → Type 0
@@ -80,7 +91,7 @@ explain_status (Ok status) = exit_status (Ok status)
 explain_status (Err fault) = 3
 
 -- The status is that of an outcome which an explanation, of each link by itself or of all together, which may do this
--- besides what the header names, has over what was read, by each of two readers, and written.
+-- in addition to the liberties of the header, has over the input, as each of two readers gives it, and the output.
 abbrev pub EndsExplained : Bool → Liberties → Option (List ℕ) → Option (List ℕ) → Option (List ℕ) → Option (List ℕ)
     → Option (List ℕ) → Option (List ℕ) → ℕ → Type 0
 EndsExplained together allow had left had_again left_again held holds status =
@@ -89,14 +100,14 @@ EndsExplained together allow had left had_again left_again held holds status =
     × Explains allow had_again left_again verdict reasons judged × Appends held holds (verdict ++ reasons))
     × IfErr outcome (GivesUpExplaining together allow had left had_again left_again held holds)
 
--- It was given up for this to say which liberties would allow what was found. But for `Write` nothing was written.
+-- For this reason it was given up to say which liberties would allow the beat. Only with `Write` was anything written.
 abbrev pub GivesUpAllowing : Liberties → Option (List ℕ) → Option (List ℕ) → Option (List ℕ) → Option (List ℕ) → ToolFault → Type 0
 GivesUpAllowing allow had left held holds Write =
     (allowing : List Liberty) × FindsAllowed allow had left allowing × AppendsShort held holds (allowed_line allowing)
 GivesUpAllowing allow had left held holds fault = holds ≡ held
 
--- The status is that of the explanation, behind which stands the line that names the liberties beside these which would
--- allow what was found; or that of what it was given up for.
+-- The status is that of the explanation, and the line that follows names the further liberties which would
+-- allow the beat; or the status is that of the fault for which this was given up.
 abbrev pub EndsAllowed : ℕ → Liberties → Option (List ℕ) → Option (List ℕ) → Option (List ℕ) → Option (List ℕ) → ℕ
     → Type 0
 EndsAllowed explained allow had left held holds status =
@@ -104,8 +115,8 @@ EndsAllowed explained allow had left held holds status =
     × (status ≡ explained))
     ⊎ ((fault : ToolFault) × GivesUpAllowing allow had left held holds fault × (status ≡ exit_status (Err fault)))
 
--- The status is that of an outcome which a chart of a window, whose links may do this besides what the header names, has
--- over what was read and written.
+-- The status is that of an outcome which a chart of a window, whose links have these further liberties, has
+-- over the input and the output.
 abbrev pub EndsCharted : Liberties → Window → Option (List ℕ) → Option (List ℕ) → Option (List ℕ) → Option (List ℕ) → ℕ
     → Type 0
 EndsCharted allow win had left held holds status =
@@ -113,7 +124,7 @@ EndsCharted allow win had left held holds status =
     × IfOk outcome (λ judged. (chart : List ℕ) × Charts allow win had left judged chart × Appends held holds chart)
     × IfErr outcome (GivesUpCharting allow win had left held holds)
 
--- The status is that of an outcome which a search has over what was read and written.
+-- The status is that of an outcome which a search has over the input and the output.
 abbrev pub EndsFound : Aim → Option (List ℕ) → Option (List ℕ) → Option (List ℕ) → Option (List ℕ) → ℕ → Type 0
 EndsFound aim had left held holds status =
     (outcome : Result Status ToolFault) × (status ≡ exit_status outcome)

@@ -27,6 +27,6 @@ EndsReported form a held holds written =
     (outcome : Result (Unit {0}) ToolFault) × (written ≡ is_ok outcome)
     × OnOk outcome (Appends held holds (report_in form a)) × IfErr outcome (GivesUpWriting (report_in form a) held holds)
 
--- the exit status behind a verdict: 3 where a report wasn't written
+-- the exit status after a verdict: 3 if a report wasn't written
 abbrev pub status_reported : List Finding → Bool → ℕ
 status_reported found written = if written then exit_status (Ok (status_of found)) else exit_status (Err Write)

@@ -1,32 +1,109 @@
-//! Tells the situations that a trace has been in.
+//! Reports the situations of traces.
 
-ghost use Rattle.tltool.specs.Covered.{EndsCovered};
+ghost use Rattle.std.specs.Prelude.{◌≡◌, ◌+◌, length, ℕ, List, Option, Err, IfErr, IfOk, OnErr, OnOk};
+ghost use Rattle.tl_engine.specs.statement.Exit.{exit_status};
+ghost use Rattle.tltool.specs.Covered.{AddsTried, EndsCovered, EndsCoveredIn, EndsTold};
 
 use crate::{told, unopened};
 use std::io::{Read, Write};
 use std::{fs, io};
+use tl_engine::status::ToolFault;
 use tl_params::liberties::Liberties;
-use tl_tried::run::cover_input;
+use tl_tried::tell::tell;
+use tl_tried::tried::{Tried, try_trace};
 
-/// Tells the situations of what a reader gives.
+/// Judges the input of a reader, and appends the result to the traces that were tried. If it can't be read or there is
+/// no memory, prints the fault and returns the exit status.
+fn try_over<R: Read>(rt: &HostRuntime, input: &mut R, all: &mut Vec<Tried>) -> Result<(), u8>
+    ensures tried { OnOk result (AddsTried (R.remaining input.old) (R.remaining input.new) all.old.items
+        all.new.items) }
+    ensures refused { IfErr result (λ status. status ≡ exit_status (Err ToolFault.Read)) }
+{
+    let tried = match try_trace(rt.alloc(), Liberties::none(), input) {
+        Ok(tried) => tried,
+        Err(fault) => return Err(told(rt, Err(fault))),
+    };
+    let Ok(()) = all.push(tried) else {
+        return Err(told(rt, Err(ToolFault::Memory)));
+    };
+    Ok(())
+}
+
+/// The same for the file of this name. If it can't be opened, prints that and returns the exit status.
+fn try_file<R: Read + Drop>(
+    rt: &HostRuntime,
+    name: &str,
+    opened: io::Result<R>,
+    all: &mut Vec<Tried>,
+) -> Result<(), u8>
+    ensures opened { IfOk opened (λ file. OnOk result ((left : Option (List ℕ))
+        × AddsTried (R.remaining file) left all.old.items all.new.items)) }
+    ensures unopened { OnErr opened (result ≡ Err (exit_status (Err ToolFault.Read))) }
+    ensures refused { IfErr result (λ status. status ≡ exit_status (Err ToolFault.Read)) }
+    ensures counted { OnOk result (length all.new.items ≡ length all.old.items + 1) }
+{
+    match opened {
+        Ok(mut file) => try_over(rt, &mut file, all),
+        Err(_) => Err(unopened(rt, name)),
+    }
+}
+
+/// The same for the files of these names in turn, up to one that can't be opened or read.
+fn try_files(rt: &HostRuntime, names: &[String], all: &mut Vec<Tried>) -> Result<(), u8>
+    ensures refused { IfErr result (λ status. status ≡ exit_status (Err ToolFault.Read)) }
+    ensures counted { OnOk result (length all.new.items ≡ length all.old.items + length names.now) }
+{
+    for name in names {
+        let opened = fs::open(rt, name.as_str());
+        try_file(rt, name.as_str(), opened, all)?;
+    }
+    Ok(())
+}
+
+/// Writes the verdicts and situations of the traces that were tried. These names are used for several traces.
+fn tell_over<W: Write>(
+    rt: &HostRuntime,
+    json: bool,
+    names: &[String],
+    all: &[Tried],
+    output: &mut W,
+) -> u8
+    ensures { EndsTold json names.now all.now (W.contents output.old) (W.contents output.new) result }
+{
+    told(rt, tell(rt.alloc(), json, names, all, output))
+}
+
+/// Reports the situations of the trace of a reader. Writes nothing if it can't be read or there is no memory.
 fn cover_over<R: Read, W: Write>(rt: &HostRuntime, json: bool, input: &mut R, output: &mut W) -> u8
     ensures { EndsCovered json (R.remaining input.old) (R.remaining input.new) (W.contents output.old)
         (W.contents output.new) result }
 {
-    told(
-        rt,
-        cover_input(rt.alloc(), json, Liberties::none(), input, output),
-    )
+    let mut all = Vec::new(rt.alloc());
+    match try_over(rt, input, &mut all) {
+        Ok(()) => tell_over(rt, json, &[], &all, output),
+        Err(status) => status,
+    }
 }
 
-/// Tells the situations of the trace on standard input, or in the file of this name.
-pub(crate) fn cover(rt: &HostRuntime, json: bool, name: Option<String>) -> u8 {
+/// Reports the situations of the traces in the files of these names. Writes nothing if one of them can't be opened or
+/// read.
+fn cover_files<W: Write>(rt: &HostRuntime, json: bool, names: &[String], output: &mut W) -> u8
+    ensures { EndsCoveredIn json names.now (W.contents output.old) (W.contents output.new) result }
+{
+    let mut all = Vec::new(rt.alloc());
+    match try_files(rt, names, &mut all) {
+        Ok(()) => tell_over(rt, json, names, &all, output),
+        Err(status) => status,
+    }
+}
+
+/// Reports the situations of the traces in the files of these names, or of the one on standard input if there is no
+/// name.
+pub(crate) fn cover(rt: &HostRuntime, json: bool, names: &[String]) -> u8 {
     let mut output = io::writer(rt);
-    match name {
-        None => cover_over(rt, json, &mut rt.reader(), &mut output),
-        Some(name) => match fs::open(rt, name.as_str()) {
-            Ok(mut file) => cover_over(rt, json, &mut file, &mut output),
-            Err(_) => unopened(rt, name.as_str()),
-        },
+    if names.is_empty() {
+        cover_over(rt, json, &mut rt.reader(), &mut output)
+    } else {
+        cover_files(rt, json, names, &mut output)
     }
 }

@@ -1,4 +1,4 @@
-//! Says why a header that names early answers is at fault where all links are judged together.
+//! Says why a header that names early answers is at fault if all links are judged together.
 
 ghost use Rattle.std.specs.Prelude.{◌≡◌};
 
@@ -9,11 +9,12 @@ use tl_engine::malformed::fetch;
 use tl_engine::output::write_early;
 use tl_engine::trace_judge::names_early;
 use tl_params::liberties::Liberties;
+use tl_wide_lines::header::wide_names_early;
 
-/// How many bytes of a first line are looked at.
+/// The number of bytes of a first line that are read.
 const LOOKED_AT: usize = 257;
 
-/// The first line of what a reader gives, or its first 257 bytes; less where they can't be read.
+/// The first line of a reader's input, or its first 257 bytes; less if they can't be read.
 pub fn front_of<R: Read>(reader: &mut R) -> ArrayVec<u8, LOOKED_AT> {
     let mut front = ArrayVec::new();
     let mut byte = [0u8];
@@ -29,18 +30,18 @@ pub fn front_of<R: Read>(reader: &mut R) -> ArrayVec<u8, LOOKED_AT> {
     front
 }
 
-/// Says on standard error that the first line of a trace, which is at fault by this exit status, names early answers.
-/// Answers that status.
+/// If this exit status is 1 and this first line is a header whose links may answer early, says so on standard error.
+/// Returns the status.
 pub fn tell_early(rt: &HostRuntime, allow: Liberties, line: &[u8], status: u8) -> u8
     ensures { result ≡ status }
 {
-    if status == 1 && names_early(allow, line) {
+    if status == 1 && (names_early(allow, line) || wide_names_early(allow, line)) {
         let _ = write_early(&mut rt.stderr());
     }
     status
 }
 
-/// The same of the trace in the file of this name, where all its links were judged together.
+/// The same for the trace in the file of this name, if all its links were judged together.
 pub fn tell_early_in(
     rt: &HostRuntime,
     together: bool,

@@ -7,10 +7,13 @@ ghost use Rattle.tltool.specs.Ended.{EndsAllowed, EndsAs, EndsCharted, EndsDrawn
 ghost use Rattle.tltool.specs.Ended.{explain_status};
 
 mod cover;
+mod decode;
 mod early;
 mod report;
+mod unread;
 
 use cover::cover;
+use decode::decode;
 use early::{front_of, tell_early, tell_early_in};
 use report::report;
 use std::fs::File;
@@ -34,9 +37,11 @@ use tl_links::run::run_links;
 use tl_params::liberties::Liberties;
 use tl_random::schedule::write_schedule;
 use tl_report::find::find_all;
+use tl_wide_lines::run::run_trace;
 use tl_words::words::{WordsFault, invocation, usage_status};
+use unread::{tell_unread, tell_unread_in};
 
-/// The exit status of a run, whose fault is told on standard error.
+/// The exit status of a run. Its fault is printed on standard error.
 pub(crate) fn told(rt: &HostRuntime, outcome: Result<Status, ToolFault>) -> u8
     ensures { result ≡ exit_status outcome }
 {
@@ -46,7 +51,7 @@ pub(crate) fn told(rt: &HostRuntime, outcome: Result<Status, ToolFault>) -> u8
     exit_of(&outcome)
 }
 
-/// The exit status of a usage, whose text was printed or couldn't be.
+/// The exit status of a usage text, which was printed or couldn't be.
 fn printed(rt: &HostRuntime, status: u8, printing: io::Result<()>) -> u8
     ensures ok { OnOk printing (result ≡ status) }
     ensures err { OnErr printing (result ≡ exit_status (Err ToolFault.Write)) }
@@ -57,7 +62,7 @@ fn printed(rt: &HostRuntime, status: u8, printing: io::Result<()>) -> u8
     }
 }
 
-/// The exit status where the words give no command, which is told.
+/// The exit status if the words give no command. The fault or the usage text is printed.
 fn refused(rt: &HostRuntime, fault: WordsFault) -> u8
     ensures { IsRefused fault result }
 {
@@ -67,8 +72,8 @@ fn refused(rt: &HostRuntime, fault: WordsFault) -> u8
     }
 }
 
-/// Runs a command over an input. `monitor`, `coherent` and `explain` allow links this besides what the header names; of
-/// `explain` it is the first line that is written.
+/// Runs a command over an input, and returns the exit status. For `monitor`, `coherent` and `explain` these liberties
+/// are allowed beyond those that the header names. For `explain` only the verdict is written.
 fn run_over<R: Read, W: Write>(
     rt: &HostRuntime,
     command: Command,
@@ -80,8 +85,8 @@ fn run_over<R: Read, W: Write>(
         (W.contents output.new) result }
 {
     match command {
-        Command::Monitor => told(rt, run_links(rt.alloc(), false, allow, input, output)),
-        Command::Coherent => told(rt, run_links(rt.alloc(), true, allow, input, output)),
+        Command::Monitor => told(rt, run_trace(rt.alloc(), false, allow, input, output)),
+        Command::Coherent => told(rt, run_trace(rt.alloc(), true, allow, input, output)),
         Command::Explain { coherent } => {
             told(rt, run_links(rt.alloc(), coherent, allow, input, output))
         }
@@ -89,7 +94,7 @@ fn run_over<R: Read, W: Write>(
     }
 }
 
-/// Says on standard error that a file can't be opened. Answers the exit status.
+/// Says on standard error that a file can't be opened. Returns the exit status.
 pub(crate) fn unopened(rt: &HostRuntime, name: &str) -> u8
     ensures { result ≡ exit_status (Err ToolFault.Read) }
 {
@@ -97,7 +102,7 @@ pub(crate) fn unopened(rt: &HostRuntime, name: &str) -> u8
     exit_of(&Err(ToolFault::Read))
 }
 
-/// Runs a command over the file of this name, or tells that it couldn't be opened.
+/// Runs a command over the file of this name, or says that it can't be opened. Returns the exit status.
 fn run_file<R: Read + Drop, W: Write>(
     rt: &HostRuntime,
     command: Command,
@@ -116,7 +121,8 @@ fn run_file<R: Read + Drop, W: Write>(
     }
 }
 
-/// Writes what is said of the rule or fault of this name, or that there is no such file.
+/// Writes the explanation of the rule or fault of this name, or says that there is no such file. Returns the exit
+/// status.
 fn explain_name(rt: &HostRuntime, name: &str) -> u8 {
     let mut text = Vec::new(rt.alloc());
     match tell_named(name, &mut text) {
@@ -129,8 +135,8 @@ fn explain_name(rt: &HostRuntime, name: &str) -> u8 {
     }
 }
 
-/// Whether a file gives its bytes once, as a pipe or a terminal does: neither a file of a disk nor a
-/// directory, whose reading fails.
+/// Whether a file can be read only once, such as a pipe or a terminal. A file on a disk can't, nor a directory, whose
+/// reading fails.
 fn is_read_once(file: &File) -> bool {
     match file.metadata() {
         Ok(metadata) => !metadata.is_file() && !metadata.is_dir(),
@@ -138,7 +144,7 @@ fn is_read_once(file: &File) -> bool {
     }
 }
 
-/// The exit status of an explanation, whose fault is told on standard error.
+/// The exit status of an explanation. Its fault is printed on standard error.
 fn told_explained(rt: &HostRuntime, name: &str, outcome: Result<Status, ExplainFault>) -> u8
     ensures { result ≡ explain_status outcome }
 {
@@ -152,7 +158,8 @@ fn told_explained(rt: &HostRuntime, name: &str, outcome: Result<Status, ExplainF
     }
 }
 
-/// Explains a file of this name, of which these are two readers, where links may do this besides what its header names.
+/// Explains the file of this name, of which these are two readers. These liberties are allowed beyond those that its
+/// header names. Returns the exit status.
 fn explain_over<R: Read, S: Read, W: Write>(
     rt: &HostRuntime,
     coherent: bool,
@@ -169,7 +176,8 @@ fn explain_over<R: Read, S: Read, W: Write>(
     told_explained(rt, name, outcome)
 }
 
-/// Writes behind an explanation, whose exit status this is, which liberties beside these would allow what it found.
+/// Writes, after an explanation with this exit status, the further liberties that would allow the beat at fault.
+/// Returns the exit status.
 fn allow_over<R: Read, W: Write>(
     rt: &HostRuntime,
     explained: u8,
@@ -190,8 +198,8 @@ fn allow_over<R: Read, W: Write>(
     }
 }
 
-/// Explains the file of this name, or the rule or fault where there is no such file. Links may do this besides what its
-/// header names.
+/// Explains the file of this name, or the rule or fault of this name if there is no such file. These liberties are
+/// allowed beyond those that the header names. Returns the exit status.
 fn explain(rt: &HostRuntime, coherent: bool, allow: Liberties, name: &str) -> u8 {
     let Ok(mut first) = fs::open(rt, name) else {
         return explain_name(rt, name);
@@ -213,6 +221,7 @@ fn explain(rt: &HostRuntime, coherent: bool, allow: Liberties, name: &str) -> u8
         &mut second,
         &mut output,
     );
+    let explained = tell_unread_in(rt, name, explained);
     if coherent || explained != 1 {
         return explained;
     }
@@ -222,7 +231,7 @@ fn explain(rt: &HostRuntime, coherent: bool, allow: Liberties, name: &str) -> u8
     }
 }
 
-/// Runs a command over standard input, or over the file of this name.
+/// Runs a command over standard input, or over the file of this name. Returns the exit status.
 fn read(rt: &HostRuntime, command: Command, allow: Liberties, name: Option<String>) -> u8 {
     let mut output = io::writer(rt);
     match (command, name) {
@@ -249,7 +258,7 @@ fn read(rt: &HostRuntime, command: Command, allow: Liberties, name: Option<Strin
     }
 }
 
-/// Writes a random schedule.
+/// Writes a random schedule, and returns the exit status.
 fn draw<W: Write>(rt: &HostRuntime, options: &Options, output: &mut W) -> u8
     ensures { EndsDrawn options.now (W.contents output.old) (W.contents output.new) result }
 {
@@ -257,7 +266,8 @@ fn draw<W: Write>(rt: &HostRuntime, options: &Options, output: &mut W) -> u8
     told(rt, written.map(|_| Status::Clean))
 }
 
-/// Draws what a reader gives, where links may do this besides what the header names.
+/// Draws the input of a reader, and returns the exit status. These liberties are allowed beyond those that the header
+/// names.
 fn chart_over<R: Read, W: Write>(
     rt: &HostRuntime,
     allow: Liberties,
@@ -271,21 +281,30 @@ fn chart_over<R: Read, W: Write>(
     told(rt, chart_input(rt.alloc(), allow, window, input, output))
 }
 
-/// Draws a chart of the trace on standard input, or in the file of this name. Links may do this besides what its header
-/// names.
+/// Draws a chart of the trace on standard input, or in the file of this name. These liberties are allowed beyond those
+/// that the header names. Returns the exit status.
 fn chart(rt: &HostRuntime, range: Range, allow: Liberties, name: Option<String>) -> u8 {
     let window = window_of(range);
     let mut output = io::writer(rt);
     match name {
-        None => chart_over(rt, allow, window, &mut rt.reader(), &mut output),
+        None => {
+            let mut input = rt.reader();
+            let front = front_of(&mut input);
+            let mut whole = front.as_slice().chain(input);
+            let status = chart_over(rt, allow, window, &mut whole, &mut output);
+            tell_unread(rt, front.as_slice(), status)
+        }
         Some(name) => match fs::open(rt, name.as_str()) {
-            Ok(mut file) => chart_over(rt, allow, window, &mut file, &mut output),
+            Ok(mut file) => {
+                let status = chart_over(rt, allow, window, &mut file, &mut output);
+                tell_unread_in(rt, name.as_str(), status)
+            }
             Err(_) => unopened(rt, name.as_str()),
         },
     }
 }
 
-/// Writes what is found in what a reader gives.
+/// Writes the lines at fault of a reader's input, and returns the exit status.
 fn find_over<R: Read, W: Write>(rt: &HostRuntime, aim: Aim, input: &mut R, output: &mut W) -> u8
     ensures { EndsFound aim (R.remaining input.old) (R.remaining input.new) (W.contents output.old)
         (W.contents output.new) result }
@@ -293,21 +312,26 @@ fn find_over<R: Read, W: Write>(rt: &HostRuntime, aim: Aim, input: &mut R, outpu
     told(rt, find_all(rt.alloc(), aim, input, output))
 }
 
-/// Finds the lines at fault of the trace on standard input, or in the file of this name.
+/// Finds the lines at fault of the trace on standard input, or in the file of this name. Returns the exit status.
 fn find(rt: &HostRuntime, aim: Aim, name: Option<String>) -> u8 {
     let mut output = io::writer(rt);
     match name {
-        None if aim.together => {
+        None => {
             let mut input = rt.reader();
             let front = front_of(&mut input);
             let mut whole = front.as_slice().chain(input);
             let status = find_over(rt, aim, &mut whole, &mut output);
-            tell_early(rt, aim.allow, front.as_slice(), status)
+            let status = tell_unread(rt, front.as_slice(), status);
+            if aim.together {
+                tell_early(rt, aim.allow, front.as_slice(), status)
+            } else {
+                status
+            }
         }
-        None => find_over(rt, aim, &mut rt.reader(), &mut output),
         Some(name) => match fs::open(rt, name.as_str()) {
             Ok(mut file) => {
                 let status = find_over(rt, aim, &mut file, &mut output);
+                let status = tell_unread_in(rt, name.as_str(), status);
                 tell_early_in(rt, aim.together, aim.allow, name.as_str(), status)
             }
             Err(_) => unopened(rt, name.as_str()),
@@ -315,7 +339,7 @@ fn find(rt: &HostRuntime, aim: Aim, name: Option<String>) -> u8 {
     }
 }
 
-/// Does what the words of the program ask for.
+/// Carries out the task of the program's words, and returns the exit status.
 fn run(rt: &HostRuntime, task: Task) -> u8 {
     match task {
         Task::Read {
@@ -323,6 +347,7 @@ fn run(rt: &HostRuntime, task: Task) -> u8 {
             allow,
             file,
         } => read(rt, command, allow, file),
+        Task::DecodeWide { width, file } => decode(rt, width, file),
         Task::Search { aim, file } => find(rt, aim, file),
         Task::Report {
             inquiry,
@@ -331,7 +356,7 @@ fn run(rt: &HostRuntime, task: Task) -> u8 {
             junit,
         } => report(rt, inquiry, file, json, junit),
         Task::Chart { range, allow, file } => chart(rt, range, allow, file),
-        Task::Cover { json, file } => cover(rt, json, file),
+        Task::Cover { json, files } => cover(rt, json, files.as_slice()),
         Task::Draw { options } => draw(rt, &options, &mut io::writer(rt)),
     }
 }

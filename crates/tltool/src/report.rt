@@ -1,9 +1,10 @@
-//! Judges a trace, and writes files with its report.
+//! Judges a trace, and writes its report into files.
 
 ghost use Rattle.std.specs.Prelude.{◌≡◌, ℕ, IfOk, List, OnErr, Option, false};
 ghost use Rattle.tltool.specs.Reported.{EndsJudged, EndsReported, status_reported};
 
 use crate::early::{front_of, tell_early, tell_early_in};
+use crate::unread::{tell_unread, tell_unread_in};
 use crate::{told, unopened};
 use std::io::{Read, Write};
 use std::{fs, io};
@@ -15,7 +16,7 @@ use tl_sign_off::account::Account;
 use tl_sign_off::form::Form;
 use tl_sign_off::tell::{tell_verdict, write_report};
 
-/// Judges what a reader gives, and writes the verdict.
+/// Judges the input of a reader, and writes the verdict.
 fn judge_over<R: Read, W: Write>(
     rt: &HostRuntime,
     inquiry: Inquiry,
@@ -28,7 +29,7 @@ fn judge_over<R: Read, W: Write>(
     tell_verdict(rt.alloc(), inquiry, input, output)
 }
 
-/// Writes a report, or tells why it couldn't. Answers whether it did.
+/// Writes a report, or prints the fault. Returns whether it was written.
 fn report_over<W: Write>(rt: &HostRuntime, form: Form, account: &Account, output: &mut W) -> bool
     ensures { EndsReported form account.now (W.contents output.old) (W.contents output.new) result }
 {
@@ -41,7 +42,7 @@ fn report_over<W: Write>(rt: &HostRuntime, form: Form, account: &Account, output
     }
 }
 
-/// Writes a report into the file of this name, or tells that it couldn't be opened. Answers whether it did.
+/// Writes a report into the file of this name, or says that it can't be opened. Returns whether it was written.
 fn write_to<W: Write + Drop>(
     rt: &HostRuntime,
     form: Form,
@@ -62,7 +63,7 @@ fn write_to<W: Write + Drop>(
     }
 }
 
-/// Writes a report where a file is named for it. Answers whether none is left to be written.
+/// Writes a report if a file is named for it. Returns false if it couldn't be written.
 fn write_named(rt: &HostRuntime, form: Form, account: &Account, name: Option<String>) -> bool {
     match name {
         None => true,
@@ -73,7 +74,7 @@ fn write_named(rt: &HostRuntime, form: Form, account: &Account, name: Option<Str
     }
 }
 
-/// The exit status behind the verdict, where the reports were written or not.
+/// The exit status after the verdict: 3 if a report couldn't be written.
 fn status_reported(findings: &Findings, written: bool) -> u8
     ensures { result ≡ status_reported findings.now.faults.items written }
 {
@@ -84,7 +85,7 @@ fn status_reported(findings: &Findings, written: bool) -> u8
     }
 }
 
-/// Judges the trace in the file of this name.
+/// Judges the trace in the file of this name. The error is the exit status.
 fn judge_file(rt: &HostRuntime, inquiry: Inquiry, name: &str) -> Result<Account, u8> {
     let Ok(mut input) = fs::open(rt, name) else {
         return Err(unopened(rt, name));
@@ -92,28 +93,24 @@ fn judge_file(rt: &HostRuntime, inquiry: Inquiry, name: &str) -> Result<Account,
     match judge_over(rt, inquiry, &mut input, &mut io::writer(rt)) {
         Ok(account) => {
             let aim = inquiry.aim;
-            tell_early_in(
-                rt,
-                aim.together,
-                aim.allow,
-                name,
-                status_reported(&account.findings, true),
-            );
+            let status = tell_unread_in(rt, name, status_reported(&account.findings, true));
+            tell_early_in(rt, aim.together, aim.allow, name, status);
             Ok(account)
         }
         Err(fault) => Err(told(rt, Err(fault))),
     }
 }
 
-/// Judges the trace on standard input.
+/// Judges the trace on standard input. The error is the exit status.
 fn judge_input(rt: &HostRuntime, inquiry: Inquiry) -> Result<Account, u8> {
     let mut input = rt.reader();
     let front = front_of(&mut input);
     let mut whole = front.as_slice().chain(input);
     match judge_over(rt, inquiry, &mut whole, &mut io::writer(rt)) {
         Ok(account) => {
+            let status = status_reported(&account.findings, true);
+            let status = tell_unread(rt, front.as_slice(), status);
             if inquiry.aim.together {
-                let status = status_reported(&account.findings, true);
                 tell_early(rt, inquiry.aim.allow, front.as_slice(), status);
             }
             Ok(account)
@@ -122,7 +119,7 @@ fn judge_input(rt: &HostRuntime, inquiry: Inquiry) -> Result<Account, u8> {
     }
 }
 
-/// Judges the trace on standard input, or in the file of this name.
+/// Judges the trace on standard input, or in the file of this name. The error is the exit status.
 fn judge(rt: &HostRuntime, inquiry: Inquiry, file: Option<String>) -> Result<Account, u8> {
     match file {
         None => judge_input(rt, inquiry),
@@ -130,8 +127,8 @@ fn judge(rt: &HostRuntime, inquiry: Inquiry, file: Option<String>) -> Result<Acc
     }
 }
 
-/// Judges the trace on standard input, or in the file of this name, and writes its report in each form for which a file is
-/// named.
+/// Judges the trace on standard input, or in the file of this name, and writes its report in each form for which a file
+/// is named. Returns the exit status.
 pub fn report(
     rt: &HostRuntime,
     inquiry: Inquiry,

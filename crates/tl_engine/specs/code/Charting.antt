@@ -33,8 +33,8 @@ pub record IsBegun {w : ℕ} (c : Charting w) (levels : List Level) (may : Liber
   pub unfaulted : c.fault ≡ None
   pub number : c.count ≡ 1
 
--- These lines, a header and beats that aren't at fault, are judged with this text so far, where this is allowed besides,
--- and drawn so that what follows is drawn behind it; their beats are known and gathered.
+-- These lines, a header and beats that aren't at fault, are judged with this text so far, if these further liberties
+-- are allowed, and drawn so that what follows is drawn after it; their beats are known and gathered.
 pub record KnowsCharting {w : ℕ} (allow : Liberties) (c : Charting w) (lines : List (List ℕ)) (text : List ℕ) : Type 0
   where
     pub levels : List Level
@@ -99,7 +99,7 @@ EndsJudge allow j lines = Draws allow (gatherer_in j).window lines (drawn_of (ga
 abbrev pub EndsChart : ChartLines → List (List ℕ) → Type 0
 EndsChart h lines = EndsJudge h.allow h.judge lines
 
--- what the first line begins: a judge that knows the header, or none where it is no header
+-- what the first line begins: a judge that knows the header, or none if it is no header
 abbrev pub BeginsChart : Liberties → List ℕ → Option ChartJudge → Type 0
 BeginsChart allow line None =
     (width : Width) (may : Liberties) (levels : List Level) → ¬ NamesAllowed allow line width may levels

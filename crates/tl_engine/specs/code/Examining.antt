@@ -10,6 +10,6 @@ pub record KnowsExaminer (e : Examiner) (lines : List (List ℕ)) (text : List �
   pub traced : KnowsTraced e.link_lines lines
   pub unfound : e.found.now.fault ≡ None
 
--- what it has where one of these lines is at fault
+-- what it has if one of these lines is at fault
 abbrev pub EndsExaminer : Examiner → List (List ℕ) → Type 0
 EndsExaminer e lines = FindsBlock e.link_lines.allow e.found.now lines

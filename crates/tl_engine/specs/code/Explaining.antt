@@ -12,7 +12,7 @@ use Rattle.tl_engine.specs.declared.status.Status.TheVariants.{Clean, Broken}
 use Rattle.tl_engine.specs.statement.Explained.{ExplainsFault}
 use Rattle.tl_engine.specs.statement.Fault.{fault_text}
 
--- what the line behind a header and the good lines is at fault for
+-- what the line after a header and the good lines is at fault for
 abbrev pub fault_behind : Option (Fault × Spelling) → Fault
 fault_behind None = Line F1
 fault_behind (Some fault) = fault.0
@@ -25,19 +25,19 @@ fault_in (Some header) fault = fault_behind fault
 abbrev pub fault_of : Found → Fault
 fault_of found = fault_in found.header found.fault
 
--- the verdict is that of what was found
+-- the verdict is the one that was found
 abbrev pub IsVerdict : Found → Status → List ℕ → Type 0
 IsVerdict found Clean verdict = ⊤
 IsVerdict found Broken verdict = verdict ≡ fault_text (found.good + 1) (fault_of found)
 
--- what was read, and the text behind the verdict, explain what was found behind a header
+-- what was read, and the text after the verdict, explain what was found after a header
 abbrev pub ExplainsFound : Liberties → Option (List ℕ) → Option (List ℕ) → ℕ → Option (Fault × Spelling) → List ℕ
     → Status → Type 0
 ExplainsFound allow old new good fault reasons Clean = ⊤
 ExplainsFound allow old new good fault reasons Broken =
     ExplainsFault allow old new (good + 1) reasons (fault_behind fault)
 
--- what was read, and the text behind the verdict, explain what was found
+-- what was read, and the text after the verdict, explain what was found
 abbrev pub ExplainsStatus : Liberties → Option (List ℕ) → Option (List ℕ) → Found → List ℕ → Status → Type 0
 ExplainsStatus allow old new found reasons Clean = ⊤
 ExplainsStatus allow old new found reasons Broken =

@@ -1,5 +1,5 @@
--- Why a run was given up, as far as what was read and written shows it. `so_far` has the text of lines of
--- which none is at fault, before the end of the input.
+-- Why a run was given up, as far as its input and output show it. `so_far` has the text of lines without a fault,
+-- before the end of the input.
 use Rattle.std.specs.Prelude.{◌≡◌, ◌⊎◌, ℕ, List, [], ◌++◌, Option, take}
 use Rattle.std.specs.Io.KnownBytes.{IsAtEnd, Consumes, Appends}
 use Rattle.tl_engine.specs.declared.lines.Lines.{Lines}
@@ -27,7 +27,7 @@ IsOwed so_far tells left read text =
     ⊎ ((status : Status) × tells (lines_of read) text status × EndsAs tells left read text status)
 
 -- A piece was given up: for want of memory, before anything was written for it; for want of a number for a
--- line; or for a writer, where some of what was to be written is left. The piece is empty at the end alone.
+-- line; or for a writer, if a part of the text is left to write. The piece is empty at the end alone.
 abbrev pub GivesUpPiece : {H : Type 0} → (H → List (List ℕ) → List ℕ → Type 0)
     → (List (List ℕ) → List ℕ → Status → Type 0) → Lines H → List ℕ → Option (List ℕ) → Option (List ℕ) → ToolFault
     → Type 0
@@ -42,7 +42,7 @@ GivesUpPiece knows tells state piece held holds Write =
 
 -- A run was given up for this. `Memory`: the text of the lines that had ended before the last piece was written;
 -- the piece is there, or the end, or nothing was read. `Read`: the text of all lines that have ended was written,
--- or no number is left. `Write`: some of what was to be written is left.
+-- or no number is left. `Write`: a part of the text is left to write.
 abbrev pub GivesUpFor : (List (List ℕ) → List ℕ → Type 0) → (List (List ℕ) → List ℕ → Status → Type 0)
     → Option (List ℕ) → Option (List ℕ) → Option (List ℕ) → Option (List ℕ) → ToolFault → Type 0
 GivesUpFor so_far tells had left held holds Memory =

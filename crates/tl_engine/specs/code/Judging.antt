@@ -1,5 +1,5 @@
 -- What a handler's answers mean. `knows` and `tells` are those of its trait, `was` and `is` the text
--- appended before and after a call, behind a text `before` that has been written already.
+-- appended before and after a call, after a text `before` that has been written already.
 use Rattle.std.specs.Prelude.{◌≡◌, ℕ, ◌+◌, List, [], ◌∷◌, ◌++◌, length, Option, Some, None}
 use Rattle.tl_engine.specs.declared.fault.Fault.{Fault}
 use Rattle.tl_engine.specs.declared.status.Status.{Status}
@@ -20,14 +20,14 @@ Stops knows tells handler line was is fault =
     → (more : List (List ℕ)) → tells (lines ++ line ∷ more) (before ++ (is ++ fault_text (length lines + 1) fault))
     Broken
 
--- what a handler has where this line is at fault, whatever follows it; `ends` is that of its trait
+-- what a handler has if this line is at fault, whatever follows it; `ends` is that of its trait
 abbrev pub Ends : {H : Type 0} → (H → List (List ℕ) → List ℕ → Type 0) → (H → List (List ℕ) → Type 0) → H → H → List ℕ
     → Type 0
 Ends knows ends old new line =
     (lines : List (List ℕ)) (text : List ℕ) → knows old lines text → (more : List (List ℕ))
     → ends new (lines ++ line ∷ more)
 
--- what a handler has where a line is missing behind these
+-- what a handler has if a line is missing after these
 abbrev pub EndsHere : {H : Type 0} → (H → List (List ℕ) → List ℕ → Type 0) → (H → List (List ℕ) → Type 0) → H → Type 0
 EndsHere knows ends handler = (lines : List (List ℕ)) (text : List ℕ) → knows handler lines text → ends handler lines
 

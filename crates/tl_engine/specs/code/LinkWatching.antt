@@ -17,7 +17,7 @@ use Rattle.tl_params.specs.declared.liberties.Liberties.{Liberties}
 use Rattle.tl_params.specs.declared.width.Width.{Width}
 use Rattle.tl_rules.specs.statement.Conformance.{Trace}
 
--- what a judge that knows a trace says of the next line: the line spells a beat that isn't at fault, and the judge knows
+-- the answer of a judge that knows a trace to the next line: its beat isn't at fault, and the judge knows
 -- the longer trace, or the line is at fault, and the judge knows the trace as before
 abbrev pub Watches : {w : ℕ} → Bool → TraceJudge w → TraceJudge w → List ℕ → Option Fault → Type 0
 Watches {w} together old new line None =
@@ -29,19 +29,19 @@ Watches {w} together old new line (Some fault) =
     (levels : List Level) (may : Liberties) (t : Trace w) → KnowsBeats together old levels may t
     → IsAtFault (faults_by together) levels may t line fault × KnowsBeats together new levels may t
 
--- these lines, a header and beats that aren't at fault, are judged with this text so far; this is allowed besides
+-- these lines, a header and beats that aren't at fault, are judged with this text so far, under these further liberties
 abbrev pub KnowsTrace : {w : ℕ} → Bool → Liberties → TraceJudge w → List (List ℕ) → List ℕ → Type 0
 KnowsTrace together allow judge =
     KnowsTraceOf (KnowsBeats together judge) (heads_by together allow) (faults_by together) (said_by together)
 
--- after these lines, of which none was at fault, this text has been appended
+-- after these lines without a fault, this text has been appended
 abbrev pub KnowsJudge : Bool → Liberties → LinkJudge → List (List ℕ) → List ℕ → Type 0
 KnowsJudge together allow (Waiting alloc) lines text = (lines ≡ []) × (text ≡ [])
 KnowsJudge together allow (Four judge) lines text = KnowsTrace together allow judge lines text
 KnowsJudge together allow (Eight judge) lines text = KnowsTrace together allow judge lines text
 KnowsJudge together allow (Sixteen judge) lines text = KnowsTrace together allow judge lines text
 
--- whether the links are judged together, and what they are allowed besides
+-- whether the links are judged together, and their further liberties
 abbrev pub judged_for : LinkLines → Bool × Liberties
 judged_for h = (h.together, h.allow)
 

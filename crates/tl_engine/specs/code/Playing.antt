@@ -24,21 +24,21 @@ abbrev pub asked_text : Bool → ℕ → Option Reply → List ℕ
 asked_text false size answer = answer_line size answer
 asked_text true size answer = []
 
--- An event has happened to a world, and what came of it stands behind the text.
+-- An event has happened to a world, and its outcome follows the text.
 abbrev pub Happens : {w : ℕ} → Bool → Contained w → Contained w → Event w → List ℕ → List ℕ → Type 0
 Happens {w} trace old new event was is =
     (config : Config) (log : Log w) → HasHappened config old log
     → (is ≡ was ++ event_text trace event (outcome_after config log event))
     × HasHappened config new ((event, outcome_after config log event) ∷ log)
 
--- What is outstanding was delivered, each delivery the next one, and the text has what came of each.
+-- All outstanding beats were delivered, each delivery the next one, and the text has their outcomes.
 abbrev pub Drains : {w : ℕ} → Bool → Contained w → Contained w → List ℕ → List ℕ → ℕ → Type 0
 Drains {w} trace old new was is n =
     (config : Config) (log : Log w) → HasHappened config old log
     → IsDrained config log n × (is ≡ was ++ deliveries_text trace config n log)
     × HasHappened config new (drained config n log)
 
--- What is said was played.
+-- The event of the line was run.
 abbrev pub PlaysOn : {w : ℕ} → Bool → Contained w → Contained w → Line w → List ℕ → List ℕ → Type 0
 PlaysOn {w} trace old new said was is =
     (config : Config) (log : Log w) → HasHappened config old log
@@ -53,7 +53,7 @@ PlaysLine {w} trace old new line was is (Some fault) = ((said : Line w) → ¬ S
     × (fault ≡ NoEvent (event_fault line)) × (is ≡ was)
 
 -- These lines, a header and what has happened, are played with this text so far, so that what follows is
--- played behind it.
+-- played after it.
 pub record KnowsPlay {w : ℕ} (trace : Bool) (world : Contained w) (lines : List (List ℕ)) (text : List ℕ) : Type 0 where
   pub config : Config
   pub log : Log w
@@ -66,14 +66,14 @@ pub record KnowsPlay {w : ℕ} (trace : Bool) (world : Contained w) (lines : Lis
 abbrev pub is_trace : ℕ → Bool
 is_trace n = n == 1
 
--- after these lines, of which none was at fault, this text has been appended
+-- after these lines without a fault, this text has been appended
 abbrev pub KnowsSchedule : {n : ℕ} → RunLines n → List (List ℕ) → List ℕ → Type 0
 KnowsSchedule (Waiting alloc) lines text = (lines ≡ []) × (text ≡ [])
 KnowsSchedule {n} (Four world) lines text = KnowsPlay (is_trace n) world lines text
 KnowsSchedule {n} (Eight world) lines text = KnowsPlay (is_trace n) world lines text
 KnowsSchedule {n} (Sixteen world) lines text = KnowsPlay (is_trace n) world lines text
 
--- what the first line begins: a handler that knows the header, whose text was appended, or none where
+-- what the first line begins: a handler that knows the header, whose text was appended, or none if
 -- it spells no header
 abbrev pub Opens : {n : ℕ} → List ℕ → List ℕ → List ℕ → Option (RunLines n) → Type 0
 Opens line was is None = ((version : Version) (config : Config) → ¬ HeadsSchedule line version config) × (is ≡ was)

@@ -1,5 +1,5 @@
 -- How far an input has been judged. `knows` and `tells` are those of the handler's trait, `was` and
--- `is` the text appended before and after a call, behind a text `before` that has been written already.
+-- `is` the text appended before and after a call, after a text `before` that has been written already.
 use Rattle.std.specs.Prelude.{◌≡◌, ◌≤◌, ◌<◌, ℕ, ◌+◌, List, [], ◌∷◌, ◌++◌, ◌-◌, ◌^◌, ◌⊎◌, length, count_by, ◌==◌, ⊤}
 use Rattle.tl_engine.specs.declared.fault.Fault.{Fault}
 use Rattle.tl_engine.specs.declared.lines.Lines.{Lines}
@@ -59,7 +59,7 @@ Feeds knows tells old new piece was is Broken =
     (read before : List ℕ) → Progress knows old read (before ++ was) → (more : List ℕ)
     → tells (lines_of ((read ++ piece) ++ more)) (before ++ is) Broken
 
--- The line at fault is the rest behind the last LF of the input: it has no LF and fewer than 256 bytes,
+-- The line at fault is the rest after the last LF of the input: it has no LF and fewer than 256 bytes,
 -- so that what follows could mend it, or it isn't there.
 pub record StopsAtRest (read text : List ℕ) : Type 0 where
   pub front : List ℕ
@@ -85,7 +85,7 @@ FinishesInput knows tells state was is Broken =
 abbrev pub GivesUp : ℕ → ToolFault → Type 0
 GivesUp count fault = (fault ≡ Memory) ⊎ ((fault ≡ Read) × (count ≡ 2 ^ 64 - 1))
 
--- no number is left for the line behind these
+-- no number is left for the line after these
 abbrev pub RunsOut : List ℕ → Type 0
 RunsOut read = 2 ^ 64 - 1 ≤ ended_lines read
 
@@ -97,14 +97,14 @@ GivesUpWithin knows state piece was Read =
     (read before : List ℕ) → Progress knows state read (before ++ was) → RunsOut (read ++ piece)
 GivesUpWithin knows state piece was Write = ⊥
 
--- what a handler has where a line of the piece is at fault, whatever follows it
+-- what a handler has if a line of the piece is at fault, whatever follows it
 abbrev pub EndsWithin : {H : Type 0} → (H → List (List ℕ) → List ℕ → Type 0) → (H → List (List ℕ) → Type 0) → Lines H
     → H → List ℕ → List ℕ → Type 0
 EndsWithin knows ends old new piece was =
     (read before : List ℕ) → Progress knows old read (before ++ was) → (more : List ℕ)
     → ends new (lines_of ((read ++ piece) ++ more))
 
--- A handler has been given these lines: it knows them all, or has what it has where one is at fault.
+-- A handler has been given these lines: it knows them all, or has what it has if one is at fault.
 abbrev pub HasAll : {H : Type 0} → (H → List (List ℕ) → List ℕ → Type 0) → (H → List (List ℕ) → Type 0) → H
     → List (List ℕ) → Status → Type 0
 HasAll knows ends handler lines Clean = (text : List ℕ) × knows handler lines text

@@ -17,7 +17,7 @@ Passes knows tells old new piece said Broken =
     (read before : List ℕ) → Progress knows old read before → (more : List ℕ)
     → tells (lines_of ((read ++ piece) ++ more)) (before ++ said) Broken
 
--- a piece was given up, and a beginning of what was to be written for it was written
+-- a piece was given up, and a beginning of its text was written
 abbrev pub FailsAfter : {H : Type 0} → (H → List (List ℕ) → List ℕ → Type 0)
     → (List (List ℕ) → List ℕ → Status → Type 0) → Lines H → List ℕ → Option (List ℕ) → Option (List ℕ) → Type 0
 FailsAfter knows tells state piece held holds =
@@ -31,18 +31,18 @@ EndsAs tells left read text Clean = IsAtEnd left
 EndsAs tells left read text Broken =
     ((more : List ℕ) → tells (lines_of (read ++ more)) text Broken) ⊎ (IsAtEnd left × StopsAtRest read text)
 
--- what a handler has where a line is at fault stands whatever follows it, or the input is at its end
+-- the result of a line at fault stays the same whatever follows it, or the input is at its end
 abbrev pub Stands : {H : Type 0} → (H → List (List ℕ) → Type 0) → Option (List ℕ) → List ℕ → H → Type 0
 Stands ends left read handler = ((more : List ℕ) → ends handler (lines_of (read ++ more))) ⊎ IsAtEnd left
 
--- a run wrote the text of what it had read
+-- a run wrote the text of its input
 abbrev pub RunsTo : (List (List ℕ) → List ℕ → Status → Type 0) → Option (List ℕ) → Option (List ℕ) → Option (List ℕ)
     → Option (List ℕ) → Status → Type 0
 RunsTo tells had left held holds status =
     (read text : List ℕ) × Consumes had left read × Appends held holds text × tells (lines_of read) text status
     × EndsAs tells left read text status
 
--- a run that was given up wrote a beginning of the text of what it had read
+-- a run that was given up wrote a beginning of the text of its input
 abbrev pub FailsAt : (List (List ℕ) → List ℕ → Status → Type 0) → Option (List ℕ) → Option (List ℕ) → Option (List ℕ)
     → Option (List ℕ) → Type 0
 FailsAt tells had left held holds =

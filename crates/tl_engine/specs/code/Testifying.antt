@@ -12,7 +12,7 @@ use Rattle.tl_memory.specs.code.Elsewhere.{block_asked}
 use Rattle.tl_rules.specs.code.Open.{open_request}
 use Rattle.tl_rules.specs.statement.Conformance.{Trace, on_link}
 use Rattle.tl_rules.specs.statement.Liberties.{broken_on_link_under}
-use Rattle.tl_explain.specs.code.Spelled.{spelled}
+use Rattle.tl_explain.specs.statement.Spelled.{spelled}
 use Rattle.tl_explain.specs.declared.told.Spelling.{Spelling}
 use Rattle.tl_explain.specs.statement.Evidence.{next_line}
 use Rattle.tl_together.specs.declared.breach.Breach.TheVariants.{OfMemory}
@@ -37,9 +37,9 @@ use Rattle.tl_engine.specs.declared.trace_judge.TraceJudge.{TraceJudge}
 use Rattle.tl_engine.specs.statement.Explained.{SpellsTrace, memory_front_text}
 use Rattle.tl_engine.specs.statement.LinksHeader.{NamesLinks}
 
--- ---- what is asked
+-- ---- the question
 
--- what no line changes that is heard
+-- the parts that no line changes
 pub record IsSameInquiry (old new : Inquiry) : Type 0 where
   pub rule_is : new.rule ≡ old.rule
   pub block_is : new.block ≡ old.block
@@ -60,19 +60,19 @@ pub record AsksAbout (i : Inquiry) (found : Found) (rule : MemoryRule) (line : S
   pub good_is : i.good ≡ found.good
   pub line_is : i.line ≡ line
 
--- where all could be recorded, it is recorded what each of n links holds after t of the block that is asked about
+-- if all could be recorded, it is recorded what each of n links holds after t of the block that is asked about
 abbrev pub KnowsRecord : {w : ℕ} → Inquiry → ℕ → Trace w → Type 0
 KnowsRecord i n t = IfSome i.witness (λ h. KnowsWitness h n i.block t)
 
 -- ---- one line
 
--- a header was heard, behind which nothing is recorded yet
+-- a header was heard, after which nothing is recorded yet
 pub record HearsHeader (old new : Inquiry) (line : List ℕ) : Type 0 where
   pub same : IsSameInquiry old new
   pub recorded : old.witness ≡ None → (w : ℕ) (width : Width) (own : Liberties) (levels : List Level)
       → NamesLinks line width own levels → KnowsRecord {w = w} new (length levels) []
 
--- a line of this number was heard: where it spells a beat, that is recorded
+-- a line of this number was heard: if it spells a beat, that is recorded
 abbrev pub RecordsBeat : (w : ℕ) → Inquiry → Inquiry → ℕ → List ℕ → Type 0
 RecordsBeat w old new number line =
     (n : ℕ) (t : Trace w) (link : Link) (x : Beat w) → Spells line link x → number ≡ next_line t
@@ -88,7 +88,7 @@ TellsRecorded {w} witness judge rule link y was is =
     → broken_on_link_under may levels (link, beat.D y) t ≡ None
     → is ≡ was ++ grounds_text rule (length levels) link.0 y t
 
--- of a response in the line of this number, after the trace that the judge knows, the text of the definition was told
+-- for a response in the line of this number, after the trace that the judge knows, the definition's text was written
 abbrev pub TellsResponse : {w : ℕ} → Inquiry → Inquiry → Judge w → ℕ → List ℕ → Link → BeatD w → Type 0
 TellsResponse {w} old new judge number line link y =
     (levels : List Level) (may : Liberties) (t : Trace w) → Knows judge levels may t false → KnowsRecord old (length levels) t
@@ -104,7 +104,7 @@ TellsBeat {w} old new judge number line link x =
     → (y : BeatD w) × (x ≡ beat.D y)
     × (new.reasons.items ≡ memory_front_text old.rule number link x ++ grounds_text old.rule (length levels) link.0 y t)
 
--- the line of this number is the one at fault, and of the response that it spells the text of the definition was told
+-- the line of this number is the one at fault, and for its response the text of the definition was written
 pub record TellsFault {w : ℕ} (old new : Inquiry) (judge : TraceJudge w) (number : ℕ) (line : List ℕ) : Type 0 where
   pub is_line : line ≡ spelled old.line
   pub is_next : number ≡ old.good + 1
@@ -115,7 +115,7 @@ pub record TellsFault {w : ℕ} (old new : Inquiry) (judge : TraceJudge w) (numb
       × (new.reasons.items ≡ memory_front_text old.rule number link x
       ++ grounds_text old.rule (length levels) link.0 y t)
 
--- a line behind the header was heard
+-- a line after the header was heard
 pub record HearsLine {w : ℕ} (old new : Inquiry) (judge : TraceJudge w) (number : ℕ) (line : List ℕ) (told : Bool)
     : Type 0 where
   pub same : IsSameInquiry old new
@@ -135,7 +135,7 @@ Hears (Eight old) (Eight new) i j number line told = StillKnows old new × Hears
 Hears (Sixteen old) (Sixteen new) i j number line told = StillKnows old new × HearsLine i j old number line told
 Hears _ _ i j number line told = ⊥
 
--- a line of this number was counted, which was told of or not, and is at fault for this or isn't
+-- a line of this number was counted: it was explained or not, and is at fault for this or isn't
 pub record Concludes (old new : Inquiry) (number : ℕ) (told : Bool) (fault : Option Fault) : Type 0 where
   pub same : IsSameInquiry old new
   pub witness_is : new.witness ≡ old.witness
@@ -165,8 +165,8 @@ pub record KnowsTestimony (h : Testimony) (lines : List (List ℕ)) (text : List
   pub counted : h.inquiry.count ≡ length lines
   pub unreached : h.inquiry.reached ≡ false
 
--- The line at fault stands among these, behind those of a trace. The response that it spells breaks the rule after that
--- trace, and what it rests on was told by the definition.
+-- The line at fault is one of these, after those of a trace. Its response breaks the rule after that
+-- trace, and its reasons were written as the definition has them.
 pub record HasTold (allow : Liberties) (i : Inquiry) (lines : List (List ℕ)) : Type 0 where
   pub before : List (List ℕ)
   pub behind : List (List ℕ)
@@ -184,6 +184,6 @@ pub record HasTold (allow : Liberties) (i : Inquiry) (lines : List (List ℕ)) :
   pub says : i.reasons.items ≡ memory_front_text i.rule (i.good + 1) link (beat.D response)
       ++ grounds_text i.rule (length levels) link.0 response trace
 
--- where the line at fault was reached, it was told of
+-- if the line at fault was reached, it was explained
 abbrev pub EndsTestimony : Testimony → List (List ℕ) → Type 0
 EndsTestimony h lines = h.inquiry.reached ≡ true → HasTold h.link_lines.allow h.inquiry lines

@@ -20,7 +20,7 @@ KnowsBeats false (OfLinks monitor) levels may t = KnowsUnder monitor levels may 
 KnowsBeats true (OfAll judge) levels may t = Knows judge levels may t false
 KnowsBeats _ _ levels may t = ⊥
 
--- what the judge says of a beat behind a trace: it isn't at fault, and the judge knows the longer trace, or it is at fault
+-- the judge's answer to a beat after a trace: it isn't at fault, and the judge knows the longer trace; or it is
 -- for this, and the judge knows the trace as before
 abbrev pub JudgesBeat : {w : ℕ} → Bool → TraceJudge w → List Level → Liberties → Trace w → Link × Beat w → Option Fault
     → Type 0

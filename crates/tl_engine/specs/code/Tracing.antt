@@ -1,4 +1,4 @@
--- What trace the lines spell that were judged, and what is said of the next line behind it.
+-- The trace of the lines that were judged, and the verdict on the next line.
 use Rattle.std.specs.Prelude.{◌≡◌, ◌<◌, ℕ, Bool, true, false, List, [], ◌∷◌, ◌++◌, length, Option}
 use Rattle.std.specs.Prelude.{Some, None, option_map, ⊤}
 use Rattle.tl_beat.specs.declared.beat.Beat.{Beat}
@@ -24,7 +24,7 @@ use Rattle.tl_engine.specs.statement.Explained.{SpellsTrace}
 
 -- ---- the trace
 
--- the judge knows the trace that these lines spell, where this is allowed besides what their header names
+-- the judge knows the trace of these lines, if this is allowed in addition to the liberties that their header names
 pub record KnowsSpelled {w : ℕ} (together : Bool) (allow : Liberties) (judge : TraceJudge w) (lines : List (List ℕ))
     : Type 0 where
   pub levels : List Level
@@ -57,7 +57,7 @@ WatchesLine old new line fault = WatchesBy old.together old.allow old.judge new.
 
 -- ---- the block of the request that a beat answers
 
--- the block is that of the request which the beat of a line answers, behind the trace that a judge knows
+-- the block is that of the request which the beat of a line answers, after the trace that a judge knows
 abbrev pub AnswersIn : {w : ℕ} → Bool → TraceJudge w → List ℕ → Option ℕ → Type 0
 AnswersIn {w} together judge line block =
     (levels : List Level) (may : Liberties) (t : Trace w) (link : Link) (x : Beat w) → KnowsBeats together judge levels may t
@@ -81,7 +81,7 @@ NotesLine old new None block = new.fault ≡ old.fault
 NotesLine old new (Some fault) block =
     (option_map (λ noted. noted.0) new.fault ≡ Some fault) × (needs_block fault ≡ true → new.block ≡ block)
 
--- the block is that of the request which the beat of the line at fault answers; the line stands among these, behind those
+-- the block is that of the request which the beat of the line at fault answers; the line is one of these, after those
 -- of a trace
 pub record IsBlockAnswered (allow : Liberties) (block : Option ℕ) (lines : List (List ℕ)) : Type 0 where
   pub before : List (List ℕ)
@@ -98,7 +98,7 @@ pub record IsBlockAnswered (allow : Liberties) (block : Option ℕ) (lines : Lis
   pub spells : Spells line link beat
   pub block_is : block ≡ block_asked (request_answered beat (on_link link.0 trace))
 
--- where a fault is noted that needs that block, that is the block which was found
+-- if a fault is noted that needs that block, that is the block which was found
 abbrev pub FindsBlock : Liberties → Found → List (List ℕ) → Type 0
 FindsBlock allow found lines = (fault : Fault) (line : Spelling) → found.fault ≡ Some (fault, line)
     → needs_block fault ≡ true → IsBlockAnswered allow found.block lines

@@ -32,7 +32,7 @@ abbrev pub faults_by : Bool → Faults
 faults_by false = faults_of_links
 faults_by true = faults_together
 
--- what is said of the number of beats, where none is at fault
+-- the verdict with the number of beats, if none is at fault
 abbrev pub said_by : Bool → ℕ → List ℕ
 said_by false = clean_text
 said_by true = coherent_text
@@ -42,7 +42,7 @@ abbrev pub word_by : Bool → List ℕ
 word_by false = codes "clean "
 word_by true = codes "coherent "
 
--- the same behind its word
+-- the same after its word
 abbrev pub end_by : Bool → ℕ → List ℕ
 end_by together n = word_by together ++ decimal n ++ codes "\n"
 
@@ -56,7 +56,7 @@ KnowsBeats false (OfLinks monitor) levels p t = of_link.Knows monitor levels p t
 KnowsBeats true (OfAll judge) levels p t = of_all.Knows judge levels (liberties_of p) t false
 KnowsBeats _ _ levels p t = ⊥
 
--- what the judge says of a beat behind a trace: it isn't at fault, and the judge knows the longer trace, or
+-- what the judge says of a beat after a trace: it isn't at fault, and the judge knows the longer trace, or
 -- it is at fault for this, and the judge knows the trace as before
 abbrev pub JudgesBeat : {w : ℕ} → Bool → BeatJudge w → List Level → Profile → Trace w → Link × Beat w → Option Fault
     → Type 0
@@ -78,7 +78,7 @@ Watches {w} together old new line (Some fault) =
     → IsAtFault (faults_by together) levels p t line fault
 
 -- These lines, a header and beats that aren't at fault, are judged with this text so far, so that what
--- follows is judged behind it; the judge knows the beats.
+-- follows is judged after it; the judge knows the beats.
 pub record KnowsTraceOf {May : Type 0} {w : ℕ} (Known : List Level → May → Trace w → Type 0) (heads : Headers May)
     (faults : FaultsOf May) (said : ℕ → List ℕ) (lines : List (List ℕ)) (text : List ℕ) : Type 0 where
   pub levels : List Level
@@ -95,14 +95,14 @@ abbrev pub KnowsTrace : {w : ℕ} → Bool → BeatJudge w → List (List ℕ) �
 KnowsTrace together judge =
     KnowsTraceOf (KnowsBeats together judge) SpellsHeader (faults_by together) (said_by together)
 
--- after these lines, of which none was at fault, this text has been appended
+-- after these lines without a fault, this text has been appended
 abbrev pub KnowsLines : {n : ℕ} → MonitorLines n → List (List ℕ) → List ℕ → Type 0
 KnowsLines (Waiting alloc) lines text = (lines ≡ []) × (text ≡ [])
 KnowsLines {n} (Four judge) lines text = KnowsTrace (is_together n) judge lines text
 KnowsLines {n} (Eight judge) lines text = KnowsTrace (is_together n) judge lines text
 KnowsLines {n} (Sixteen judge) lines text = KnowsTrace (is_together n) judge lines text
 
--- what the first line begins: a handler that knows the header, or none where it spells no header
+-- what the first line begins: a handler that knows the header, or none if it spells no header
 abbrev pub Begins : {n : ℕ} → List ℕ → Option (MonitorLines n) → Type 0
 Begins line None = (width : Width) (p : Profile) (levels : List Level) → ¬ SpellsHeader line width p levels
 Begins line (Some monitor_lines) = KnowsLines monitor_lines (line ∷ []) []

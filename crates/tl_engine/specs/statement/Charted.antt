@@ -1,4 +1,4 @@
--- What `chart` writes of a trace, and why none is written.
+-- The text that `chart` writes of a trace, and its faults.
 use Rattle.std.specs.Prelude.{◌≡◌, ◌⊎◌, ℕ, Bool, true, false, List, [], ◌∷◌, ◌++◌, codes, Option, None, Some}
 use Rattle.std.specs.Io.KnownBytes.{Consumes}
 use Rattle.tl_beat.specs.declared.beat.Beat.{Beat}
@@ -27,7 +27,7 @@ use Rattle.tl_engine.specs.statement.JudgedLinks.{JudgedLinks, faults_under}
 use Rattle.tl_engine.specs.statement.LinksHeader.{NamesAllowed}
 use Rattle.tl_engine.specs.statement.Width.{bytes_of}
 
--- The beat of a line at fault behind those of t as it is drawn: of one that spells none nothing is.
+-- The drawing of the line at fault after the beats of t: its beat, or nothing if it spells none.
 abbrev pub DrawsFault : {w : ℕ} → Window → List Level → Liberties → Trace w → List ℕ → Option Arrow → Type 0
 DrawsFault {w} win levels may t line arrow =
     ((of_line : LineFault) × (line_fault w line ≡ Some of_line) × (arrow ≡ None))
@@ -35,7 +35,7 @@ DrawsFault {w} win levels may t line arrow =
     × (faults_under w levels may (link, beat) t ≡ Some fault)
     × (arrow ≡ fault_drawn (held_under may) win (link, beat) t))
 
--- This is drawn of these lines, behind a header and the beats of t, whose links may do this, in a window: what is of all
+-- The drawing of these lines in a window, after a header of links with these liberties and the beats of t. It has all
 -- beats up to the first line at fault, and the beat of that line.
 unfoldable pub DrawsAfter : {w : ℕ} → Window → List Level → Liberties → Trace w → List (List ℕ) → Drawn → Option Arrow
     → Type 0
@@ -49,8 +49,8 @@ DrawsAfter {w} win levels may t (line ∷ lines) d arrow =
 abbrev pub DrawsNothing : Window → Drawn → Option Arrow → Type 0
 DrawsNothing win d arrow = (d ≡ drawn {w = 4} held win []) × (arrow ≡ None)
 
--- This is drawn of the lines of a whole trace, where its links may do what the header names and what is allowed besides.
--- Where the first line isn't there or is no header nothing is.
+-- The drawing of the lines of a whole trace. Its links have the liberties that the header names and those that are
+-- allowed. Nothing is drawn if the first line is no header or is missing.
 unfoldable pub Draws : Liberties → Window → List (List ℕ) → Drawn → Option Arrow → Type 0
 Draws allow win [] d arrow = DrawsNothing win d arrow
 Draws allow win (line ∷ lines) d arrow =
@@ -71,16 +71,16 @@ IsCharted allow win lines verdict status chart =
     × (verdict ≡ said ++ codes "\n")
     × IsChart win d arrow said (is_broken status) [] chart
 
--- What was read, to its end or to a line at fault that no continuation can mend, has this verdict, that of `monitor` with
--- the same `--allow`, and this chart with it.
+-- The verdict and the chart of the input that was read, to its end or to a line at fault that no continuation can mend.
+-- The verdict is that of `monitor` with the same `--allow`.
 abbrev pub Charts : Liberties → Window → Option (List ℕ) → Option (List ℕ) → Status → List ℕ → Type 0
 Charts allow win had left status chart =
     (read verdict : List ℕ) × Consumes had left read × JudgedLinks false allow (lines_of read) verdict status
     × EndsAs (JudgedLinks false allow) left read verdict status
     × IsCharted allow win (lines_of read) verdict status chart
 
--- A chart was given up for this. But for `Write` nothing was written. `Write`: the trace was judged, and some of the
--- chart is left to be written.
+-- Charting ended with this fault. `Write`: the trace was judged, and the writer took only a front of the chart.
+-- Otherwise nothing was written.
 abbrev pub GivesUpCharting : Liberties → Window → Option (List ℕ) → Option (List ℕ) → Option (List ℕ) → Option (List ℕ)
     → ToolFault → Type 0
 GivesUpCharting allow win had left before after Write =

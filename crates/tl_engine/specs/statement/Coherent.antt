@@ -1,4 +1,4 @@
--- What a trace of all links of a manager is judged, the links together.
+-- The judgement of a trace of all links of a manager together.
 use Rattle.std.specs.Prelude.{ℕ, List, ◌++◌, codes, option_map}
 use Rattle.std.specs.Fmt.{decimal}
 use Rattle.tl_params.specs.statement.Liberties.{liberties_of}
@@ -15,16 +15,16 @@ use Rattle.tl_engine.specs.statement.Trace.{SpellsHeader}
 unfoldable pub coherent_text : ℕ → List ℕ
 coherent_text n = codes "coherent " ++ decimal n ++ codes "\n"
 
--- what a beat is at fault for that breaks this rule
+-- the fault of a beat that breaks this rule
 abbrev pub fault_of_breach : Breach → Fault
 fault_of_breach (OfLink rule) = Breaks rule
 fault_of_breach (OfMemory rule) = MemoryRule rule
 
--- A beat is at fault for the first rule that it breaks after the earlier beats of all links: one of its own
--- link, or, where it breaks none there, one of memory.
+-- A beat is at fault for the first rule that it breaks after the earlier beats of all links. The rules of its own link
+-- come before those of memory.
 abbrev pub faults_together : Faults
 faults_together w levels p x t = option_map fault_of_breach (broken_together levels (liberties_of p) x t)
 
--- a trace is judged so, all its links together
+-- the text and status of a trace that is judged with all links together
 abbrev pub JudgedTogether : List (List ℕ) → List ℕ → Status → Type 0
 JudgedTogether = JudgedBy SpellsHeader faults_together coherent_text

@@ -1,4 +1,4 @@
--- The text that lines decode to, where beats have w bytes.
+-- The text that lines with beats of w bytes decode to.
 use Rattle.std.specs.Prelude.{Bool, ◌==◌, ◌||◌, ◌≡◌, ◌⊎◌, ℕ, ◌+◌, List, [], ◌∷◌, ◌++◌, length, Some}
 use Rattle.tl_beat.specs.declared.beat.Link.{Link}
 use Rattle.tl_beat.specs.declared.beat.Beat.{Beat}
@@ -10,8 +10,8 @@ use Rattle.tl_engine.specs.declared.status.Status.TheVariants.{Clean, Broken}
 use Rattle.tl_engine.specs.statement.Fault.{fault_text}
 use Rattle.tl_explain.specs.statement.Text.{text_of}
 
--- These lines, of which the first has the number n, decode to the text: a readable line for each that
--- spells a beat, and `line N X` for the first at fault, which ends the text whatever follows it.
+-- The text and status of these lines, the first of which has the number n. A line that spells a beat has a readable
+-- line. The first line at fault has `line N X`, which ends the text.
 unfoldable pub Decodes : ℕ → ℕ → List (List ℕ) → List ℕ → Status → Type 0
 Decodes w n [] text status = (text ≡ []) × (status ≡ Clean)
 Decodes w n (line ∷ lines) text status =
@@ -19,16 +19,16 @@ Decodes w n (line ∷ lines) text status =
     × Decodes w (n + 1) lines rest status)
     ⊎ ((fault : LineFault) × (line_fault w line ≡ Some fault) × (text ≡ fault_text n (Line fault)) × (status ≡ Broken))
 
--- the lines of a whole input
+-- the text and status of a whole input
 abbrev pub DecodesTo : ℕ → List (List ℕ) → List ℕ → Status → Type 0
 DecodesTo w lines text status = Decodes w 1 lines text status
 
--- the lines before have no fault and this text, so that what follows decodes behind it
+-- these lines have no fault and this text, and the text of more lines follows it
 abbrev pub DecodesBefore : ℕ → List (List ℕ) → List ℕ → Type 0
 DecodesBefore w lines text =
     (more : List (List ℕ)) (rest : List ℕ) (status : Status) → Decodes w (length lines + 1) more rest status
     → Decodes w 1 (lines ++ more) (text ++ rest) status
 
--- a beat holds 4, 8 or 16 bytes
+-- a beat has 4, 8 or 16 bytes
 abbrev pub is_width : ℕ → Bool
 is_width w = (w == 4) || ((w == 8) || (w == 16))

@@ -4,7 +4,7 @@ use Rattle.tl_engine.specs.declared.status.Status.{Status}
 use Rattle.tl_engine.specs.declared.status.Status.TheVariants.{Clean, Broken}
 use Rattle.tl_engine.specs.declared.status.ToolFault.{ToolFault}
 
--- the status that a command exits with
+-- the exit status of a command: 0 for clean, 1 for a line at fault, 3 if memory, the reader or the writer failed
 abbrev pub exit_status : Result Status ToolFault → ℕ
 exit_status (Ok Clean) = 0
 exit_status (Ok Broken) = 1

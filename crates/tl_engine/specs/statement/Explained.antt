@@ -1,5 +1,5 @@
--- What stands behind the verdict that a beat breaks a rule, where links have liberties.
-use Rattle.std.specs.Prelude.{◌≡◌, ℕ, ◌+◌, Bool, true, false, List, [], ◌∷◌, ◌++◌, length, Option, Some, None, ⊤, codes}
+-- The reasons for the verdict that a beat breaks a rule, on links with liberties.
+use Rattle.std.specs.Prelude.{◌≡◌, ℕ, ◌+◌, Bool, true, false, List, [], ◌∷◌, ◌++◌, length, slice_get, Option, Some, None, ⊤, codes}
 use Rattle.std.specs.Io.KnownBytes.{Consumes}
 use Rattle.tl_beat.specs.declared.beat.Beat.{Beat}
 use Rattle.tl_beat.specs.declared.beat.Beat.TheVariants as beat
@@ -31,14 +31,14 @@ use Rattle.tl_engine.specs.statement.JudgedLinks.{JudgedLinks}
 use Rattle.tl_engine.specs.statement.LinksHeader.{NamesAllowed}
 use Rattle.tl_engine.specs.statement.Width.{bytes_of}
 
--- the lines spell the beats of t, the newest of which, the first of t, is that of the last line
+-- the lines spell the beats of t in the order of time; the first beat of t is the newest, and its line the last
 unfoldable pub AreLinesOf : {w : ℕ} → Trace w → List (List ℕ) → Type 0
 AreLinesOf [] lines = lines ≡ []
 AreLinesOf (x ∷ t) lines =
     (front : List (List ℕ)) × (line : List ℕ) × (lines ≡ front ++ line ∷ []) × Spells line x.0 x.1 × AreLinesOf t front
 
--- the lines are a header of these links, with these liberties where this is allowed besides and with beats of w bytes,
--- and those of the beats of t
+-- The lines are a header and the beats of t. The header has beats of w bytes and these links, whose liberties are those
+-- that it names and those that are allowed.
 pub record SpellsTrace {w : ℕ} (allow : Liberties) (lines : List (List ℕ)) (levels : List Level) (may : Liberties)
     (t : Trace w) : Type 0 where
   pub width : Width
@@ -49,14 +49,14 @@ pub record SpellsTrace {w : ℕ} (allow : Liberties) (lines : List (List ℕ)) (
   pub lines_are : lines ≡ header ∷ beats
   pub beats_are : AreLinesOf t beats
 
--- what a rule says, and the beat of line n that breaks it: what stands first behind the verdict
+-- the first lines of the reasons: the rule, and the beat of line n that breaks it
 abbrev pub front_text : {w : ℕ} → Rule → ℕ → Link → Beat w → List ℕ
 front_text rule n link beat = codes "  " ++ rule_line rule ++ beat_line n link beat
 
--- What was read of a file, from these bytes on, explains why its line n breaks the rule, where this is allowed besides
--- what its header names: the lines before it are a header and those of the beats of a trace; line n spells the beat;
--- what the reason tells of that trace is so, and from it, the liberties and the beat alone the rule is broken. All this
--- stands whatever follows what was read. The text behind the verdict begins with what the rule says and that beat.
+-- The input that was read shows that its line n breaks the rule, on links with the liberties that its header names and
+-- those that are allowed. The lines before line n are a header and the beats of a trace, and line n spells the beat.
+-- The claim of the reason is true of that trace. The rule follows from the reason, the liberties and the beat alone.
+-- This holds for every continuation of the input. The reasons begin with the rule and that beat.
 pub record IsExplained (allow : Liberties) (old new : Option (List ℕ)) (n : ℕ) (rule : Rule) (reasons : List ℕ) : Type 0
   where
     pub width : Width
@@ -84,14 +84,14 @@ pub record IsExplained (allow : Liberties) (old new : Option (List ℕ)) (n : �
     pub grounds : List ℕ
     pub begins : reasons ≡ front_text rule n link beat ++ grounds
 
--- the rule that a beat breaks by itself on a link of this level, or on one that has none, under these liberties
+-- the rule that a beat breaks by itself on a link of this level with these liberties; L1 if the link has no level
 abbrev pub broken_alone : {w : ℕ} → Liberties → Option Level → Beat w → Option Rule
 broken_alone may None beat = Some L1
 broken_alone may (Some level) beat = illegal_under may level (channel_of beat) beat
 
--- Where a rule of legality is broken, line n of what was read of a file, from these bytes on, spells a beat that breaks
--- it by itself, under the liberties of its header and what is allowed besides, whatever follows what was read. The text
--- behind the verdict begins with what the rule says and that beat.
+-- The input that was read shows that its line n spells a beat that breaks the rule of legality by itself, on its link of
+-- the header, which has the liberties that the header names and those that are allowed. This holds for every continuation
+-- of the input. The reasons begin with the rule and that beat.
 pub record IsNamed (allow : Liberties) (old new : Option (List ℕ)) (n : ℕ) (rule : Rule) (reasons : List ℕ) : Type 0
   where
     pub read : List ℕ
@@ -107,22 +107,21 @@ pub record IsNamed (allow : Liberties) (old new : Option (List ℕ)) (n : ℕ) (
         × (lines_of (read ++ more) ≡ (header ∷ before) ++ line ∷ behind)
     pub number : n ≡ length before + 2
     pub bytes : ℕ
+    pub of_width : bytes_of width ≡ bytes
     pub link : Link
     pub beat : Beat bytes
     pub spells : Spells line link beat
-    pub level : Option Level
-    pub breaks : broken_alone may level beat ≡ Some rule
+    pub breaks : broken_alone may (slice_get levels link.0) beat ≡ Some rule
     pub grounds : List ℕ
     pub begins : reasons ≡ front_text rule n link beat ++ grounds
 
--- the same of a rule of memory
+-- the same for a rule of memory
 abbrev pub memory_front_text : {w : ℕ} → MemoryRule → ℕ → Link → Beat w → List ℕ
 memory_front_text rule n link beat = codes "  " ++ memory_rule_line rule ++ beat_line n link beat
 
--- What was read of a file again, from these bytes on, is judged as it was, all links together: line n breaks the rule of
--- memory. The lines before it are a header and those of the beats of a trace, and it spells a response, which after that
--- trace breaks this rule and none of its link. The text behind the verdict is what the rule says, that response, and the
--- lines that the breach rests on, by the definition.
+-- The second reading shows that line n breaks the rule of memory, all links together. The lines before it are a header
+-- and the beats of a trace. Line n spells a response that breaks this rule after that trace, and none of its link. The
+-- reasons are the rule, that response, and the lines that the breach rests on, by definition.
 pub record IsWitnessed (allow : Liberties) (old new : Option (List ℕ)) (n : ℕ) (rule : MemoryRule) (reasons : List ℕ)
     : Type 0 where
   pub read : List ℕ
@@ -156,8 +155,7 @@ is_of_order L6 = false
 is_of_order L7 = false
 is_of_order _ = true
 
--- what was read of a file, and the text behind the verdict, explain why its line n is at fault for this, where a rule
--- is broken
+-- the input that was read and the reasons explain the fault of line n, if a rule is broken
 abbrev pub ExplainsFault : Liberties → Option (List ℕ) → Option (List ℕ) → ℕ → List ℕ → Fault → Type 0
 ExplainsFault allow old new n reasons (Breaks rule) =
     (is_of_order rule ≡ true → IsExplained allow old new n rule reasons)
@@ -165,7 +163,7 @@ ExplainsFault allow old new n reasons (Breaks rule) =
 ExplainsFault allow old new n reasons (BreaksTogether rule) = IsWitnessed allow old new n rule reasons
 ExplainsFault allow old new n reasons _ = ⊤
 
--- what was read of a file, and the text behind the verdict, explain it, where it is that a beat breaks a rule
+-- the input that was read and the reasons explain the verdict, if a rule is broken
 abbrev pub Explains : Liberties → Option (List ℕ) → Option (List ℕ) → List ℕ → List ℕ → Status → Type 0
 Explains allow old new verdict reasons Clean = ⊤
 Explains allow old new verdict reasons Broken = (n : ℕ) × (fault : Fault) × (verdict ≡ fault_text n fault)

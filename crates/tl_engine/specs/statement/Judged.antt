@@ -1,4 +1,4 @@
--- What a trace is judged.
+-- The judgement of a trace.
 use Rattle.std.specs.Prelude.{◌≡◌, ◌⊎◌, ℕ, ◌+◌, List, [], ◌∷◌, ◌++◌, length, codes, Option, None, Some, option_map}
 use Rattle.std.specs.Fmt.{decimal}
 use Rattle.tl_beat.specs.declared.beat.Link.{Link}
@@ -17,28 +17,29 @@ use Rattle.tl_engine.specs.statement.Fault.{fault_text}
 use Rattle.tl_engine.specs.statement.Trace.{SpellsHeader}
 use Rattle.tl_engine.specs.statement.Width.{bytes_of}
 
--- What a header says: the bytes of a beat, what links may do, which is a profile or anything else that stands for it,
--- and their levels.
+-- The meaning of a header: the bytes of a beat, the liberties of the links, as a profile or in another form, and the
+-- levels of the links.
 abbrev pub Headers : Type 0 → Type 1
 Headers May = List ℕ → Width → May → List Level → Type 0
 
--- What a beat on links of these levels is at fault for, where it is, behind the beats of a trace, the
--- newest of which is first.
+-- The fault of a beat, if any, on links of these levels after the beats of a trace. The newest beat of the trace is
+-- first.
 abbrev pub FaultsOf : Type 0 → Type 0
 FaultsOf May = (w : ℕ) → List Level → May → Link × Beat w → Trace w → Option Fault
 
+-- the faults of beats on links with a profile
 abbrev pub Faults : Type 0
 Faults = FaultsOf Profile
 
--- The line is at fault for this behind the beats of t: it spells no beat, or one that is at fault for it.
+-- The line is at fault for this after the beats of t. It spells no beat, or one that is at fault for it.
 abbrev pub IsAtFault : {May : Type 0} {w : ℕ} → FaultsOf May → List Level → May → Trace w → List ℕ → Fault → Type 0
 IsAtFault {w = w} faults levels p t line fault =
     ((of_line : LineFault) × (line_fault w line ≡ Some of_line) × (fault ≡ Line of_line))
     ⊎ ((link : Link) × (beat : Beat w) × Spells line link beat × (faults w levels p (link, beat) t ≡ Some fault))
 
--- These lines, behind a header and the beats of t, are judged so: what is said of the number of all beats,
--- where each line spells one that isn't at fault; otherwise `line N X` for the first line at fault,
--- whatever follows it. The header is line 1.
+-- The text and status of these lines, after a header and the beats of t. If each line spells a beat without a fault,
+-- the text is the one for the number of all beats. Otherwise it is `line N X` for the first line at fault, for every
+-- continuation. The header is line 1.
 unfoldable pub JudgedAfter : {May : Type 0} {w : ℕ} → FaultsOf May → (ℕ → List ℕ) → List Level → May → Trace w
     → List (List ℕ) → List ℕ → Status → Type 0
 JudgedAfter faults said levels p t [] text status = (text ≡ said (length t)) × (status ≡ Clean)
@@ -48,7 +49,7 @@ JudgedAfter {w = w} faults said levels p t (line ∷ lines) text status =
     ⊎ ((fault : Fault) × IsAtFault faults levels p t line fault × (text ≡ fault_text (length t + 2) fault)
     × (status ≡ Broken))
 
--- A whole trace is judged so. Where its first line isn't there or spells no header, that is its fault.
+-- The text and status of a whole trace. Line 1 is at fault if it is missing or spells no header.
 unfoldable pub JudgedBy : {May : Type 0} → Headers May → FaultsOf May → (ℕ → List ℕ) → List (List ℕ) → List ℕ → Status
     → Type 0
 JudgedBy heads faults said [] text status = (text ≡ fault_text 1 Header) × (status ≡ Broken)
@@ -68,6 +69,6 @@ clean_text n = codes "clean " ++ decimal n ++ codes "\n"
 abbrev pub faults_of_links : Faults
 faults_of_links w levels p x t = option_map Breaks (broken_on_link levels p x t)
 
--- a trace is judged so, each link by itself
+-- the text and status of a trace that is judged link by link
 abbrev pub Judged : List (List ℕ) → List ℕ → Status → Type 0
 Judged = JudgedBy SpellsHeader faults_of_links clean_text

@@ -1,4 +1,4 @@
--- What a trace is judged whose header names what its links may do.
+-- The judgement of a trace whose header names the liberties of its links.
 use Rattle.std.specs.Prelude.{◌≡◌, ◌⊎◌, ◌-◌, ◌++◌, ℕ, Bool, true, false, List, [], length, option_map}
 use Rattle.tl_engine.specs.code.Watching.{said_by}
 use Rattle.tl_engine.specs.declared.fault.Fault.TheVariants.{Rule as Breaks}
@@ -11,28 +11,28 @@ use Rattle.tl_params.specs.declared.liberties.Liberties.{Liberties}
 use Rattle.tl_rules.specs.statement.Liberties.{broken_on_link_under}
 use Rattle.tl_together.specs.statement.Coherence.{broken_together}
 
--- a beat is at fault for the first rule that it breaks, under the liberties of the links, after the earlier beats of its
--- own link
+-- a beat is at fault for the first rule that it breaks after the earlier beats of its own link, which has these
+-- liberties
 abbrev pub faults_under : FaultsOf Liberties
 faults_under w levels may x t = option_map Breaks (broken_on_link_under may levels x t)
 
--- of all links together, a beat is at fault for the first rule that it breaks after the earlier beats of all links
+-- with all links together, a beat is at fault for the first rule that it breaks after the earlier beats of all links
 abbrev pub faults_by : Bool → FaultsOf Liberties
 faults_by true w levels may x t = option_map fault_of_breach (broken_together levels may x t)
 faults_by false w levels may x t = faults_under w levels may x t
 
--- The header names what the links may do, besides what is allowed. Answers of links that are judged together aren't
--- early.
+-- The header names liberties, which are united with those that are allowed. With all links together, `early` isn't
+-- among them.
 abbrev pub heads_by : Bool → Liberties → Headers Liberties
 heads_by true allow line width may levels = NamesAllowed allow line width may levels × (may.early ≡ false)
 heads_by false allow line width may levels = NamesAllowed allow line width may levels
 
--- A trace is judged so, all its links together or each by itself. They may do what the header names and what is allowed
--- besides.
+-- The text and status of a trace that is judged with all links together, or link by link. The links have the liberties
+-- that the header names and those that are allowed.
 abbrev pub JudgedLinks : Bool → Liberties → List (List ℕ) → List ℕ → Status → Type 0
 JudgedLinks together allow = JudgedBy (heads_by together allow) (faults_by together) (said_by together)
 
--- the text of these lines, of which none is at fault, before the end of the input
+-- the text of these lines, none of which is at fault, before the end of the input
 abbrev pub LinksSoFar : Bool → Liberties → List (List ℕ) → List ℕ → Type 0
 LinksSoFar together allow lines text =
     ((lines ≡ []) × (text ≡ []))

@@ -1,4 +1,4 @@
--- What a schedule is played as.
+-- The text and the trace that a schedule plays to.
 use Rattle.std.specs.Prelude.{◌≡◌, ◌⊎◌, ℕ, zero, suc, ◌+◌, Bool, true, false, List, [], ◌∷◌, ◌++◌, map, Option, Some}
 use Rattle.std.specs.Prelude.{None}
 use Rattle.tl_beat.specs.declared.beat.Link.{Link}
@@ -26,45 +26,45 @@ use Rattle.tl_engine.specs.statement.Fault.{fault_text}
 use Rattle.tl_engine.specs.statement.Trace.{header_line}
 use Rattle.tl_engine.specs.statement.Width.{bytes_of}
 
--- ---- what is written, without a trace or as one
+-- ---- the text, as outcomes or as a trace
 
--- what comes of an event after what has happened
+-- the outcome of an event after the log
 abbrev pub outcome_after : {w : ℕ} → Config → Log w → Event w → Outcome w
 outcome_after config log event = (stepped config event (system_after config log)).outcome
 
--- the line of what comes of an event, or what a trace shows of it
+-- the line of an event's outcome, or its part of the trace
 abbrev pub event_text : {w : ℕ} → Bool → Event w → Outcome w → List ℕ
 event_text false event outcome = outcome_line event outcome
 event_text true event outcome = trace_text event outcome
 
--- that of a delivery, if one is made
+-- the text of a delivery, if there is one
 abbrev pub delivery_text : {w : ℕ} → Bool → Config → Log w → Option (Link × Channel) → List ℕ
 delivery_text trace config log None = []
 delivery_text trace config log (Some d) =
     event_text trace (Deliver d.0 d.1) (outcome_after config log (Deliver d.0 d.1))
 
--- that of n deliveries at most, each the next one
+-- the text of at most n deliveries, each the next one
 unfoldable pub deliveries_text : {w : ℕ} → Bool → Config → ℕ → Log w → List ℕ
 deliveries_text trace config zero log = []
 deliveries_text trace config (suc n) log =
     delivery_text trace config log (next_delivery config (system_after config log))
     ++ deliveries_text trace config n (with_delivery config (next_delivery config (system_after config log)) log)
 
--- behind the deliveries their number, which a trace doesn't show
+-- the number of deliveries, after them; a trace doesn't have it
 abbrev pub number_text : Bool → ℕ → List ℕ
 number_text false n = drained_line n
 number_text true n = []
 
 -- ---- the header of the trace
 
--- it has the version of the schedule's
+-- the header of the trace, of the schedule's version; none without a trace
 abbrev pub header_text : Bool → Version → List ClientConfig → List ℕ
 header_text false version clients = []
 header_text true version clients = header_line version (map (λ client. client.level) clients)
 
 -- ---- the lines
 
--- After what has happened, a line that says this is played so: the text is written, and the log has grown.
+-- A line of this meaning writes the text after the log, and lengthens the log.
 abbrev pub Plays : {w : ℕ} → Bool → Config → Log w → Line w → List ℕ → Log w → Type 0
 Plays trace config log (line_of.Event event) text grown =
     (text ≡ event_text trace event (outcome_after config log event))
@@ -73,8 +73,8 @@ Plays trace config log line_of.Drain text grown =
     (n : ℕ) × IsDrained config log n × (text ≡ deliveries_text trace config n log ++ number_text trace n)
     × (grown ≡ drained config n log)
 
--- These lines, of which the first has the number n, are played so after what has happened, up to the first
--- that says nothing: `line N X` ends the text, whatever follows it.
+-- The text and status of these lines after the log; the first line has the number n. The first line that spells no
+-- event and no `drain` has `line N X`, which ends the text.
 unfoldable pub PlayedAfter : {w : ℕ} → Bool → Config → ℕ → Log w → List (List ℕ) → List ℕ → Status → Type 0
 PlayedAfter trace config n log [] text status = (text ≡ []) × (status ≡ Clean)
 PlayedAfter {w} trace config n log (line ∷ lines) text status =
@@ -84,13 +84,13 @@ PlayedAfter {w} trace config n log (line ∷ lines) text status =
     ⊎ (((said : Line w) → ¬ SpellsLine line said) × (text ≡ fault_text n (NoEvent (event_fault line)))
     × (status ≡ Broken))
 
--- the line is that of a header of this version, which names this configuration
+-- the line is a header of this version and this configuration
 pub record HeadsSchedule (line : List ℕ) (version : Version) (config : Config) : Type 0 where
   pub spelled : SpellsSchedule line version config.blocks config.trackers config.clients.items
   pub of_profile : config.profile ≡ profile_of version
 
--- A whole schedule is played so, without a trace or as one. Where its first line isn't there or spells no
--- header, that is its fault.
+-- The text and status of a whole schedule, as outcomes or as a trace. Line 1 is at fault if it is missing or spells no
+-- header.
 unfoldable pub Played : Bool → List (List ℕ) → List ℕ → Status → Type 0
 Played trace [] text status = (text ≡ fault_text 1 Header) × (status ≡ Broken)
 Played trace (line ∷ lines) text status =

@@ -11,7 +11,7 @@ use Rattle.tl_engine.specs.statement.Judged.{Judged, clean_text}
 use Rattle.tl_engine.specs.statement.Played.{Played}
 use Rattle.tl_engine.specs.statement.Width.{bytes_of}
 
--- a command's text of these lines, with the status at their end; of `explain` what it begins with
+-- the text of these lines under a command, and the status at their end; of `explain`, only the verdict
 abbrev pub text_told : Command → List (List ℕ) → List ℕ → Status → Type 0
 text_told (Decode width) = DecodesTo (bytes_of width)
 text_told Monitor = Judged
@@ -19,7 +19,7 @@ text_told (Explain together) = JudgedSo together
 text_told Coherent = JudgedTogether
 text_told (Run trace) = Played trace
 
--- what the end of an input of n lines adds, none of which is at fault
+-- the text that the end of an input of n lines adds, none of which is at fault
 abbrev pub end_text : Command → ℕ → List ℕ
 end_text (Decode width) n = []
 end_text Monitor n = clean_text (n - 1)
@@ -27,7 +27,7 @@ end_text (Explain together) n = said_by together (n - 1)
 end_text Coherent n = coherent_text (n - 1)
 end_text (Run trace) n = []
 
--- the text of these lines, of which none is at fault, before the end of the input
+-- the text of these lines, none of which is at fault, before the end of the input
 abbrev pub text_so_far : Command → List (List ℕ) → List ℕ → Type 0
 text_so_far command lines text =
     ((lines ≡ []) × (text ≡ [])) ⊎ text_told command lines (text ++ end_text command (length lines)) Clean

@@ -9,12 +9,12 @@ use Rattle.tl_params.specs.statement.Header.{level_text, profile_of, version_tex
 use Rattle.tl_params.specs.statement.Config.{IsCount}
 use Rattle.tl_engine.specs.declared.header.Header.{Header}
 
--- each level behind a space
+-- each level after a space
 abbrev pub levels_text : List Level → List ℕ
 levels_text [] = []
 levels_text (level ∷ levels) = codes " " ++ level_text level ++ levels_text levels
 
--- the bytes are those of these levels, at most 16, and end a line
+-- the bytes are these levels, at most 16, and an LF
 abbrev pub SpellsLevels : List ℕ → List Level → Type 0
 SpellsLevels bytes levels = (bytes ≡ levels_text levels ++ codes "\n") × (length levels ≤ 16)
 
@@ -27,11 +27,11 @@ AreLevels (Some read) levels = read.items ≡ levels
 abbrev pub trace_word : List ℕ
 trace_word = codes "tltrace "
 
--- the one line of a header
+-- the line of a header
 abbrev pub header_line : Version → List Level → List ℕ
 header_line version levels = trace_word ++ version_text version ++ levels_text levels ++ codes "\n"
 
--- the line is that of a header of some version, which names or stands for these
+-- the line is a header of a version with this width and profile, and these levels
 pub record SpellsHeader (line : List ℕ) (width : Width) (profile : Profile) (levels : List Level) : Type 0 where
   pub version : Version
   pub is_line : line ≡ header_line version levels
@@ -39,7 +39,7 @@ pub record SpellsHeader (line : List ℕ) (width : Width) (profile : Profile) (l
   pub of_profile : profile_of version ≡ profile
   pub so_many : IsCount (length levels)
 
--- the header names these
+-- the header has these values
 abbrev pub IsHeader : Option Header → Width → Profile → List Level → Type 0
 IsHeader None width profile levels = ⊥
 IsHeader (Some header) width profile levels = (header.width ≡ width) × (header.profile ≡ profile)

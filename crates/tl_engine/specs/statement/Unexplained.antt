@@ -1,4 +1,4 @@
--- Why nothing is explained, as far as what was read and written shows it.
+-- The reasons why nothing is explained, by the bytes that were read and written.
 use Rattle.std.specs.Prelude.{◌≡◌, ◌⊎◌, ℕ, Bool, List, ◌++◌, Option}
 use Rattle.std.specs.Io.KnownBytes.{Consumes}
 use Rattle.tl_engine.specs.code.GivenUp.{lines_ended}
@@ -14,15 +14,16 @@ use Rattle.tl_engine.specs.statement.Explained.{Explains}
 use Rattle.tl_engine.specs.statement.JudgedLinks.{JudgedLinks, LinksSoFar}
 use Rattle.tl_params.specs.declared.liberties.Liberties.{Liberties}
 
--- The first reading, of each link by itself or of all together, which may do this besides what the header names, came to
--- its verdict: at the end of the input, or at a line at fault that no continuation can mend.
+-- The first reading, of each link by itself or of all together, reached its verdict: at the end of the input, or at a
+-- line at fault that no continuation can mend. The links have the liberties that the header names and those that are
+-- allowed.
 abbrev pub Reaches : Bool → Liberties → Option (List ℕ) → Option (List ℕ) → List ℕ → Status → Type 0
 Reaches together allow had left verdict status =
     (read : List ℕ) × Consumes had left read × JudgedLinks together allow (lines_of read) verdict status
     × EndsAs (JudgedLinks together allow) left read verdict status
 
--- The first reading was given up for this. `Read`: none of the lines that had ended is at fault, or no number is left
--- for a line. No writer is asked for anything.
+-- The first reading ended with this fault. `Read`: none of the lines that had ended is at fault, or no number is left
+-- for a line. `Changed`: it had reached its verdict. `Write`: never.
 abbrev pub IsUnjudged : Bool → Liberties → Option (List ℕ) → Option (List ℕ) → ExplainFault → Type 0
 IsUnjudged together allow had left (Tool Memory) = (read : List ℕ) × Consumes had left read
 IsUnjudged together allow had left (Tool Read) =
@@ -31,14 +32,14 @@ IsUnjudged together allow had left (Tool Read) =
 IsUnjudged together allow had left (Tool Write) = ⊥
 IsUnjudged together allow had left Changed = (verdict : List ℕ) × (status : Status) × Reaches together allow had left verdict status
 
--- The first reading came to its verdict, and the second was given up for this. No writer is asked for anything.
+-- The second reading ended with this fault, after the verdict of the first. `Write`: never.
 abbrev pub IsUnreasoned : Bool → Liberties → Option (List ℕ) → Option (List ℕ) → ExplainFault → Type 0
 IsUnreasoned together allow had left (Tool Write) = ⊥
 IsUnreasoned together allow had left fault = (verdict : List ℕ) × (status : Status) × Reaches together allow had left verdict status
 
--- An explanation was given up for this, of two readers of one file. But for `Write` nothing was written: the first
--- reading was given up, and nothing was read again; or it came to its verdict, and the second was given up. `Write`:
--- both readings came to their end, and some of the text is left to be written.
+-- An explanation of a file with two readers ended with this fault. `Write`: both readings reached their ends, and the
+-- writer took only a front of the text. Otherwise nothing was written: the first reading ended with the fault and the
+-- second didn't begin, or the first reached its verdict and the second ended with the fault.
 abbrev pub GivesUpExplaining : Bool → Liberties → Option (List ℕ) → Option (List ℕ) → Option (List ℕ) → Option (List ℕ)
     → Option (List ℕ) → Option (List ℕ) → ExplainFault → Type 0
 GivesUpExplaining together allow had left had_again left_again held holds (Tool Write) =

@@ -1,4 +1,4 @@
--- The line that is drawn next, by its options and what has happened, and whether its event is taken.
+-- The next line, by the options and the log, and whether its event is kept.
 use Rattle.std.specs.Prelude.{ℕ, Bool, true, false, ◌≡◌, ◌==◌, ◌⊎◌, ◌∷◌, ◌++◌, [], All, List, length, nat_lt}
 use Rattle.std.specs.Prelude.{slice_index_or, if◌then◌else◌}
 use Rattle.tl_params.specs.declared.config.Config.{Config}
@@ -21,15 +21,15 @@ use Rattle.tl_random.specs.statement.Choose.{channel_of, request}
 use Rattle.tl_random.specs.statement.Draw.{Choice, ◌>>=◌, always, below, is_one_in}
 use Rattle.tl_random.specs.statement.Said.{said_of}
 
--- one of the first blocks, so many of them
+-- one of the first `count` blocks; 0 if `count` is 0
 unfoldable pub block_below : ℕ → Choice ℕ
 block_below count = if count == 0 then always 0 else below count
 
--- a block: seven times in eight one of those of which most operations speak
+-- a block: seven times in eight one of the contended blocks, otherwise any
 unfoldable pub block_of : Options → Choice ℕ
 block_of o = is_one_in 8 >>= λ any. block_below (if any then o.config.blocks else o.contend)
 
--- the line that asks a client of this level for something in a block, by what it holds of it
+-- the line by which a client of this level, which holds this permission of the block, is asked for an operation
 unfoldable pub asking_line : ℕ → Level → ℕ → ℕ → Perm → Choice (List ℕ)
 asking_line w l client block held =
     request w l block held >>= λ asked. always (event_line w (said_of client asked))
@@ -42,7 +42,7 @@ delivery_line w l client = channel_of l >>= λ ch. always (event_line w (Deliver
 abbrev pub level_at : Config → ℕ → Level
 level_at config client = (slice_index_or config.clients.items client (record { level = level.UL; sources = 0 })).level
 
--- a line, after what has happened: two times in five what one of the clients is asked for, else a delivery on its link
+-- a line after a log: two times in five an operation of a client, otherwise a delivery on its link
 unfoldable pub line_drawn : {w : ℕ} → Options → Log w → Choice (List ℕ)
 line_drawn {w} o log =
     below (length o.config.clients.items) >>= λ client. below 5 >>= λ n.
@@ -51,13 +51,13 @@ line_drawn {w} o log =
     asking_line w (level_at o.config client) client block (held_by o.config client block (system_after o.config log)))
     else delivery_line w (level_at o.config client) client
 
--- nothing came of what was asked
+-- the reply is Busy or Miss
 abbrev pub is_idle_reply : Reply → Bool
 is_idle_reply (reply.Busy busy) = true
 is_idle_reply reply.Miss = true
 is_idle_reply _ = false
 
--- nothing came of an event: it was busy, missing, stalled or empty, or there was no such client
+-- the event had no effect: busy, miss, stalled, empty, or no such client
 abbrev pub is_idle : {w : ℕ} → Outcome w → Bool
 is_idle (outcome.Replied r) = is_idle_reply r
 is_idle outcome.Empty = true
@@ -65,34 +65,34 @@ is_idle outcome.Stalled = true
 is_idle outcome.NoSuchClient = true
 is_idle _ = false
 
--- an event is taken where something came of it, and once in 72 times where nothing did
+-- an event with an effect is kept, and one without with a chance of one in 72
 unfoldable pub takes : {w : ℕ} → Outcome w → Choice Bool
 takes o = if is_idle o then is_one_in 72 else always true
 
--- ---- what is done in the world
+-- ---- events in the world
 
--- two configurations name one world
+-- two configurations are the same
 pub record IsSameConfig (one other : Config) : Type 0 where
   pub blocks_are : one.blocks ≡ other.blocks
   pub trackers_are : one.trackers ≡ other.trackers
   pub clients_are : one.clients.items ≡ other.clients.items
   pub profile_is : one.profile ≡ other.profile
 
--- nothing has happened to a world that a configuration names
+-- nothing has happened in a world of this configuration
 abbrev pub IsFreshOf : {w : ℕ} → Config → Contained w → Type 0
 IsFreshOf config world = (same : Config) × IsSameConfig same config × HasHappened same world []
 
--- nothing came of any of these events
+-- none of these events had an effect
 abbrev pub AreIdle : {w : ℕ} → Log w → Type 0
 AreIdle log = All (λ x. is_idle x.1 ≡ true) log
 
--- the world of this log was drained: some number of deliveries, each the next one, ended what was outstanding
+-- the world of this log was drained: a number of deliveries, each the next one, after which nothing was outstanding
 abbrev pub IsDrainedOf : {w : ℕ} → Config → Log w → Contained w → Type 0
 IsDrainedOf config log world =
     (count : ℕ) × HasHappened config world (drained config count log) × IsDrained config log count
 
--- in the world of this log the line was played, behind events that came to nothing: it says the last event, or that the
--- world is drained, and it was
+-- The line was played in the world of this log, after events without effect. The line spells the last event, or it is
+-- `drain` and the world was drained.
 abbrev pub PlaysLine : {w : ℕ} → Config → Log w → Contained w → List ℕ → Type 0
 PlaysLine {w} config log world line =
     (tried : Log w) × AreIdle tried
@@ -100,7 +100,7 @@ PlaysLine {w} config log world line =
     × HasHappened config world ((event, outcome) ∷ (tried ++ log)))
     ⊎ ((line ≡ drain_line) × IsDrainedOf config (tried ++ log) world))
 
--- a text grew by such a line
+-- the text grew by such a line
 abbrev pub GrowsByPlay : {w : ℕ} → Config → Contained w → Contained w → List ℕ → List ℕ → Type 0
 GrowsByPlay {w} config was is old new =
     (log : Log w) → HasHappened config was log → (line : List ℕ) × (new ≡ old ++ line) × PlaysLine config log is line

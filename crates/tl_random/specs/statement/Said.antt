@@ -1,4 +1,4 @@
--- The line of what is drawn.
+-- The line of a request that was drawn.
 use Rattle.std.specs.Prelude.{◌≤◌, ◌^◌, ℕ, take, ⊤}
 use Rattle.tl_schedule.specs.statement.EventLine as line
 use Rattle.tl_random.specs.declared.request.Asked.{Asked}
@@ -6,7 +6,7 @@ use Rattle.tl_random.specs.declared.request.Asked.TheVariants.{Get, Put, Part, A
 use Rattle.tl_random.specs.declared.request.Request.{Request}
 use Rattle.tl_random.specs.declared.request.Request.TheVariants.{Load, Store, Acquire, Whole, Release, Access}
 
--- what an access of 2^size bytes says: the first of its bytes
+-- the access in a line, with the first 2^size of its bytes
 abbrev pub said_of_access : ℕ → Asked → line.Asked
 said_of_access size Get = line.Get
 said_of_access size (Put bytes) = line.Put (take (2 ^ size) bytes)
@@ -15,7 +15,7 @@ said_of_access size (Arith operation bytes) = line.Arith operation (take (2 ^ si
 said_of_access size (Logic operation bytes) = line.Logic operation (take (2 ^ size) bytes)
 said_of_access size (Hint intent) = line.Hint intent
 
--- what a request to a client says
+-- the content of the line of a request to a client
 abbrev pub said_of : ℕ → Request → line.Said
 said_of client (Load size address) = line.Load client size address
 said_of client (Store size address value) = line.Store client size address value
@@ -24,7 +24,7 @@ said_of client (Whole block bytes) = line.Whole client block bytes
 said_of client (Release block prune) = line.Release client block prune
 said_of client (Access size address asked) = line.Access client size address (said_of_access size asked)
 
--- a Load or Store has 8 bytes at most, and an access a block
+-- a Load or Store has at most 8 bytes, an access at most a block
 abbrev pub HasSize : Request → Type 0
 HasSize (Load size address) = size ≤ 3
 HasSize (Store size address value) = size ≤ 3

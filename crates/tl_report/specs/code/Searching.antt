@@ -26,7 +26,7 @@ use Rattle.tl_report.specs.statement.Found.{FindsAfter, FindsFor, is_open, no_he
 use Rattle.tl_engine.specs.statement.JudgedLinks.{faults_by, heads_by}
 use Rattle.tl_report.specs.statement.Taken.{AreCounted, cells_of}
 
--- nothing was read behind the header
+-- nothing was read after the header
 pub record IsBegun {w : ℕ} (s : Search w) (aim : Aim) (levels : List Level) (may : Liberties) : Type 0 where
   pub aim_is : s.aim ≡ aim
   pub known : KnowsBeats aim.together s.judge levels may []
@@ -35,7 +35,7 @@ pub record IsBegun {w : ℕ} (s : Search w) (aim : Aim) (levels : List Level) (m
   pub header : s.lines ≡ 1
   pub unended : s.over ≡ false
 
--- These lines were read, and more are looked for: what is found behind them is found behind what was.
+-- These lines were read, and more are looked for: what is found after them is found after what was.
 pub record KnowsSearch {w : ℕ} (s : Search w) (lines : List (List ℕ)) : Type 0 where
   pub levels : List Level
   pub may : Liberties
@@ -55,7 +55,7 @@ abbrev pub found_with : Bool → List Finding → ℕ → List Finding
 found_with true found line = found
 found_with false found line = found ++ record { line = line; fault = Line F1 } ∷ []
 
--- what was found is all that is found in these lines
+-- all faults of these lines were found
 abbrev pub EndsSearch : {w : ℕ} → Search w → List (List ℕ) → Type 0
 EndsSearch s lines = FindsFor s.aim lines
     (found_with s.over s.findings.faults.items (s.lines + 1)) s.findings.beats s.findings.cells.items
@@ -66,7 +66,7 @@ SearchesLine old new line None = (lines : List (List ℕ)) → KnowsSearch old l
 SearchesLine old new line (Some fault) =
     (lines : List (List ℕ)) → KnowsSearch old lines → (more : List (List ℕ)) → EndsSearch new (lines ++ line ∷ more)
 
--- what a line is at fault for behind the beats that a search has taken, and what it has taken with the line
+-- what a line is at fault for after the beats that a search has taken, and what it has taken with the line
 abbrev pub JudgesLine : {w : ℕ} → Search w → Search w → List ℕ → Option Fault → Type 0
 JudgesLine {w} old new line None =
     (levels : List Level) (may : Liberties) (t : Trace w) → KnowsBeats old.aim.together old.judge levels may t
@@ -89,7 +89,7 @@ pub record IsElsewhereSame {w : ℕ} (old new : Search w) : Type 0 where
   pub lines_are : new.lines ≡ old.lines
   pub over_is : new.over ≡ old.over
 
--- a line at fault was noted: whether more are looked for behind it
+-- a line at fault was noted: whether more are looked for after it
 pub record Notes {w : ℕ} (old new : Search w) (line : List ℕ) (number : ℕ) (fault : Fault) (more : Bool) : Type 0 where
   pub aim_is : new.aim ≡ old.aim
   pub judge_is : new.judge ≡ old.judge
@@ -128,7 +128,7 @@ KnowsLines (Sixteen s) lines text = KnowsSearch s lines
 abbrev pub TellsLines : List (List ℕ) → List ℕ → Status → Type 0
 TellsLines lines text status = status ≡ Clean → lines ≢ []
 
--- what was found is all that is found in these lines
+-- all faults of these lines were found
 abbrev pub EndsLines : SearchLines → List (List ℕ) → Type 0
 EndsLines (Waiting alloc aim) lines =
     (beats : ℕ) (cells : List ℕ) → AreCounted beats cells []
@@ -137,13 +137,13 @@ EndsLines (Four s) lines = EndsSearch s lines
 EndsLines (Eight s) lines = EndsSearch s lines
 EndsLines (Sixteen s) lines = EndsSearch s lines
 
--- this is all that is found in what was read
+-- these are all faults of the input
 abbrev pub HasFound : SearchLines → Status → Findings → Type 0
 HasFound h status f =
     (lines : List (List ℕ)) → HasAll KnowsLines EndsLines h lines status → (status ≡ Clean → lines ≢ [])
     → FindsFor (aim_of h) lines f.faults.items f.beats f.cells.items
 
--- what the first line begins: a search behind the header, or none where it spells none
+-- what the first line begins: a search after the header, or none if it spells none
 abbrev pub Begins : Aim → List ℕ → Option SearchLines → Type 0
 Begins aim line None = (width : Width) (may : Liberties) (levels : List Level)
     → ¬ heads_by aim.together aim.allow line width may levels

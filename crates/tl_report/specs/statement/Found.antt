@@ -1,4 +1,4 @@
--- What is found in a trace whose lines at fault aren't taken.
+-- The findings in a trace whose beats at fault aren't taken.
 use Rattle.std.specs.Prelude.{◌≡◌, ◌⊎◌, ◌||◌, ◌+◌, ℕ, suc, zero, Bool, not, List, [], ◌∷◌, length, nat_lt, if◌then◌else◌}
 use Rattle.std.specs.Prelude.{None}
 use Rattle.std.specs.Io.BufRead.{ends_with_byte}
@@ -18,21 +18,21 @@ use Rattle.tl_report.specs.declared.findings.Finding.{Finding}
 use Rattle.tl_engine.specs.statement.JudgedLinks.{faults_by, heads_by}
 use Rattle.tl_report.specs.statement.Taken.{AreCounted, cells_of}
 
--- how many lines at fault are looked for
+-- the most lines at fault that are looked for
 abbrev pub most_of : Aim → ℕ
 most_of aim = suc aim.behind
 
--- the line has no LF at its end, or more than 256 bytes: no line is read behind it
+-- the line has no LF at its end, or more than 256 bytes: no line after it is read
 abbrev pub is_open : List ℕ → Bool
 is_open line = not (ends_with_byte 10 line) || nat_lt 256 (length line)
 
--- how many lines at fault are looked for behind this one, where it isn't the last that is read
+-- the number of lines at fault still looked for after this one; 0 if no line after it is read
 abbrev pub left_behind : List ℕ → ℕ → ℕ
 left_behind line most = if is_open line then 0 else most
 
--- These lines are at fault, at most so many, of those behind a header and the beats of t, the first of which has this
--- number; and so many beats are taken, in each cell as many as are counted in it. A line is judged behind the beats that
--- were taken before it, and its beat is taken where the line isn't at fault.
+-- The findings in these lines, the first of which has number n. They come after a header and the beats of t. At most as
+-- many lines at fault are found as are looked for. A line is judged after the beats that were taken before it. Its beat
+-- is taken if the line isn't at fault, and counted in its cell.
 unfoldable pub FindsAfter : {w : ℕ} → FaultsOf Liberties → List Level → Liberties → Trace w → ℕ → ℕ → List (List ℕ) → List Finding
     → ℕ → List ℕ → Type 0
 FindsAfter faults levels may t n zero lines found beats cells = (found ≡ []) × AreCounted beats cells (cells_of t)
@@ -48,8 +48,8 @@ FindsAfter {w} faults levels may t n (suc most) (line ∷ lines) found beats cel
 abbrev pub no_header : List Finding
 no_header = record { line = 1; fault = Header } ∷ []
 
--- These lines of a whole trace are at fault, at most so many, and so many beats are taken, in each cell as many as are
--- counted in it. A first line that isn't there or spells no header is the only one.
+-- The findings in a whole trace: at most `most` lines at fault, the number of beats taken, and the counts of the cells.
+-- If there is no first line, or it spells no header, it is the only line at fault.
 unfoldable pub Finds : Headers Liberties → FaultsOf Liberties → ℕ → List (List ℕ) → List Finding → ℕ → List ℕ → Type 0
 Finds heads faults most [] found beats cells = (found ≡ no_header) × AreCounted beats cells []
 Finds heads faults most (line ∷ lines) found beats cells =
@@ -58,6 +58,6 @@ Finds heads faults most (line ∷ lines) found beats cells =
     ⊎ (((width : Width) (may : Liberties) (levels : List Level) → ¬ heads line width may levels)
     × (found ≡ no_header) × AreCounted beats cells [])
 
--- what is found in these lines by who looks for this
+-- the findings in these lines for this aim
 abbrev pub FindsFor : Aim → List (List ℕ) → List Finding → ℕ → List ℕ → Type 0
 FindsFor aim = Finds (heads_by aim.together aim.allow) (faults_by aim.together) (most_of aim)

@@ -1,4 +1,4 @@
--- The text of what is found in a trace.
+-- The text of the findings in a trace.
 use Rattle.std.specs.Prelude.{◌≡◌, ◌⊎◌, ◌++◌, ℕ, Bool, List, [], ◌∷◌, length, codes, Option}
 use Rattle.std.specs.Fmt.{decimal}
 use Rattle.std.specs.List.{flat_map}
@@ -23,38 +23,39 @@ finding_text x = fault_text x.line x.fault
 abbrev pub faults_text : List Finding → List ℕ
 faults_text found = flat_map finding_text found
 
--- `faults N`: N lines at fault are reported
+-- `faults N`: the number of lines at fault
 unfoldable pub count_text : ℕ → List ℕ
 count_text n = codes "faults " ++ decimal n ++ codes "\n"
 
--- each line at fault, and how many they are; or, where none is, what is said of the number of beats, of all links
--- together or of each by itself
+-- each line at fault and their number; if there is none, the verdict with the number of beats, for all links together
+-- or for each by itself
 abbrev pub all_text : Bool → List Finding → ℕ → List ℕ
 all_text together [] beats = said_by together beats
 all_text together found beats = faults_text found ++ count_text (length found)
 
--- the first line at fault; or, where none is, what is said of the number of beats
+-- the first line at fault; if there is none, the verdict with the number of beats
 abbrev pub first_by : (ℕ → List ℕ) → List Finding → ℕ → List ℕ
 first_by said [] beats = said beats
 first_by said (x ∷ found) beats = finding_text x
 
+-- the same for all links together or for each by itself
 abbrev pub first_text : Bool → List Finding → ℕ → List ℕ
 first_text together = first_by (said_by together)
 
--- a line is at fault
+-- Broken if a line is at fault
 abbrev pub status_of : List Finding → Status
 status_of [] = Clean
 status_of found = Broken
 
--- What was read, to its end or so that nothing that follows changes it, has these lines at fault, as many as are looked
--- for, and so many beats are taken, in each cell as many as are counted in it.
+-- A search of the input that was read has these findings. It read to the end of the input, or to a point after which
+-- nothing changes them.
 abbrev pub Searches : Aim → Option (List ℕ) → Option (List ℕ) → List Finding → ℕ → List ℕ → Type 0
 Searches aim had left found beats cells =
     (read : List ℕ) × Consumes had left read × FindsFor aim (lines_of read) found beats cells
     × (((more : List ℕ) → FindsFor aim (lines_of (read ++ more)) found beats cells) ⊎ IsAtEnd left)
 
--- A search was given up for this. But for `Write` nothing was written. `Write`: the search came to its end, and some of
--- the text is left to be written.
+-- A search that ended with this error. With `Write` the search itself came to its end, and a part of the text isn't
+-- written. With any other error nothing is written.
 abbrev pub GivesUpSearching : Aim → Option (List ℕ) → Option (List ℕ) → Option (List ℕ) → Option (List ℕ) → ToolFault
     → Type 0
 GivesUpSearching aim had left held holds Write =

@@ -1,4 +1,4 @@
--- The beats that a search takes, counted by link and message.
+-- The beats that a search has taken, counted by link and message.
 use Rattle.std.specs.Prelude.{◌≡◌, ◌<◌, ◌+◌, ◌*◌, ◌==◌, ℕ, List, map, length, count_by, slice_index_or}
 use Rattle.tl_beat.specs.declared.beat.Beat.{Beat}
 use Rattle.tl_beat.specs.declared.beat.Beat.TheVariants as beat
@@ -6,7 +6,7 @@ use Rattle.tl_beat.specs.declared.beat.Link.{Link}
 use Rattle.tl_beat.specs.statement.Opcode.{a_code, b_code, c_code, d_code}
 use Rattle.tl_rules.specs.statement.Conformance.{Trace}
 
--- the number of a message: eight for each channel from A to D, by the opcode, and GrantAck
+-- the number of a message: eight for each channel from A to D, by the opcode, and one for GrantAck
 abbrev pub message_of : {w : ℕ} → Beat w → ℕ
 message_of (beat.A x) = a_code x.opcode
 message_of (beat.B x) = 8 + b_code x.opcode
@@ -14,7 +14,7 @@ message_of (beat.C x) = 16 + c_code x.opcode
 message_of (beat.D x) = 24 + d_code x.opcode
 message_of (beat.E x) = 32
 
--- the number of the cell in which a beat is counted: 33 cells for each link
+-- the number of the cell in which a beat counts: each link has 33 cells
 abbrev pub cell_of : {w : ℕ} → Link → Beat w → ℕ
 cell_of link beat = 33 * link.0 + message_of beat
 
@@ -22,11 +22,11 @@ cell_of link beat = 33 * link.0 + message_of beat
 abbrev pub cells_of : {w : ℕ} → Trace w → List ℕ
 cells_of t = map (λ x. cell_of x.0 x.1) t
 
--- how many cells there are, those of 256 links
+-- the number of cells, for 256 links
 abbrev pub most_cells : ℕ
 most_cells = 8448
 
--- the beats that are taken, of which these are the cells, are so many, and each cell holds how many are counted in it
+-- `beats` is the number of beats taken, of which these are the cells, and each of `cells` has the number of beats in it
 pub record AreCounted (beats : ℕ) (cells taken : List ℕ) : Type 0 where
   pub in_all : beats ≡ length taken
   pub room : length cells ≡ most_cells

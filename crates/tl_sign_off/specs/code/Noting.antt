@@ -1,4 +1,4 @@
--- What is noted of an input that comes in pieces.
+-- The notes on an input that comes in pieces.
 use Rattle.std.specs.Prelude.{◌≡◌, ◌≢◌, ℕ, List, [], ◌++◌, length, take}
 use Rattle.sha2.specs.Hashers.{Holds256}
 use Rattle.tl_engine.specs.code.Lines.{lines_of}

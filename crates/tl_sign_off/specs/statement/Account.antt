@@ -1,4 +1,4 @@
--- What is known of an input that was judged to its end.
+-- The account of an input that was judged to its end.
 use Rattle.std.specs.Prelude.{◌≡◌, ℕ, List, length, take}
 use Rattle.sha2.specs.Sha256.{sha256}
 use Rattle.tl_command.specs.declared.search.Aim.{Aim}
@@ -6,8 +6,8 @@ use Rattle.tl_engine.specs.code.Lines.{lines_of}
 use Rattle.tl_report.specs.statement.Found.{FindsFor}
 use Rattle.tl_sign_off.specs.declared.account.Account.{Account}
 
--- The account is of these bytes: what is found in their lines, with the beats that are taken; how many bytes there are,
--- the first 256 of them, and their sum.
+-- The account is of these bytes: the findings in their lines, the number of bytes, the first 256 of them, and their
+-- SHA-256.
 pub record IsOf (aim : Aim) (a : Account) (input : List ℕ) : Type 0 where
   pub together_is : a.together ≡ aim.together
   pub found : FindsFor aim (lines_of input) a.findings.faults.items a.findings.beats a.findings.cells.items

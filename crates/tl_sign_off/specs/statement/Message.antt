@@ -1,11 +1,11 @@
--- The messages in which beats are counted, by their numbers.
+-- The messages by which beats are counted, by their numbers.
 use Rattle.std.specs.Prelude.{◌/◌, ◌%◌, ◌==◌, ℕ, List, [], Option, Some, None, codes, if◌then◌else◌, option_map}
 use Rattle.tl_beat.specs.declared.beat.Beat.{Beat}
 use Rattle.tl_beat.specs.declared.beat.Beat.TheVariants as beat
 use Rattle.tl_beat.specs.statement.Names.{a_name, b_name, c_name, d_name}
 use Rattle.tl_beat.specs.statement.Opcode.{a_with, b_with, c_with, d_with}
 
--- a name, where there is one
+-- the name, empty if there is none
 abbrev pub name_or_none : Option (List ℕ) → List ℕ
 name_or_none None = []
 name_or_none (Some name) = name

@@ -1,4 +1,4 @@
--- What a report holds, as JSON: the members of an object are in the order of their names.
+-- The content of a report as JSON. The members of an object are in the order of their names.
 use Rattle.std.specs.Prelude.{◌≡◌, ◌+◌, ◌/◌, ◌%◌, ◌==◌, ◌++◌, ◌∷◌, ℕ, Bool, true, false, List, [], Option, Some, None}
 use Rattle.std.specs.Prelude.{codes, if◌then◌else◌, map, not, position, take}
 use Rattle.hex.specs.Hex.{encode_lower}
@@ -18,20 +18,22 @@ use Rattle.tl_sign_off.specs.declared.input.Input.{Input}
 use Rattle.tl_sign_off.specs.statement.Message.{channel_name, message_name, name_of}
 use Rattle.tl_sign_off.specs.statement.Sentence.{sentence_of}
 
+-- a number without sign
 abbrev pub natural : ℕ → Data
 natural n = number (unsigned n)
 
--- a line at fault: its number, the name of the rule or fault, and what that says
+-- a line at fault: its number, the name of the rule or fault, and its sentence
 abbrev pub fault_data : Finding → Data
 fault_data x = object
     (member (codes "line") (natural x.line)
     (member (codes "rule") (string (fault_name x.fault))
     (member (codes "sentence") (string (sentence_of x.fault)) no_members)))
 
+-- the lines at fault
 abbrev pub faults_data : List Finding → Data
 faults_data found = array (items_of (map fault_data found))
 
--- so many beats of a link and a message, which are counted in this cell
+-- the number of beats in a cell, with the link and message of the cell
 abbrev pub count_data : ℕ → ℕ → Data
 count_data cell n = object
     (member (codes "beats") (natural n)
@@ -39,7 +41,7 @@ count_data cell n = object
     (member (codes "link") (natural (cell / 33))
     (member (codes "message") (string (message_name (cell % 33))) no_members))))
 
--- so many beats like this one
+-- the number of beats with this beat's link and message
 abbrev pub count_of : {w : ℕ} → Link → Beat w → ℕ → Data
 count_of link beat n = object
     (member (codes "beats") (natural n)
@@ -47,19 +49,20 @@ count_of link beat n = object
     (member (codes "link") (natural link.0)
     (member (codes "message") (string (name_of beat)) no_members))))
 
--- those of a cell, where there are some
+-- the entry for a cell; none for a cell without beats
 abbrev pub counted_in : ℕ → ℕ → List Data
 counted_in cell n = if n == 0 then [] else count_data cell n ∷ []
 
--- those of these cells, the first of which has this number
+-- the entries for these cells, the first of which has this number
 unfoldable pub counted_from : ℕ → List ℕ → List Data
 counted_from cell [] = []
 counted_from cell (n ∷ ns) = counted_in cell n ++ counted_from (cell + 1) ns
 
+-- the entries for all cells
 abbrev pub counts_data : List ℕ → Data
 counts_data cells = array (items_of (counted_from 0 cells))
 
--- the fault is that of a first line that is no header
+-- the fault is that the first line is no header
 abbrev pub is_headless : Fault → Bool
 is_headless Header = true
 is_headless _ = false
@@ -69,52 +72,53 @@ abbrev pub has_header : List Finding → Bool
 has_header [] = true
 has_header (x ∷ found) = not (is_headless x.fault)
 
--- the bytes before an LF that is there
+-- the bytes before the first LF, if there is one
 abbrev pub before : Option ℕ → List ℕ → List ℕ
 before None front = front
 before (Some i) front = take i front
 
--- the first of these lines
+-- the first line of these bytes
 abbrev pub line_in : List ℕ → List ℕ
 line_in front = before (position (λ b. b == 10) front) front
 
--- the header as it stands, or null where the first line is none
+-- the header, or null if the first line is none
 abbrev pub header_data : List Finding → List ℕ → Data
 header_data found front = if has_header found then string (line_in front) else null
 
--- what was read: how many bytes, the header, and the SHA-256 of all
+-- the input: its number of bytes, its header, and its SHA-256
 abbrev pub input_data : List Finding → Input → Data
 input_data found input = object
     (member (codes "bytes") (natural input.bytes)
     (member (codes "header") (header_data found input.front.items)
     (member (codes "sha256") (string (encode_lower input.sum)) no_members)))
 
--- the version, and what it is proved with
+-- the version of the tool, and the kit that proved it
 abbrev pub version_name : List ℕ
 version_name = codes "1.0.0"
 
+-- the kit that proved the tool
 abbrev pub kit_name : List ℕ
 kit_name = codes "Rattle, logic dac8208d650f15bf"
 
--- what has judged it
+-- the tool that judged the input
 abbrev pub tool_data : Data
 tool_data = object
     (member (codes "name") (string (codes "tltool"))
     (member (codes "proved_with") (string kit_name)
     (member (codes "version") (string version_name) no_members)))
 
--- the command that judges all links together, or each by itself
+-- the command: `coherent` judges all links together, `monitor` each by itself
 abbrev pub command_name : Bool → List ℕ
 command_name false = codes "monitor"
 command_name true = codes "coherent"
 
--- what is said of the whole
+-- the verdict on the whole input
 abbrev pub verdict_name : Bool → List Finding → List ℕ
 verdict_name false [] = codes "clean"
 verdict_name true [] = codes "coherent"
 verdict_name together found = codes "broken"
 
--- the report of an account, as a value
+-- the report of an account, as a JSON value
 abbrev pub report_of : Account → Data
 report_of a = object
     (member (codes "beats") (natural a.findings.beats)
@@ -125,6 +129,6 @@ report_of a = object
     (member (codes "tool") tool_data
     (member (codes "verdict") (string (verdict_name a.together a.findings.faults.items)) no_members)))))))
 
--- and as a line of text
+-- the report of an account, as a line of text
 abbrev pub json_line : Account → List ℕ
 json_line a = compact_text (report_of a) ++ codes "\n"

@@ -1,4 +1,4 @@
--- What is written of an input that was judged to its end.
+-- The text written about an input that was judged to its end.
 use Rattle.std.specs.Prelude.{◌≡◌, ℕ, Bool, true, false, List, Option, if◌then◌else◌}
 use Rattle.std.specs.Io.KnownBytes.{Consumes, IsAtEnd}
 use Rattle.tl_command.specs.declared.search.Inquiry.{Inquiry}
@@ -13,7 +13,7 @@ use Rattle.tl_sign_off.specs.statement.Account.{IsOf}
 use Rattle.tl_sign_off.specs.statement.Junit.{junit_of}
 use Rattle.tl_sign_off.specs.statement.Report.{json_line}
 
--- all lines at fault and how many they are, or the first; where none is, what is said of the number of beats
+-- all lines at fault and their number, or the first; if there is none, the verdict with the number of beats
 abbrev pub verdict_text : Bool → Account → List ℕ
 verdict_text all a =
     if all then all_text a.together a.findings.faults.items a.findings.beats
@@ -24,8 +24,8 @@ abbrev pub report_in : Form → Account → List ℕ
 report_in Json a = json_line a
 report_in Junit a = junit_of a
 
--- A judgement was given up for this. But for `Write` nothing was written. `Write`: the input came to its end, and some of
--- the verdict is left to be written.
+-- A judgement that ended with this error. With `Write` the input came to its end, and a part of the verdict isn't
+-- written. With any other error nothing is written.
 abbrev pub GivesUpJudging : Inquiry → Option (List ℕ) → Option (List ℕ) → Option (List ℕ) → Option (List ℕ) → ToolFault
     → Type 0
 GivesUpJudging q had left held holds Write =
@@ -33,7 +33,7 @@ GivesUpJudging q had left held holds Write =
     × AppendsShort held holds (verdict_text q.all a)
 GivesUpJudging q had left held holds fault = holds ≡ held
 
--- A report wasn't written: for want of memory nothing of it, or some of it is left.
+-- A report wasn't written. With `Memory` nothing of it is, with `Write` a part of it isn't.
 abbrev pub GivesUpWriting : List ℕ → Option (List ℕ) → Option (List ℕ) → ToolFault → Type 0
 GivesUpWriting text held holds Memory = holds ≡ held
 GivesUpWriting text held holds Write = AppendsShort held holds text

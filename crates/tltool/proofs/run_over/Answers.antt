@@ -3,34 +3,34 @@ use Rattle.tltool.proofs.run_over.Goals as goal
 
 pub returns-in-Monitor : goal.returns-in-Monitor
 returns-in-Monitor g c = rw c.in-Monitor.is (
-  c.run_links.result,
+  c.run_trace.result,
   c.told.ensures,
   (
-    c.run_links.ensures.ok,
-    c.run_links.ensures.err,
-    c.run_links.ensures.fault,
+    c.run_trace.ensures.ok,
+    c.run_trace.ensures.err,
+    c.run_trace.ensures.fault,
   ),
 )
 
 pub returns-in-Coherent : goal.returns-in-Coherent
 returns-in-Coherent g c = rw c.in-Coherent.is (
-  c.run_links-in-Coherent.result,
+  c.run_trace-in-Coherent.result,
   c.told-in-Coherent.ensures,
   (
-    c.run_links-in-Coherent.ensures.ok,
-    c.run_links-in-Coherent.ensures.err,
-    c.run_links-in-Coherent.ensures.fault,
+    c.run_trace-in-Coherent.ensures.ok,
+    c.run_trace-in-Coherent.ensures.err,
+    c.run_trace-in-Coherent.ensures.fault,
   ),
 )
 
 pub returns-in-Explain : goal.returns-in-Explain
 returns-in-Explain g c = rw c.in-Explain.is (
-  c.run_links-in-Explain.result,
+  c.run_links.result,
   c.told-in-Explain.ensures,
   (
-    c.run_links-in-Explain.ensures.ok,
-    c.run_links-in-Explain.ensures.err,
-    c.run_links-in-Explain.ensures.fault,
+    c.run_links.ensures.ok,
+    c.run_links.ensures.err,
+    c.run_links.ensures.fault,
   ),
 )
 

@@ -1,43 +1,20 @@
-use Rattle.std.proofs.Common.{◌≡◌, ◌≢◌, length, ap, arith, rules}
-use Rattle.tl_engine.proofs.LinksHeaders.{fourth_behind, fourth_spelled, lacks_comma, tail}
+use Rattle.tl_engine.proofs.LinksHeaders.{fourth_behind, fourth_spelled, named_behind}
 use Rattle.tl_engine.proofs.links_header.fourth.Goals as goal
 
 pub returns-in_err-may-clause-every_spelling : goal.returns-in_err-may-clause-every_spelling
 returns-in_err-may-clause-every_spelling c = λ width may levels h.
-    let (w, text) = fourth_behind c.args.line.now width may levels h (c.in_ok-width.width, c.in_ok-width.rest.now)
-    c.in_ok-width.ensures in
-    absurd (c.in_err-may.ensures.every_spelling may h.word (tail levels) h.spells (lacks_comma levels h.so_many) text)
-
-pub returns-in_err-levels-clause-every_spelling : goal.returns-in_err-levels-clause-every_spelling
-returns-in_err-levels-clause-every_spelling c = λ width may levels h.
-    let (w, text) = fourth_behind c.args.line.now width may levels h (c.in_ok-width.width, c.in_ok-width.rest.now)
-    c.in_ok-width.ensures in
-    let (m, ends) = c.in_ok-may.ensures.every_spelling may h.word (tail levels) h.spells (lacks_comma levels h.so_many)
-    text in
-    absurd (c.in_err-levels.ensures.every_spelling levels (ends, h.so_many.1))
-
-pub returns-then-is_empty-clause-every_spelling : goal.returns-then-is_empty-clause-every_spelling
-returns-then-is_empty-clause-every_spelling c = λ width may levels h.
-    let (w, text) = fourth_behind c.args.line.now width may levels h (c.in_ok-width.width, c.in_ok-width.rest.now)
-    c.in_ok-width.ensures in
-    let (m, ends) = c.in_ok-may.ensures.every_spelling may h.word (tail levels) h.spells (lacks_comma levels h.so_many)
-    text in
-    let same = c.in_ok-levels.ensures.every_spelling levels (ends, h.so_many.1) in
-    let empty : length c.in_ok-levels.levels.items ≡ 0 = search rules in
-    absurd (omega (arith, h.so_many.0, ap length same, empty))
+    absurd (c.in_err-may.ensures.every_spelling may levels
+    (named_behind c.args.line.now width may levels h c.in_ok-width.width c.in_ok-width.rest.now c.in_ok-width.ensures))
 
 pub returns-clause-spelled : goal.returns-clause-spelled
 returns-clause-spelled c =
-    let (word, spells, text) = c.in_ok-may.ensures.spelled in
-    let some : length c.in_ok-levels.levels.items ≢ 0 = search rules in
-    fourth_spelled c.args.line.now c.in_ok-width.rest.now c.in_ok-may.rest.now word c.in_ok-width.width c.in_ok-may.may
-    c.in_ok-levels.levels.items c.in_ok-width.ensures spells text c.in_ok-levels.ensures.spelled
-    (λ none. some (ap length none))
+    fourth_spelled c.args.line.now c.in_ok-width.rest.now c.in_ok-width.width c.in_ok-may.may c.in_ok-may.levels.items
+    c.in_ok-width.ensures c.in_ok-may.ensures.spelled
 
 pub returns-clause-every_spelling : goal.returns-clause-every_spelling
 returns-clause-every_spelling c = λ width may levels h.
     let (w, text) = fourth_behind c.args.line.now width may levels h (c.in_ok-width.width, c.in_ok-width.rest.now)
     c.in_ok-width.ensures in
-    let (m, ends) = c.in_ok-may.ensures.every_spelling may h.word (tail levels) h.spells (lacks_comma levels h.so_many)
-    text in
-    (w, m, c.in_ok-levels.ensures.every_spelling levels (ends, h.so_many.1))
+    let (m, l) = c.in_ok-may.ensures.every_spelling may levels
+    (named_behind c.args.line.now width may levels h c.in_ok-width.width c.in_ok-width.rest.now c.in_ok-width.ensures) in
+    (w, m, l)

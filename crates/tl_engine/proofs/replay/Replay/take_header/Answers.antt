@@ -6,7 +6,7 @@ use Rattle.tl_params.specs.declared.liberties.Liberties.{Liberties}
 
 pub returns : goal.returns
 returns g c = λ _. record {
-  kept = record { allow_is = refl; may_is = refl; good_is = refl; line_is = refl; subject_is = refl };
+  kept = record { allow_is = refl; may_is = refl; level_is = refl; good_is = refl; line_is = refl; subject_is = refl };
   width = c.in-Some.header.width;
   levels = c.in-Some.header.levels.items;
   names = subst (λ (l : Liberties). NamesAllowed c.args.self.now.allow c.args.line.now c.in-Some.header.width l
@@ -14,6 +14,7 @@ returns g c = λ _. record {
       (same_liberties c.in-Some.header.may c.args.self.now.may c.ne.result c.ne.ensures c.if-ne.false)
       c.in-Some.ensures.reads;
   of_width = search rules;
+  level_is = search rules;
   count_is = refl;
   reached_is = refl;
   recorder_is = refl;

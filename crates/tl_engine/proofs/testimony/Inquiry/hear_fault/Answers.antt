@@ -1,6 +1,6 @@
 use Rattle.std.proofs.Common.{arith, refl, rules, ◌≡◌, ◌+◌}
 use Rattle.std.proofs.lemmas.Result.{IfOk-weaker}
-use Rattle.tl_explain.specs.code.Spelled.{spelled}
+use Rattle.tl_explain.specs.statement.Spelled.{spelled}
 use Rattle.tl_engine.proofs.Hearing.{fault-told}
 use Rattle.tl_engine.proofs.testimony.Inquiry.hear_fault.Goals as goal
 

@@ -2,3 +2,6 @@ pub mod Boxed
 pub mod Called
 pub mod Openings
 pub mod Refused
+pub mod WideMade
+pub mod WideParts
+pub mod WideTold

@@ -1,6 +1,6 @@
 -- Managers that were opened.
-use Rattle.std.proofs.Common.{◌≡◌, ℕ, Bool, true, false, List, refl, ap, sym, ◌∙◌}
-use Rattle.std.specs.Prelude.{◌&&◌, ◌==◌, ◌++◌, drop, if◌then◌else◌, length, replicate, Option, Some, None}
+use Rattle.std.proofs.Common.{◌≡◌, ℕ, Bool, true, false, List, refl, ap}
+use Rattle.std.specs.Prelude.{◌==◌, ◌++◌, drop, if◌then◌else◌, length, replicate, Option, Some, None}
 use Rattle.tl_params.specs.declared.liberties.Liberties.{Liberties}
 use Rattle.tl_partner.specs.declared.terms.Terms.{Terms}
 use Rattle.tl_partner.specs.laws.Without.{GrantsNone}
@@ -14,8 +14,7 @@ use Rattle.hefrudyl.specs.declared.session.Session.TheVariants as session
 use Rattle.tl_pictures.specs.statement.Answer.{bad}
 use Rattle.tl_pictures.specs.statement.Codes.{liberties_at}
 use Rattle.hefrudyl.specs.statement.ManagerOpened.{IsFreshManager, IsFreshManagerUnder, may_open_manager}
-use Rattle.hefrudyl.specs.statement.ManagerOpened.{may_open_manager_under, profile_code, terms_at}
-use Rattle.hefrudyl.specs.statement.Opened.{refusal}
+use Rattle.hefrudyl.specs.statement.ManagerOpened.{may_open_manager_under, profile_code}
 use Rattle.hefrudyl.specs.statement.Sessions.{ManagerOpens, ManagerOpensUnder, OpensManager}
 
 grants-none : (terms : Terms) → terms ≡ no_terms → GrantsNone terms
@@ -47,6 +46,8 @@ opened-alone links blocks trackers width profile (Some (session.Monitor m)) answ
 opened-alone links blocks trackers width profile (Some (session.Judge j)) answer may told = absurd told.2
 opened-alone links blocks trackers width profile (Some (session.Client p)) answer may told = absurd told.2
 opened-alone links blocks trackers width profile (Some (session.Covering c)) answer may told = absurd told.2
+opened-alone links blocks trackers width profile (Some (session.WideMonitor s)) answer may told = absurd told.2
+opened-alone links blocks trackers width profile (Some (session.WideJudge s)) answer may told = absurd told.2
 
 -- ---- under liberties
 

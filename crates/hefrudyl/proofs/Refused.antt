@@ -1,5 +1,5 @@
 -- Why no manager was opened.
-use Rattle.std.proofs.Common.{◌≡◌, ℕ, Bool, true, List, [], ◌∷◌, length, inl, inr, refl, ap, ◌∙◌}
+use Rattle.std.proofs.Common.{◌≡◌, ℕ, true, List, [], ◌∷◌, length, inl, inr, refl, ap, ◌∙◌}
 use Rattle.std.specs.Prelude.{◌&&◌, map, nat_le, nat_lt, None, Err}
 use Rattle.std.proofs.lemmas.Bool.{and_parts}
 use Rattle.std.proofs.lemmas.List.{length-map}

@@ -9,3 +9,5 @@ pub mod Opened
 pub mod Sessions
 pub mod Together
 pub mod TogetherOpened
+pub mod Wide
+pub mod WideOpened

@@ -1,4 +1,4 @@
-//! A client of links of any width.
+//! A client of links of any width. Bad input changes nothing.
 
 ghost use Rattle.std.specs.Prelude.{◌≡◌};
 ghost use Rattle.hefrudyl.specs.statement.Client.{Asked, OfferedOf, Stalls, Shows, Pops, Holds, Copies, Closed};
@@ -11,7 +11,7 @@ use tl_pictures::outcome::{Outcome, Reception, number_of_perm};
 use tl_pictures::picture::Picture;
 use tl_ports::client::ClientPort;
 
-/// A client of a link whose beats have 4, 8 or 16 bytes, with the beats that it has still to send.
+/// A client of a link whose beats have 4, 8 or 16 bytes, with its beats to send.
 #[derive(Drop)]
 pub enum AnyPort {
     Four(ClientPort<4>),
@@ -19,7 +19,7 @@ pub enum AnyPort {
     Sixteen(ClientPort<16>),
 }
 
-/// Asks for an operation.
+/// Asks a client for an operation, and sets the outcome. Bad input changes nothing, nor does want of memory.
 pub fn ask<const W: usize>(
     port: &mut ClientPort<W>,
     operation: &Operation,
@@ -39,7 +39,7 @@ pub fn ask<const W: usize>(
     }
 }
 
-/// Offers a beat.
+/// Offers a client a beat, and sets the reception if the beat breaks no rule.
 pub fn offer<const W: usize>(
     port: &mut ClientPort<W>,
     picture: &Picture,
@@ -60,7 +60,7 @@ pub fn offer<const W: usize>(
     }
 }
 
-/// Asks whether a beat would have to wait.
+/// Sets `stalled` to 1 if the client would stall a beat, otherwise to 0.
 pub fn stalls<const W: usize>(port: &ClientPort<W>, picture: &Picture, stalled: &mut u8) -> Answer
     ensures { Stalls W port.now picture.now stalled.old stalled.new result }
 {
@@ -71,7 +71,7 @@ pub fn stalls<const W: usize>(port: &ClientPort<W>, picture: &Picture, stalled: 
     Answer::OK
 }
 
-/// Shows the next beat to send on a channel.
+/// Shows the next beat to send on a channel; `NOTHING` if there is none.
 pub fn next<const W: usize>(port: &ClientPort<W>, channel: u8, picture: &mut Picture) -> Answer
     ensures { Shows W port.now channel picture.old picture.new result }
 {
@@ -81,7 +81,7 @@ pub fn next<const W: usize>(port: &ClientPort<W>, channel: u8, picture: &mut Pic
     }
 }
 
-/// Shows the next beat to send on a channel, which is sent now.
+/// Shows the next beat to send on a channel, and removes it; `NOTHING` if there is none.
 pub fn pop<const W: usize>(port: &mut ClientPort<W>, channel: u8, picture: &mut Picture) -> Answer
     ensures { Pops W port.old port.new channel picture.old picture.new result }
 {
@@ -91,7 +91,7 @@ pub fn pop<const W: usize>(port: &mut ClientPort<W>, channel: u8, picture: &mut 
     }
 }
 
-/// What is held of a block.
+/// Sets `perm` to the permission held of a block.
 pub fn held<const W: usize>(port: &ClientPort<W>, block: u16, perm: &mut u8) -> Answer
     ensures { Holds W port.now block perm.new result }
 {
@@ -99,7 +99,7 @@ pub fn held<const W: usize>(port: &ClientPort<W>, block: u16, perm: &mut u8) -> 
     Answer::OK
 }
 
-/// The bytes of the copy of a block.
+/// Shows the bytes of the copy of a block; `NOTHING` if there is no copy.
 pub fn copy<const W: usize>(port: &ClientPort<W>, block: u16, bytes: &mut [u8; 64]) -> Answer
     ensures { Copies W port.now block bytes.old bytes.new result }
 {
@@ -112,7 +112,7 @@ pub fn copy<const W: usize>(port: &ClientPort<W>, block: u16, bytes: &mut [u8; 6
     }
 }
 
-/// Whether a beat was refused.
+/// Sets `is_closed` to 1 if the client has refused a beat, otherwise to 0.
 pub fn closed<const W: usize>(port: &ClientPort<W>, is_closed: &mut u8) -> Answer
     ensures { Closed W port.now is_closed.new result }
 {

@@ -1,4 +1,4 @@
-//! What follows the situations of links of any width.
+//! A covering of links of any width, which counts their situations. Bad input changes nothing.
 
 ghost use Rattle.std.specs.Prelude.{◌≡◌};
 ghost use Rattle.tl_beat.specs.statement.Width.{IsWidth};
@@ -18,7 +18,7 @@ pub enum AnyCovering {
     Sixteen(Covering<16>),
 }
 
-/// How often a situation came, and in which line of a trace first; 0 where it didn't come.
+/// The count of a situation, and the line of a trace in which it first came; 0 if it never came.
 #[repr(C)]
 #[derive(Clone, Copy, Debug, PartialEq, Eq)]
 pub struct Tally {
@@ -51,7 +51,7 @@ pub fn push<const W: usize>(covering: &mut Covering<W>, link: u8, picture: &Pict
     Answer::of(covering.push(link, &beat))
 }
 
-/// How often the situation of this number came.
+/// The tally of the situation with this number.
 pub fn tell<const W: usize>(covering: &Covering<W>, situation: u8, tally: &mut Tally) -> Answer
     ensures { TallyOf covering.now situation tally.old tally.new result }
 {

@@ -1,4 +1,4 @@
-//! What a handle that holds a covering is asked.
+//! The calls on a session with a covering. A session without one is bad input.
 
 ghost use Rattle.hefrudyl.specs.statement.Covering.{OpensCovering, CountsSession, TallySession};
 ghost use Rattle.hefrudyl.specs.statement.Opened.{ok_of, answer_in};
@@ -10,7 +10,7 @@ use std::alloc::Global;
 use tl_pictures::answer::Answer;
 use tl_pictures::picture::Picture;
 
-/// A new covering of the width, of links with liberties.
+/// A new covering of links with these liberties, of this width.
 pub fn open(alloc: Global, codes: &[u8], width: u8, liberties: u8) -> Result<Session, Answer>
     ensures told { OpensCovering codes.now width liberties (ok_of result) (answer_in result) }
 {
@@ -26,7 +26,7 @@ pub fn open(alloc: Global, codes: &[u8], width: u8, liberties: u8) -> Result<Ses
     Ok(Session::Covering(covering))
 }
 
-/// Judges a beat of a link and counts it, where a covering is held.
+/// Judges a beat of a link, and counts the situations of the message that begins with it.
 pub fn push(session: &mut Session, link: u8, beat: &Picture) -> Answer
     ensures { CountsSession link beat.now result session.old session.new }
 {
@@ -38,7 +38,7 @@ pub fn push(session: &mut Session, link: u8, beat: &Picture) -> Answer
     }
 }
 
-/// How often the situation of this number came, where a covering is held.
+/// The tally of the situation with this number.
 pub fn tell(session: &Session, situation: u8, tally: &mut Tally) -> Answer
     ensures { TallySession situation tally.old tally.new result session.now }
 {

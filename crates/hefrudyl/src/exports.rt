@@ -1,6 +1,6 @@
-//! The functions of C.
+//! The functions that C calls. Bad input changes nothing.
 
-/// Puts what is opened behind a handle that holds nothing; bad input where it holds something.
+/// Opens a session in an empty handle. A full handle is bad input.
 macro_rules! opened {
     ($alloc:ident, $handle:ident, $opened:expr) => {{
         if let Some(session) = mem::replace($handle, Handle::empty($alloc)).into_box() {
@@ -20,7 +20,7 @@ macro_rules! opened {
     }};
 }
 
-/// What the session behind a handle answers; bad input where it holds none.
+/// The answer of the session in a handle. An empty handle is bad input.
 macro_rules! answered {
     ($alloc:ident, $handle:ident, $session:ident => $answer:expr) => {
         match mem::replace($handle, Handle::empty($alloc)).into_box() {
@@ -40,3 +40,4 @@ mod judge;
 mod manager;
 mod monitor;
 mod text;
+mod wide;

@@ -1,4 +1,4 @@
-//! What C holds.
+//! The handles that C keeps.
 
 ghost use Rattle.std.specs.Prelude.{◌≡◌, ◌⊎◌, Option, Some, None, is_some, option_map, IsTrue};
 ghost use Rattle.std.specs.Coded.{coded_option};
@@ -13,14 +13,14 @@ use std::alloc::Global;
 use std::marker::Model;
 use std::ptr;
 
-/// The memory behind a handle, as C sees it.
+/// The memory of a session, as C sees it.
 #[repr(C)]
 #[derive(Drop)]
 pub struct Opaque {
     first: u8,
 }
 
-/// The pointer to a session, or one to nothing.
+/// The pointer to a session, or to nothing.
 #[repr(C)]
 #[derive(Drop)]
 pub struct Place {
@@ -34,7 +34,7 @@ impl Model for Place {
 }
 
 impl Place {
-    /// One that holds nothing.
+    /// A place that holds nothing.
     fn empty(alloc: Global) -> Place
         ensures { result.value ≡ None }
     {
@@ -66,7 +66,7 @@ impl Place {
     }
 }
 
-/// A handle.
+/// A handle, which holds a session or is empty.
 #[repr(C)]
 #[derive(Drop)]
 pub struct Handle {
@@ -76,7 +76,7 @@ pub struct Handle {
 }
 
 impl Handle {
-    /// One that holds nothing.
+    /// An empty handle.
     pub fn empty(alloc: Global) -> Handle
         ensures { result.place.value ≡ None }
     {
@@ -86,6 +86,7 @@ impl Handle {
         }
     }
 
+    /// A handle that holds this session.
     pub fn of(session: Box<Session>) -> Handle
         ensures { result.place.value ≡ Some session.value }
     {
@@ -95,6 +96,7 @@ impl Handle {
         }
     }
 
+    /// The session of the handle, or None if it is empty. The handle is used up.
     pub fn into_box(self) -> Option<Box<Session>>
         ensures { option_map (λ b. b.value) result ≡ self.place.value }
     {

@@ -1,4 +1,4 @@
-//! A judge of all links of a manager, of any width.
+//! A judge of all links of a manager, of any width. Bad input changes nothing.
 
 ghost use Rattle.tl_beat.specs.statement.Width.{IsWidth};
 ghost use Rattle.hefrudyl.specs.statement.Together.{ToldTogether, ToldOfLineTogether, stops, goes_on};
@@ -17,7 +17,7 @@ pub enum AnyJudge {
     Sixteen(Judge<16>),
 }
 
-/// Judges a beat of a link.
+/// Judges a beat of a link, after the earlier beats of all links. A beat that breaks a rule closes the judge.
 pub fn push<const W: usize>(judge: &mut Judge<W>, link: u8, picture: &Picture) -> Answer
     requires { IsWidth W }
     ensures { ToldTogether stops judge.old judge.new link picture.now result }
@@ -31,7 +31,7 @@ pub fn push<const W: usize>(judge: &mut Judge<W>, link: u8, picture: &Picture) -
     Answer::of_judge(judge.push(link, &beat))
 }
 
-/// Judges a beat of a link, and goes on where it breaks a rule.
+/// Judges a beat of a link, after the earlier beats of all links. A beat that breaks a rule doesn't close the judge.
 pub fn try_push<const W: usize>(judge: &mut Judge<W>, link: u8, picture: &Picture) -> Answer
     requires { IsWidth W }
     ensures { ToldTogether goes_on judge.old judge.new link picture.now result }
@@ -45,7 +45,7 @@ pub fn try_push<const W: usize>(judge: &mut Judge<W>, link: u8, picture: &Pictur
     Answer::of_judge(judge.try_push(link, &beat))
 }
 
-/// Judges the beat of a line.
+/// Judges the beat of a line of a trace, as `push` does.
 pub fn push_line<const W: usize>(judge: &mut Judge<W>, line: &[u8]) -> Answer
     requires { IsWidth W }
     ensures { ToldOfLineTogether judge.old judge.new line.now result }

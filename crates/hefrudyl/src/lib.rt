@@ -1,4 +1,4 @@
-//! Hefrudyl for C: handles of monitors, of judges of all links, of covers, of clients and of managers, and what C may do with them. C gives a
+//! Hefrudyl for C: the calls of C on handles of monitors, judges of all links, covers, clients and managers. C gives a
 //! handle to one call at a time.
 #![tactic(auto)]
 
@@ -11,5 +11,8 @@ mod judge;
 mod manager;
 mod monitor;
 mod opening;
+mod part_judge;
 mod parts;
 mod session;
+mod wide;
+mod wide_session;

@@ -1,4 +1,4 @@
-//! A manager of links of any width.
+//! A manager of links of any width. Bad input changes nothing.
 
 ghost use Rattle.std.specs.Prelude.{◌≡◌};
 ghost use Rattle.hefrudyl.specs.statement.Manager.{Admitted, StallsAt, ShowsAt, PopsAt, ClosedAt, admission_number};
@@ -10,7 +10,7 @@ use tl_pictures::depiction::show;
 use tl_pictures::picture::Picture;
 use tl_ports::manager::ManagerPort;
 
-/// A manager of links whose beats have 4, 8 or 16 bytes, with the beats that it has still to send.
+/// A manager of links whose beats have 4, 8 or 16 bytes, with its beats to send.
 #[derive(Drop)]
 pub enum AnyManager {
     Four(ManagerPort<4>),
@@ -27,7 +27,8 @@ fn number_of(admission: Admission) -> u8
     }
 }
 
-/// Offers a beat of a link.
+/// Offers a manager a beat of a link. If it breaks no rule, `taken` is set to 1 if the beat is taken, to 0 if it has to
+/// wait.
 pub fn offer<const W: usize>(
     port: &mut ManagerPort<W>,
     link: u8,
@@ -52,7 +53,7 @@ pub fn offer<const W: usize>(
     }
 }
 
-/// Asks whether a beat of a link would have to wait.
+/// Sets `stalled` to 1 if the manager would stall a beat of a link, otherwise to 0.
 pub fn stalls<const W: usize>(
     port: &ManagerPort<W>,
     link: u8,
@@ -71,7 +72,7 @@ pub fn stalls<const W: usize>(
     Answer::OK
 }
 
-/// Shows the next beat to send on a channel of a link.
+/// Shows the next beat to send on a channel of a link; `NOTHING` if there is none.
 pub fn next<const W: usize>(
     port: &ManagerPort<W>,
     link: u8,
@@ -89,7 +90,7 @@ pub fn next<const W: usize>(
     }
 }
 
-/// Shows the next beat to send on a channel of a link, which is sent now.
+/// Shows the next beat to send on a channel of a link, and removes it; `NOTHING` if there is none.
 pub fn pop<const W: usize>(
     port: &mut ManagerPort<W>,
     link: u8,
@@ -107,7 +108,7 @@ pub fn pop<const W: usize>(
     }
 }
 
-/// Whether a link takes no beats.
+/// Sets `is_closed` to 1 if the manager has refused a beat of a link or has no such link, otherwise to 0.
 pub fn closed<const W: usize>(port: &ManagerPort<W>, link: u8, is_closed: &mut u8) -> Answer
     ensures { ClosedAt W port.now link is_closed.old is_closed.new result }
 {

@@ -1,4 +1,4 @@
-//! A monitor of links of any width.
+//! A monitor of links of any width. Bad input changes nothing.
 
 ghost use Rattle.tl_beat.specs.statement.Width.{IsWidth};
 ghost use Rattle.hefrudyl.specs.statement.Judged.{ToldOf, ToldOfLine, EntriesOf, stops, goes_on};
@@ -17,7 +17,7 @@ pub enum AnyMonitor {
     Sixteen(Monitor<16>),
 }
 
-/// Judges a beat of a link.
+/// Judges a beat of a link. A beat that breaks a rule closes the monitor.
 pub fn push<const W: usize>(monitor: &mut Monitor<W>, link: u8, picture: &Picture) -> Answer
     requires { IsWidth W }
     ensures { ToldOf stops monitor.old monitor.new link picture.now result }
@@ -31,7 +31,7 @@ pub fn push<const W: usize>(monitor: &mut Monitor<W>, link: u8, picture: &Pictur
     Answer::of(monitor.push(link, &beat))
 }
 
-/// Judges a beat of a link, and goes on where it breaks a rule.
+/// Judges a beat of a link. A beat that breaks a rule doesn't close the monitor.
 pub fn try_push<const W: usize>(monitor: &mut Monitor<W>, link: u8, picture: &Picture) -> Answer
     requires { IsWidth W }
     ensures { ToldOf goes_on monitor.old monitor.new link picture.now result }
@@ -45,7 +45,7 @@ pub fn try_push<const W: usize>(monitor: &mut Monitor<W>, link: u8, picture: &Pi
     Answer::of(monitor.try_push(link, &beat))
 }
 
-/// Judges the beat of a line.
+/// Judges the beat of a line of a trace, as `push` does.
 pub fn push_line<const W: usize>(monitor: &mut Monitor<W>, line: &[u8]) -> Answer
     requires { IsWidth W }
     ensures { ToldOfLine monitor.old monitor.new line.now result }
@@ -56,7 +56,7 @@ pub fn push_line<const W: usize>(monitor: &mut Monitor<W>, line: &[u8]) -> Answe
     }
 }
 
-/// How many keys are pending and blocks held on a link.
+/// The number of keys pending and blocks held on a link.
 pub fn entries<const W: usize>(monitor: &Monitor<W>, link: u8, entries: &mut u64) -> Answer
     ensures { EntriesOf monitor.now link entries.old entries.new result }
 {

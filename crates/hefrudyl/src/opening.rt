@@ -1,4 +1,4 @@
-//! What monitors, judges, coverings, clients and managers are made from, as C names it.
+//! The arguments from which C makes monitors, judges, coverings, clients and managers.
 
 ghost use Rattle.std.specs.Prelude.{◌≡◌, ◌≤◌, ◌++◌, false, drop, map, length, replicate, IfOk};
 ghost use Rattle.tl_beat.specs.statement.Width.{IsWidth};
@@ -8,13 +8,16 @@ ghost use Rattle.hefrudyl.specs.statement.Covering.{MakesCovering};
 ghost use Rattle.hefrudyl.specs.statement.ClientOpened.{may_open_client, MakesClient};
 ghost use Rattle.hefrudyl.specs.statement.ManagerOpened.{may_open_manager, profile_code, MakesManager};
 ghost use Rattle.hefrudyl.specs.statement.TogetherOpened.{MakesJudge, may_judge_under};
+ghost use Rattle.hefrudyl.specs.statement.WideOpened.{may_judge_wide, may_open_wide};
 
 use std::alloc::{AllocError, Global};
 use tl_cover::covering::Covering;
 use tl_monitor::monitor::Monitor;
 use tl_partner::terms::Terms;
 use tl_pictures::answer::Answer;
-use tl_pictures::codes::{are_levels, is_profile, is_width, level_of, liberties_of, profile_of};
+use tl_pictures::codes::{
+    are_levels, is_profile, is_wide_width, is_width, level_of, liberties_of, profile_of,
+};
 use tl_pictures::config::{LinkConfig, config_of, links_fit};
 use tl_ports::client::ClientPort;
 use tl_ports::manager::ManagerPort;
@@ -24,7 +27,7 @@ use tl_rules::liberties::Liberties;
 use tl_together::fault::JudgeFault;
 use tl_together::judge::Judge;
 
-/// 1 to 16 levels, 0 to 2 each, a width of 4, 8 or 16 and a profile of 1 or 2.
+/// Whether the arguments fit: 1 to 16 levels, 0 to 2 each, a width of 4, 8 or 16 and a profile of 1 or 2.
 pub fn may_open(codes: &[u8], width: u8, profile: u8) -> bool
     ensures { result ≡ may_open codes.now width profile }
 {
@@ -41,7 +44,7 @@ fn levels_of(alloc: Global, codes: &[u8]) -> Result<Vec<Level>, AllocError>
     Ok(levels)
 }
 
-/// A monitor that has seen no beat.
+/// A monitor that has judged no beat.
 pub fn make<const W: usize>(alloc: Global, codes: &[u8], profile: u8) -> Result<Monitor<W>, Answer>
     requires width { IsWidth W }
     ensures { Makes codes.now profile result }
@@ -55,14 +58,14 @@ pub fn make<const W: usize>(alloc: Global, codes: &[u8], profile: u8) -> Result<
     }
 }
 
-/// 1 to 16 levels, 0 to 2 each, and a width of 4, 8 or 16.
+/// Whether the arguments fit: 1 to 16 levels, 0 to 2 each, and a width of 4, 8 or 16.
 pub fn may_open_under(codes: &[u8], width: u8) -> bool
     ensures { result ≡ may_open_under codes.now width }
 {
     1 <= codes.len() && codes.len() <= MOST_CLIENTS && are_levels(codes) && is_width(width)
 }
 
-/// A covering of links with liberties that has seen no beat.
+/// A covering of links with these liberties that has judged no beat.
 pub fn make_covering<const W: usize>(
     alloc: Global,
     codes: &[u8],
@@ -80,7 +83,7 @@ pub fn make_covering<const W: usize>(
     }
 }
 
-/// A monitor of links with liberties that has seen no beat.
+/// A monitor of links with these liberties that has judged no beat.
 pub fn make_under<const W: usize>(
     alloc: Global,
     codes: &[u8],
@@ -98,14 +101,14 @@ pub fn make_under<const W: usize>(
     }
 }
 
-/// 1 to 16 levels, 0 to 2 each, a width of 4, 8 or 16 and liberties without `early`.
+/// Whether the arguments fit: 1 to 16 levels, 0 to 2 each, a width of 4, 8 or 16 and liberties without `early`.
 pub fn may_judge_under(codes: &[u8], width: u8, liberties: u8) -> bool
     ensures { result ≡ may_judge_under codes.now width liberties }
 {
     may_open_under(codes, width) && !liberties_of(liberties).early
 }
 
-/// A judge of all links that has seen no beat.
+/// A judge of all links that has judged no beat.
 pub fn make_judge<const W: usize>(
     alloc: Global,
     codes: &[u8],
@@ -125,7 +128,21 @@ pub fn make_judge<const W: usize>(
     }
 }
 
-/// The answer where a client or a manager can't be made for this reason.
+/// Whether the arguments fit: 1 to 16 levels, 0 to 2 each, and a width of 4, 8, 16, 32 or 64.
+pub fn may_open_wide(codes: &[u8], width: u8) -> bool
+    ensures { result ≡ may_open_wide codes.now width }
+{
+    1 <= codes.len() && codes.len() <= MOST_CLIENTS && are_levels(codes) && is_wide_width(width)
+}
+
+/// Whether the arguments fit, and the liberties are without `early`.
+pub fn may_judge_wide(codes: &[u8], width: u8, liberties: u8) -> bool
+    ensures { result ≡ may_judge_wide codes.now width liberties }
+{
+    may_open_wide(codes, width) && !liberties_of(liberties).early
+}
+
+/// The answer to a client or a manager that can't be made for this reason.
 fn answer_of(fault: NewFault) -> Answer
     ensures { result ≡ new_answer fault }
 {
@@ -135,7 +152,8 @@ fn answer_of(fault: NewFault) -> Answer
     }
 }
 
-/// A level of 0 to 2, 1 to 1,024 blocks, 1 to 8 sources, a width of 4, 8 or 16 and a profile of 1 or 2.
+/// Whether the arguments fit: a level of 0 to 2, 1 to 1,024 blocks, 1 to 8 sources, a width of 4, 8 or 16 and a profile
+/// of 1 or 2.
 pub fn may_open_client(level: u8, blocks: u16, sources: u8, width: u8, profile: u8) -> bool
     ensures { result ≡ may_open_client level blocks sources width profile }
 {
@@ -169,8 +187,8 @@ pub fn make_client<const W: usize>(
     }
 }
 
-/// 1 to 16 links, each with a level of 0 to 2 and 1 to 8 sources, 1 to 1,024 blocks, 1 to 8 trackers, a
-/// width of 4, 8 or 16 and a profile of 1 or 2.
+/// Whether the arguments fit: 1 to 16 links, each with a level of 0 to 2 and 1 to 8 sources, 1 to 1,024 blocks, 1 to 8
+/// trackers, a width of 4, 8 or 16 and a profile of 1 or 2.
 pub fn may_open_manager(
     links: &[LinkConfig],
     blocks: u16,
@@ -191,14 +209,14 @@ pub fn may_open_manager(
         && is_profile(profile)
 }
 
-/// The profile by which a manager grants a lone reader toT, where that is among these liberties.
+/// The code of a manager's profile: 2 if it grants a lone reader toT, which is `writer`, otherwise 1.
 pub fn profile_code(liberties: Liberties) -> u8
     ensures { result ≡ profile_code liberties }
 {
     if liberties.writer { 2 } else { 1 }
 }
 
-/// The sources of the Probes of 16 links, of which the first are these, and the others 0.
+/// The sources of the Probes of 16 links: these first, then zeros.
 pub fn probe_sources(sources: &[u8]) -> [u8; 16]
     requires { length sources.now ≤ 16 }
     ensures { result ≡ sources.now ++ drop (length sources.now) (replicate 16 0) }

@@ -1,4 +1,4 @@
-//! What a handle holds.
+//! The session in a handle. A call on a session of another kind is bad input.
 
 ghost use Rattle.std.specs.Prelude.{◌≡◌, false, true};
 ghost use Rattle.hefrudyl.specs.statement.Opened.{OpensTo, OpensUnder, may_open_under, ok_of, answer_in};
@@ -21,6 +21,7 @@ use crate::opening::{
     make, make_client, make_judge, make_manager, make_under, may_judge_under, may_open,
     may_open_client, may_open_manager, may_open_under, probe_sources, profile_code,
 };
+use crate::wide::AnyWide;
 use crate::{client, judge, manager, monitor};
 use std::alloc::Global;
 use tl_partner::terms::Terms;
@@ -32,8 +33,8 @@ use tl_pictures::outcome::{Outcome, Reception};
 use tl_pictures::picture::Picture;
 use tl_rules::liberties::Liberties;
 
-/// What a handle holds: a monitor, a judge of all links, a covering, or a client or manager with the beats that it
-/// has still to send.
+/// The contents of a handle: a monitor, a judge of all links, a covering, a client or manager with its beats to send,
+/// or a monitor or judge of wide beats.
 #[derive(Drop)]
 pub enum Session {
     Monitor(AnyMonitor),
@@ -41,9 +42,12 @@ pub enum Session {
     Covering(AnyCovering),
     Client(AnyPort),
     Manager(AnyManager),
+    WideMonitor(AnyWide),
+    WideJudge(AnyWide),
 }
 
-/// What a monitor, judge, client or manager of any width answers; bad input where none is held.
+/// The answer of the monitor, judge, client or manager in a session, of any width. A session of another kind is bad
+/// input.
 macro_rules! of_any {
     ($held:ident, $any:ident, $session:expr, $port:ident => $answer:expr) => {
         match $session {
@@ -56,7 +60,7 @@ macro_rules! of_any {
 }
 
 impl Session {
-    /// A new monitor of the width.
+    /// A new monitor of this width.
     pub fn open(alloc: Global, codes: &[u8], width: u8, profile: u8) -> Result<Session, Answer>
         ensures told { OpensTo codes.now width profile (ok_of result) (answer_in result) }
     {
@@ -72,7 +76,7 @@ impl Session {
         Ok(Session::Monitor(monitor))
     }
 
-    /// A new monitor of the width, of links with liberties.
+    /// A new monitor of links with these liberties, of this width.
     pub fn open_under(
         alloc: Global,
         codes: &[u8],
@@ -93,35 +97,35 @@ impl Session {
         Ok(Session::Monitor(monitor))
     }
 
-    /// Judges a beat of a link, where a monitor is held.
+    /// Judges a beat of a link with the session's monitor. A beat that breaks a rule closes it.
     pub fn push(&mut self, link: u8, beat: &Picture) -> Answer
         ensures { PushSession link beat.now result self.old self.new }
     {
         of_any!(Monitor, AnyMonitor, self, held => monitor::push(held, link, beat))
     }
 
-    /// Judges a beat of a link and goes on where it breaks a rule, where a monitor is held.
+    /// Judges a beat of a link with the session's monitor. A beat that breaks a rule doesn't close it.
     pub fn try_push(&mut self, link: u8, beat: &Picture) -> Answer
         ensures { TrySession link beat.now result self.old self.new }
     {
         of_any!(Monitor, AnyMonitor, self, held => monitor::try_push(held, link, beat))
     }
 
-    /// Judges the beat of a line of a trace, where a monitor is held.
+    /// Judges the beat of a line of a trace with the session's monitor.
     pub fn push_line(&mut self, line: &[u8]) -> Answer
         ensures { LineSession line.now result self.old self.new }
     {
         of_any!(Monitor, AnyMonitor, self, held => monitor::push_line(held, line))
     }
 
-    /// How many keys are pending and blocks held on a link of a monitor.
+    /// The number of keys pending and blocks held on a link of the session's monitor.
     pub fn entries(&self, link: u8, entries: &mut u64) -> Answer
         ensures { EntriesSession link entries.old entries.new result self.now }
     {
         of_any!(Monitor, AnyMonitor, self, held => monitor::entries(held, link, entries))
     }
 
-    /// A new judge of all links of a manager, of the width, that have these liberties.
+    /// A new judge of all links of a manager with these liberties, of this width.
     fn judge_of(
         alloc: Global,
         codes: &[u8],
@@ -141,7 +145,7 @@ impl Session {
         Ok(Session::Judge(judge))
     }
 
-    /// A new judge of all links of a manager, of the width.
+    /// A new judge of all links of a manager, of this width.
     pub fn open_judge(
         alloc: Global,
         codes: &[u8],
@@ -156,7 +160,7 @@ impl Session {
         Self::judge_of(alloc, codes, width, Liberties::of(profile_of(profile)))
     }
 
-    /// A new judge of all links of a manager, of the width, that have these liberties: any but `early`.
+    /// A new judge of all links of a manager with these liberties, any but `early`, of this width.
     pub fn open_judge_under(
         alloc: Global,
         codes: &[u8],
@@ -171,28 +175,28 @@ impl Session {
         Self::judge_of(alloc, codes, width, liberties_of(liberties))
     }
 
-    /// Judges a beat of a link together with those of all links, where a judge is held.
+    /// Judges a beat of a link with the session's judge. A beat that breaks a rule closes it.
     pub fn judge(&mut self, link: u8, beat: &Picture) -> Answer
         ensures { JudgesSession link beat.now result self.old self.new }
     {
         of_any!(Judge, AnyJudge, self, held => judge::push(held, link, beat))
     }
 
-    /// Judges a beat so and goes on where it breaks a rule, where a judge is held.
+    /// Judges a beat of a link with the session's judge. A beat that breaks a rule doesn't close it.
     pub fn try_judge(&mut self, link: u8, beat: &Picture) -> Answer
         ensures { TriesSession link beat.now result self.old self.new }
     {
         of_any!(Judge, AnyJudge, self, held => judge::try_push(held, link, beat))
     }
 
-    /// Judges the beat of a line of a trace so, where a judge is held.
+    /// Judges the beat of a line of a trace with the session's judge.
     pub fn judge_line(&mut self, line: &[u8]) -> Answer
         ensures { JudgesLineSession line.now result self.old self.new }
     {
         of_any!(Judge, AnyJudge, self, held => judge::push_line(held, line))
     }
 
-    /// A new client of the level, with this many blocks and sources, on a link of the width.
+    /// A new client of this level, with this many blocks and sources, on a link of this width.
     pub fn open_client(
         alloc: Global,
         level: u8,
@@ -229,7 +233,7 @@ impl Session {
         of_any!(Client, AnyPort, self, port => client::offer(port, beat, reception))
     }
 
-    /// Asks whether a beat would have to wait.
+    /// Sets `stalled` to 1 if the client would stall a beat, otherwise to 0.
     pub fn stalls(&self, beat: &Picture, stalled: &mut u8) -> Answer
         ensures { StallsSession beat.now stalled.old stalled.new result self.now }
     {
@@ -243,35 +247,35 @@ impl Session {
         of_any!(Client, AnyPort, self, port => client::next(port, channel, beat))
     }
 
-    /// Shows it, and it is sent now.
+    /// Shows the next beat that a client has to send on a channel, and removes it.
     pub fn pop(&mut self, channel: u8, beat: &mut Picture) -> Answer
         ensures { PopSession channel beat.old beat.new result self.old self.new }
     {
         of_any!(Client, AnyPort, self, port => client::pop(port, channel, beat))
     }
 
-    /// What a client holds of a block.
+    /// Sets `perm` to the permission that a client holds of a block.
     pub fn held(&self, block: u16, perm: &mut u8) -> Answer
         ensures { HeldSession block perm.old perm.new result self.now }
     {
         of_any!(Client, AnyPort, self, port => client::held(port, block, perm))
     }
 
-    /// The bytes of a client's copy of a block.
+    /// Shows the bytes of a client's copy of a block.
     pub fn copy(&self, block: u16, bytes: &mut [u8; 64]) -> Answer
         ensures { CopySession block bytes.old bytes.new result self.now }
     {
         of_any!(Client, AnyPort, self, port => client::copy(port, block, bytes))
     }
 
-    /// Whether a client refused a beat.
+    /// Sets `is_closed` to 1 if a client has refused a beat, otherwise to 0.
     pub fn closed(&self, is_closed: &mut u8) -> Answer
         ensures { ClosedSession is_closed.old is_closed.new result self.now }
     {
         of_any!(Client, AnyPort, self, port => client::closed(port, is_closed))
     }
 
-    /// A new manager of these links, of the width, that grants its clients these terms.
+    /// A new manager of these links, of this width, that grants its clients these terms.
     fn manager_of(
         alloc: Global,
         links: &[LinkConfig],
@@ -295,7 +299,7 @@ impl Session {
         Ok(Session::Manager(manager))
     }
 
-    /// A new manager of these links, with this many blocks and trackers, whose beats have the width.
+    /// A new manager of these links, with this many blocks and trackers, of this width.
     pub fn open_manager(
         alloc: Global,
         links: &[LinkConfig],
@@ -320,7 +324,7 @@ impl Session {
         )
     }
 
-    /// The same of a manager whose clients have these liberties, and whose Probes of each link have its source.
+    /// A new manager of these links whose clients have these liberties. The Probes of each link have its source.
     pub fn open_manager_under(
         alloc: Global,
         links: &[LinkConfig],
@@ -353,7 +357,7 @@ impl Session {
         of_any!(Manager, AnyManager, self, port => manager::offer(port, link, beat, taken))
     }
 
-    /// Asks whether a beat of a link would have to wait.
+    /// Sets `stalled` to 1 if the manager would stall a beat of a link, otherwise to 0.
     pub fn stalls_on(&self, link: u8, beat: &Picture, stalled: &mut u8) -> Answer
         ensures { StallsAtSession link beat.now stalled.old stalled.new result self.now }
     {
@@ -367,14 +371,14 @@ impl Session {
         of_any!(Manager, AnyManager, self, port => manager::next(port, link, channel, beat))
     }
 
-    /// Shows it, and it is sent now.
+    /// Shows the next beat that a manager has to send on a channel of a link, and removes it.
     pub fn pop_on(&mut self, link: u8, channel: u8, beat: &mut Picture) -> Answer
         ensures { PopAtSession link channel beat.old beat.new result self.old self.new }
     {
         of_any!(Manager, AnyManager, self, port => manager::pop(port, link, channel, beat))
     }
 
-    /// Whether a link of a manager takes no beats.
+    /// Sets `is_closed` to 1 if a manager has refused a beat of a link or has no such link, otherwise to 0.
     pub fn closed_on(&self, link: u8, is_closed: &mut u8) -> Answer
         ensures { ClosedAtSession link is_closed.old is_closed.new result self.now }
     {

@@ -1,4 +1,4 @@
-//! What a caller can promise of an Acquire that is alone.
+//! Promises of a caller about an Acquire that starts alone.
 
 ghost use Rattle.std.specs.Prelude.{◌≡◌, IfSome, true};
 ghost use Rattle.tl_beat.specs.statement.Width.{IsWidth};
@@ -17,8 +17,8 @@ use tl_rules::param::Grow;
 use tl_rules::perm::Perm;
 use tl_world::world::World;
 
-/// Ends what is outstanding, asks a client, and ends what it started: what it then holds of a block, where
-/// something was started.
+/// Drains the world, asks a client, and drains it again. Returns the permission that the client then holds of a block,
+/// if the operation started.
 fn ask_alone<const W: usize, A: Agent<W>, D: Directory>(
     world: &mut World<W, A, D>,
     client: u8,
@@ -43,7 +43,7 @@ fn ask_alone<const W: usize, A: Agent<W>, D: Directory>(
     }
 }
 
-/// What a client holds of a block that it alone acquires, where it can.
+/// The permission that a client holds of a block after an Acquire alone, if that started.
 pub fn acquire_alone<const W: usize, A: Agent<W>, D: Directory>(
     world: &mut World<W, A, D>,
     client: u8,
@@ -58,7 +58,7 @@ pub fn acquire_alone<const W: usize, A: Agent<W>, D: Directory>(
     ask_alone(world, client, Op::Acquire { block, grow }, block)
 }
 
-/// What a client holds of a block that it alone writes whole, where it can: Trunk.
+/// The permission that a client holds of a block after an AcquireWhole alone, if that started: Trunk.
 pub fn write_alone<const W: usize, A: Agent<W>, D: Directory>(
     world: &mut World<W, A, D>,
     client: u8,

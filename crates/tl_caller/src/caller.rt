@@ -1,4 +1,4 @@
-//! What a caller can promise of the worlds that it makes, and of those that it is handed.
+//! Promises of a caller about the worlds that it makes, and about those that it is given.
 
 ghost use Rattle.std.specs.Prelude.{[], ◌∷◌, ◌≡◌, ◌≢◌, length, IfOk};
 ghost use Rattle.tl_beat.specs.statement.Width.{IsWidth};
@@ -15,7 +15,7 @@ use tl_rules::config::{Config, NewFault};
 use tl_rules::perm::Perm;
 use tl_world::world::World;
 
-/// Lets these events happen in a new world, and delivers what is outstanding then.
+/// Lets these events happen in a new world, and then drains it. The error is that of `World::new`.
 pub fn play<const W: usize, A: Agent<W>, D: Directory>(
     alloc: Global,
     config: Config,
@@ -37,7 +37,7 @@ pub fn play<const W: usize, A: Agent<W>, D: Directory>(
     Ok(world)
 }
 
-/// Lets these events happen in a new world at once.
+/// Lets these events happen in a new world, in one call. The error is that of `World::new`.
 pub fn play_at_once<const W: usize, A: Agent<W>, D: Directory>(
     alloc: Global,
     config: Config,
@@ -55,7 +55,7 @@ pub fn play_at_once<const W: usize, A: Agent<W>, D: Directory>(
     World::replay(alloc, config, clients, directory, events, outcomes)
 }
 
-/// Lets something happen in a world of which nothing else is known.
+/// Lets an event happen in a world about which nothing else is known.
 pub fn step_once<const W: usize, A: Agent<W>, D: Directory>(
     world: &mut World<W, A, D>,
     event: Event<W>,
@@ -65,7 +65,7 @@ pub fn step_once<const W: usize, A: Agent<W>, D: Directory>(
     world.step(event)
 }
 
-/// What a client holds of a block that another may write: nothing.
+/// The permission that a client holds of a block while another client holds Trunk of it: None.
 pub fn held_beside_a_writer<const W: usize, A: Agent<W>, D: Directory>(
     world: &World<W, A, D>,
     writer: u8,

@@ -1,4 +1,4 @@
-//! What a caller can promise of deliveries.
+//! Promises of a caller about deliveries.
 
 ghost use Rattle.std.specs.Prelude.{◌∷◌, ◌++◌, ◌≡◌, ◌≤◌, All, filter, length, true};
 ghost use Rattle.tl_beat.specs.statement.Width.{IsWidth};
@@ -17,7 +17,7 @@ use tl_coherence::event::{Event, Outcome};
 use tl_manager::directory::Directory;
 use tl_world::world::World;
 
-/// Makes a delivery, in whatever way the world was reached.
+/// Makes a delivery in any world.
 pub fn deliver_once<const W: usize, A: Agent<W>, D: Directory>(
     world: &mut World<W, A, D>,
     link: Link,
@@ -30,7 +30,7 @@ pub fn deliver_once<const W: usize, A: Agent<W>, D: Directory>(
     world.step(Event::Deliver { link, channel })
 }
 
-/// Makes deliveries in one call. The load before is at least the number of those that move a beat.
+/// Makes deliveries in one call, and returns the load before. At most that many of them move a beat.
 pub fn deliver_all<const W: usize, A: Agent<W>, D: Directory>(
     world: &mut World<W, A, D>,
     deliveries: &[Event<W>],
@@ -57,7 +57,7 @@ fn is_moving<const W: usize>(outcome: &Outcome<W>) -> bool
     matches!(outcome, Outcome::Moved { .. } | Outcome::Done { .. })
 }
 
-/// Makes a delivery: whether it moved a beat.
+/// Makes a delivery, and returns whether it moved a beat.
 fn moves<const W: usize, A: Agent<W>, D: Directory>(
     world: &mut World<W, A, D>,
     link: Link,
@@ -72,7 +72,8 @@ fn moves<const W: usize, A: Agent<W>, D: Directory>(
     is_moving(&world.step(Event::Deliver { link, channel }))
 }
 
-/// Makes deliveries one by one: how many of them moved a beat, and the load before, which is at least that.
+/// Makes deliveries one by one. Returns the number of them that moved a beat, and the load before, which is at least
+/// that number.
 pub fn deliver_each<const W: usize, A: Agent<W>, D: Directory>(
     world: &mut World<W, A, D>,
     deliveries: &[(Link, Channel)],

@@ -1,5 +1,5 @@
-//! A caller of worlds, generic in their agents and their directory, which knows the contracts of the
-//! world's calls and no law beside them.
+//! A caller of worlds, generic in their agents and their directory. It knows the contracts of the world's calls, and no
+//! law.
 #![tactic(auto)]
 
 pub mod alone;

@@ -6,4 +6,5 @@ pub mod Named
 pub mod Operation
 pub mod Outcome
 pub mod Picture
+pub mod WidePicture
 pub mod Written

@@ -1,4 +1,4 @@
-//! What C is answered.
+//! The answers of the library to C.
 
 ghost use Rattle.std.specs.Prelude.{◌≡◌};
 ghost use Rattle.tl_pictures.specs.statement.Answer.{rule_number, memory_rule_number, breach_number, broken, breaks};
@@ -10,7 +10,7 @@ use tl_rules::rule::Rule;
 use tl_together::breach::Breach;
 use tl_together::fault::JudgeFault;
 
-/// A code, and the number of the rule that a beat breaks; 0 for none.
+/// A code, and the number of the rule that a beat breaks; 0 if it breaks none.
 #[repr(C)]
 #[derive(Clone, Copy, Debug, PartialEq, Eq)]
 pub struct Answer {
@@ -50,7 +50,7 @@ fn number_of(rule: Rule) -> u8
     }
 }
 
-/// The number of a rule of memory, behind those of the links.
+/// The number of a rule between links, after those of the links.
 fn number_of_memory(rule: MemoryRule) -> u8
     ensures { result ≡ memory_rule_number rule }
 {
@@ -62,7 +62,7 @@ fn number_of_memory(rule: MemoryRule) -> u8
     }
 }
 
-/// The number of a rule of a link or of memory.
+/// The number of a rule of a link or between links.
 fn number_of_breach(breach: Breach) -> u8
     ensures { result ≡ breach_number breach }
 {
@@ -76,17 +76,20 @@ impl Answer {
     /// Done.
     pub const OK: Answer = Answer { code: 0, rule: 0 };
 
-    /// Something that was given is out of range, and nothing changed.
+    /// An argument is out of range, and nothing changed.
     pub const BAD: Answer = Answer { code: 2, rule: 0 };
 
     /// There is no memory, and nothing changed.
     pub const NO_MEMORY: Answer = Answer { code: 3, rule: 0 };
 
-    /// There is nothing of what was asked for.
+    /// There is nothing to answer with.
     pub const NOTHING: Answer = Answer { code: 5, rule: 0 };
 
+    /// A beat names a block, a source or a sink for which no number is left, and nothing changed.
+    pub const TOO_MANY: Answer = Answer { code: 6, rule: 0 };
+
     /// An earlier beat broke a rule.
-    const CLOSED: Answer = Answer { code: 4, rule: 0 };
+    pub const CLOSED: Answer = Answer { code: 4, rule: 0 };
 
     /// The beat breaks the rule.
     pub fn broken(rule: Rule) -> Answer
@@ -111,8 +114,8 @@ impl Answer {
         }
     }
 
-    /// The beat breaks the rule, of its link or of memory.
-    fn breaks(breach: Breach) -> Answer
+    /// The beat breaks the rule, of its link or between links.
+    pub fn breaks(breach: Breach) -> Answer
         ensures { result ≡ breaks breach }
     {
         Answer {
@@ -121,7 +124,7 @@ impl Answer {
         }
     }
 
-    /// The answer to a beat that was judged together with those of all links.
+    /// The answer to a beat that a judge of all links judged.
     pub fn of_judge(judged: Result<(), JudgeFault>) -> Answer
         ensures { result ≡ judge_answer judged }
     {

@@ -1,8 +1,8 @@
-//! The numbers by which C names levels, profiles, widths, channels and links.
+//! The numbers of levels, profiles, widths, channels and links in C.
 
 ghost use Rattle.std.specs.Prelude.{◌≡◌};
 ghost use Rattle.tl_pictures.specs.statement.Codes.{level_at, are_levels, liberties_at, profile_at, is_profile};
-ghost use Rattle.tl_pictures.specs.statement.Codes.{is_width, channel_at, link_at};
+ghost use Rattle.tl_pictures.specs.statement.Codes.{is_width, is_wide_width, channel_at, link_at};
 
 use tl_beat::beat::Link;
 use tl_beat::channel::Channel;
@@ -12,7 +12,7 @@ use tl_rules::level::Level;
 use tl_rules::liberties::Liberties;
 use tl_rules::profile::Profile;
 
-/// The level of a code: 0 for UL, 1 for UH, 2 for C.
+/// The level with a code: 0 for UL, 1 for UH, any other for C.
 pub fn level_of(code: u8) -> Level
     ensures { result ≡ level_at code }
 {
@@ -23,14 +23,14 @@ pub fn level_of(code: u8) -> Level
     }
 }
 
-/// Whether each is the code of a level.
+/// Whether each code is that of a level: 0, 1 or 2.
 pub fn are_levels(codes: &[u8]) -> bool
     ensures { result ≡ are_levels codes.now }
 {
     codes.iter().all(|code| *code < 3)
 }
 
-/// The profile of a code, 1 or 2.
+/// The profile with a code: 1 for the first, any other for the second.
 pub fn profile_of(code: u8) -> Profile
     ensures { result ≡ profile_at code }
 {
@@ -47,7 +47,7 @@ pub fn is_profile(code: u8) -> bool
     code == 1 || code == 2
 }
 
-/// The liberties of a code: bit 0 for `ids` to bit 7 for `uncorrupt`, in the order in which a header names them.
+/// The liberties with a code: bit 0 for `ids` to bit 7 for `uncorrupt`, in the order in which a header names them.
 pub fn liberties_of(code: u8) -> Liberties
     ensures { result ≡ liberties_at code }
 {
@@ -64,14 +64,21 @@ pub fn liberties_of(code: u8) -> Liberties
     }
 }
 
-/// Whether a beat may have so many bytes.
+/// Whether a beat may have this many bytes.
 pub fn is_width(width: u8) -> bool
     ensures { result ≡ is_width width }
 {
     width == 4 || width == 8 || width == 16
 }
 
-/// The channel of a code, 0 for A to 4 for E.
+/// Whether a wide beat may have this many bytes.
+pub fn is_wide_width(width: u8) -> bool
+    ensures { result ≡ is_wide_width width }
+{
+    is_width(width) || width == 32 || width == 64
+}
+
+/// The channel with a code, 0 for A to 4 for E.
 pub fn channel_at(code: u8) -> Option<Channel>
     ensures { result ≡ channel_at code }
 {
@@ -85,7 +92,7 @@ pub fn channel_at(code: u8) -> Option<Channel>
     }
 }
 
-/// The link of a code, 0 to 15.
+/// The link with a code, 0 to 15.
 pub fn link_at(code: u8) -> Option<Link>
     ensures { result ≡ link_at code }
 {

@@ -7,7 +7,7 @@ use crate::codes::{level_of, profile_of};
 use arrayvec::ArrayVec;
 use tl_rules::config::{ClientConfig, Config};
 
-/// A client's link: its level, 0 for UL, 1 for UH and 2 for C, and how many sources it has, 1 to 8.
+/// A client's link: its level, 0 for UL, 1 for UH and 2 for C, and its number of sources, 1 to 8.
 #[repr(C)]
 #[derive(Clone, Copy, Debug, PartialEq, Eq)]
 pub struct LinkConfig {
@@ -39,7 +39,7 @@ pub fn links_fit(links: &[LinkConfig]) -> bool
     links.iter().all(|link| link.fits())
 }
 
-/// The configuration of a manager of these links, at most 16, with a client each.
+/// The configuration of a manager with a client for each of these links, at most 16.
 pub fn config_of(links: &[LinkConfig], blocks: u16, trackers: u8, profile: u8) -> Config
     requires { length links.now ≤ 16 }
     ensures { IsConfigOf links.now blocks trackers profile result }

@@ -1,4 +1,4 @@
-//! Beats, as C is shown them.
+//! The fields of beats in C.
 
 ghost use Rattle.std.specs.Prelude.{◌≡◌};
 ghost use Rattle.tl_beat.specs.statement.Width.{IsWidth};
@@ -9,7 +9,7 @@ use crate::answer::Answer;
 use crate::picture::Picture;
 use tl_beat::beat::{Beat, BeatA, BeatB, BeatC, BeatD};
 
-/// A picture in which nothing is set.
+/// A picture in which each field is 0.
 const BLANK: Picture = Picture {
     lanes: [0; 16],
     address: 0,
@@ -129,7 +129,7 @@ pub fn picture_of<const W: usize>(beat: &Beat<W>) -> Picture
     }
 }
 
-/// Shows a beat, where there is one.
+/// Writes a beat to the picture, if there is one.
 pub fn show<const W: usize>(beat: Option<Beat<W>>, picture: &mut Picture) -> Answer
     requires { IsWidth W }
     ensures { ShowsBeat beat.entry picture.old picture.new result }

@@ -1,4 +1,4 @@
-//! Beats, operations, answers and configurations as C has them: structs of numbers, and what they show.
+//! Beats, operations, answers and configurations as structs of numbers in C, and their meaning.
 #![tactic(auto)]
 
 pub mod answer;
@@ -10,3 +10,4 @@ pub mod outcome;
 pub mod picture;
 pub mod rule;
 pub mod text;
+pub mod wide;

@@ -1,4 +1,4 @@
-//! An operation that a client is asked for, as C has it.
+//! An operation of a client in C.
 
 ghost use Rattle.std.specs.Prelude.{◌≡◌, option_map};
 ghost use Rattle.tl_pictures.specs.statement.Operation.{acquire_of, release_of, access_of, asked_for};
@@ -8,12 +8,12 @@ use tl_burst::message::{Message, MessageA};
 use tl_client::operation::Op;
 use tl_rules::param::{Grow, Prune};
 
-/// The fields of an operation: `kind` is 0 for a Load, 1 for a Store, 2 for an Acquire, 3 for the
-/// Acquire of a whole block, 4 for a Release and 5 for an access. What the kind lacks isn't read.
+/// The fields of an operation. `kind` is 0 for a Load, 1 for a Store, 2 for an Acquire, 3 for an AcquireWhole, 4 for a
+/// Release and 5 for an access. A field that the kind doesn't have isn't read.
 #[repr(C)]
 #[derive(Clone, Copy, Debug, PartialEq, Eq)]
 pub struct Operation {
-    /// Of a whole block, or the payload of an access.
+    /// Of an AcquireWhole, or the payload of an access.
     pub bytes: [u8; 64],
     /// Of a Store.
     pub value: u64,
@@ -21,7 +21,7 @@ pub struct Operation {
     pub mask: u64,
     /// Of a Load, a Store or an access.
     pub address: u32,
-    /// Of an Acquire or a Release.
+    /// Of an Acquire, an AcquireWhole or a Release.
     pub block: u16,
     pub kind: u8,
     /// Of an access.
@@ -78,7 +78,7 @@ fn access<const W: usize>(x: &Operation) -> Option<Op<W>>
 }
 
 impl Operation {
-    /// The operation that the fields show, if there is one.
+    /// The operation with these fields, if there is one.
     pub fn operation<const W: usize>(&self) -> Option<Op<W>>
         ensures { result ≡ asked_for W self.now }
     {

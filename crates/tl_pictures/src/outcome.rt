@@ -1,4 +1,4 @@
-//! What a client answers, as C has it.
+//! A client's replies and answers in C.
 
 ghost use Rattle.std.specs.Prelude.{◌≡◌};
 ghost use Rattle.tl_pictures.specs.statement.Outcome.{busy_number, perm_number, outcome_of, no_bytes, finish_of};
@@ -9,9 +9,9 @@ use tl_client::reply::Reply;
 use tl_client::verdict::{Finish, Verdict};
 use tl_rules::perm::Perm;
 
-/// The answer to an operation: `kind` is 0 for a value, 1 for a Store that is done, 2 for a miss, 3 for
-/// a message that was handed out with `source`, 4 where nothing was done for the reason B1 to B5 whose
-/// number is `busy`. The other fields are 0.
+/// The reply to an operation. `kind` is 0 for a value, 1 for a Store that is done, 2 for a miss, 3 for a message that
+/// was handed out with `source`, and 4 if nothing was done for the reason B1 to B5 with the number `busy`. The other
+/// fields are 0.
 #[repr(C)]
 #[derive(Clone, Copy, Debug, PartialEq, Eq)]
 pub struct Outcome {
@@ -21,9 +21,9 @@ pub struct Outcome {
     pub busy: u8,
 }
 
-/// The answer to a beat: `kind` is 0 where it has to wait, 1 where it was taken, and 2 to 6 where it
-/// completes the response to the request or Release with `source`: 2 AccessAck, 3 HintAck, 4
-/// AccessAckData of `size` with `bytes`, 5 a Grant of `perm`, 6 ReleaseAck. The other fields are 0.
+/// The answer to a beat. `kind` is 0 if it is stalled, 1 if it was taken, and 2 to 6 if it completes the response to
+/// the request or Release with `source`: 2 AccessAck, 3 HintAck, 4 AccessAckData of `size` with `bytes`, 5 a Grant of
+/// `perm`, 6 ReleaseAck. The other fields are 0.
 #[repr(C)]
 #[derive(Clone, Copy, Debug, PartialEq, Eq)]
 pub struct Reception {
@@ -69,7 +69,7 @@ fn told(kind: u8, value: u64, source: u8, busy: u8) -> Outcome
 }
 
 impl Outcome {
-    /// The answer to an operation.
+    /// The reply to an operation.
     pub fn of(reply: Reply) -> Outcome
         ensures { result ≡ outcome_of reply }
     {

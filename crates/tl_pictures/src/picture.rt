@@ -1,6 +1,6 @@
-//! A beat as C has it: the fields of any channel.
+//! A beat in C: the fields of all channels.
 
-ghost use Rattle.std.specs.Prelude.{◌≡◌, ◌≤◌, Some, if◌then◌else◌};
+ghost use Rattle.std.specs.Prelude.{◌≡◌, ◌≤◌, Some, if◌then◌else◌, length};
 ghost use Rattle.tl_beat.specs.statement.Width.{IsWidth};
 ghost use Rattle.tl_pictures.specs.statement.Picture.{a_beat, b_beat, c_beat, d_beat, a_fields, b_fields};
 ghost use Rattle.tl_pictures.specs.statement.Picture.{c_fields, d_fields, shown, lanes_in, all_zero};
@@ -9,9 +9,9 @@ ghost use Rattle.tl_pictures.specs.statement.Picture.{is_zero_from, a_fits, c_fi
 use tl_beat::beat::{Beat, BeatA, BeatB, BeatC, BeatD, BeatE};
 use tl_beat::opcode::{OpA, OpB, OpC, OpD};
 
-/// The fields of a beat: the channel is 0 for A to 4 for E, byte `i` of the data is lane `i`, and
-/// `denied` and `corrupt` are 0 or 1. What the channel lacks is 0, and so are the data where the opcode
-/// carries none and the bytes beyond the width.
+/// The fields of a beat. The channel is 0 for A to 4 for E, byte `i` of the data is lane `i`, and `denied` and
+/// `corrupt` are 0 or 1. A field that the channel doesn't have is 0. So are the data if the opcode carries none, and
+/// the bytes after the width.
 #[repr(C)]
 #[derive(Clone, Copy, Debug, PartialEq, Eq)]
 pub struct Picture {
@@ -34,15 +34,16 @@ fn are_zero(bytes: &[u8]) -> bool
     bytes.iter().all(|byte| *byte == 0)
 }
 
-fn zero_from(bytes: &[u8; 16], from: usize) -> bool
-    requires { from ≤ 16 }
+fn zero_from(bytes: &[u8], from: usize) -> bool
+    requires { from ≤ length bytes.now }
     ensures { result ≡ is_zero_from from bytes.now }
 {
     are_zero(&bytes[from..])
 }
 
-fn lanes_of<const W: usize>(carries: bool, bytes: &[u8; 16]) -> Option<[u8; W]>
-    requires { IsWidth W }
+/// The lanes of a beat of `W` bytes, if it carries data.
+pub(crate) fn lanes_of<const W: usize>(carries: bool, bytes: &[u8]) -> Option<[u8; W]>
+    requires { W ≤ length bytes.now }
     ensures { result ≡ lanes_in carries W bytes.now }
 {
     if !carries {
@@ -53,9 +54,9 @@ fn lanes_of<const W: usize>(carries: bool, bytes: &[u8; 16]) -> Option<[u8; W]>
     Some(lanes)
 }
 
-/// Nothing stands in the fields of the data that the beat doesn't carry.
-fn lanes_fit<const W: usize>(carries: bool, bytes: &[u8; 16]) -> bool
-    requires { IsWidth W }
+/// Whether the bytes that carry no data are 0.
+pub(crate) fn lanes_fit<const W: usize>(carries: bool, bytes: &[u8]) -> bool
+    requires { W ≤ length bytes.now }
     ensures { result ≡ is_zero_from (if carries then W else 0) bytes.now }
 {
     zero_from(bytes, if carries { W } else { 0 })
@@ -222,7 +223,7 @@ fn beat_d<const W: usize>(opcode: OpD, x: &Picture) -> Option<Beat<W>>
 }
 
 impl Picture {
-    /// The beat of `W` bytes that is shown, if there is one.
+    /// The beat of `W` bytes with these fields, if there is one.
     pub fn beat<const W: usize>(&self) -> Option<Beat<W>>
         requires { IsWidth W }
         ensures { result ≡ shown W self.now }

@@ -1,4 +1,4 @@
-//! The rules that the numbers of answers stand for.
+//! The rules by their numbers in answers.
 
 ghost use Rattle.std.specs.Prelude.{◌≡◌};
 ghost use Rattle.tl_pictures.specs.statement.Named.{rule_with, memory_rule_with, name_with};
@@ -39,7 +39,7 @@ fn rule_with(number: u8) -> Option<Rule>
     }
 }
 
-/// The rule of memory with a number.
+/// The rule between links with a number.
 fn memory_rule_with(number: u8) -> Option<MemoryRule>
     ensures { result ≡ memory_rule_with number }
 {
@@ -52,7 +52,7 @@ fn memory_rule_with(number: u8) -> Option<MemoryRule>
     }
 }
 
-/// The name of the rule with a number; nothing where there is none.
+/// The name of the rule with a number; empty if there is none.
 pub fn name_of(number: u8) -> &'static str
     ensures { result.now ≡ name_with number }
 {

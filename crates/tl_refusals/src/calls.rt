@@ -35,7 +35,7 @@ fn acquire_of(block: u8) -> Beat<8>
     })
 }
 
-/// What came of making something that is refused with an error of its own.
+/// The result of a constructor with errors of its own.
 fn made<T: Drop>(answer: Result<T, NewFault>) -> Came {
     match answer {
         Ok(_) => Came::Done,
@@ -44,7 +44,7 @@ fn made<T: Drop>(answer: Result<T, NewFault>) -> Came {
     }
 }
 
-/// What came of making something for which there may be no memory.
+/// The result of a constructor whose only error is `AllocError`.
 fn had<T: Drop>(answer: Result<T, AllocError>) -> Came {
     match answer {
         Ok(_) => Came::Done,
@@ -52,7 +52,7 @@ fn had<T: Drop>(answer: Result<T, AllocError>) -> Came {
     }
 }
 
-/// Appends a hundred lines to a vector; one that is refused leaves the vector as it was.
+/// Appends a hundred lines to a vector. A line that is refused must leave the vector as it was.
 pub fn appends(alloc: Global) -> Came {
     let mut lines = Vec::new(alloc);
     for block in 0..100u8 {
@@ -68,6 +68,7 @@ pub fn appends(alloc: Global) -> Came {
     Came::Done
 }
 
+/// Makes a monitor of two links.
 pub fn makes_a_monitor(alloc: Global) -> Came {
     match Monitor::<8>::new(alloc, &[Level::C, Level::UL], Profile::One) {
         Ok(_) => Came::Done,
@@ -76,8 +77,7 @@ pub fn makes_a_monitor(alloc: Global) -> Came {
     }
 }
 
-/// Pushes a beat, and once more where it is refused: nothing has changed then, and it answers as if nothing had been
-/// refused.
+/// Pushes a beat, and again if it is refused memory. Nothing may have changed then, and the second push must succeed.
 fn pushes_again(monitor: &mut Monitor<8>, beat: &Beat<8>) -> Came {
     let before = monitor.entries(Link(0));
     match monitor.push(Link(0), beat) {
@@ -94,7 +94,7 @@ fn pushes_again(monitor: &mut Monitor<8>, beat: &Beat<8>) -> Came {
     }
 }
 
-/// Pushes Acquires of 256 blocks; then the source of the last is pending.
+/// Pushes Acquires of 256 blocks. Then the source of the last must be pending.
 pub fn pushes(alloc: Global) -> Came {
     let Ok(mut monitor) = Monitor::<8>::new(alloc, &[Level::C], Profile::One) else {
         return Came::Refused;
@@ -115,6 +115,7 @@ pub fn pushes(alloc: Global) -> Came {
     }
 }
 
+/// Makes a caching client.
 pub fn makes_a_cache(alloc: Global) -> Came {
     let config = ClientConfig {
         level: Level::C,
@@ -123,15 +124,18 @@ pub fn makes_a_cache(alloc: Global) -> Came {
     made(Caching::<8>::new(alloc, config, 16, Profile::One))
 }
 
+/// Makes the clients of the contention.
 pub fn makes_clients(alloc: Global) -> Came {
     let clients: Result<Vec<AnyClient<8>>, NewFault> = agents_of(alloc, &contention());
     made(clients)
 }
 
+/// Makes a directory of words.
 pub fn makes_words(alloc: Global) -> Came {
     had(BitDirectory::new(alloc, 1024, 16))
 }
 
+/// Makes a directory of entries.
 pub fn makes_a_table(alloc: Global) -> Came {
     had(TableDirectory::new(alloc, 1024, 16))
 }

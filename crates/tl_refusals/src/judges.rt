@@ -25,7 +25,7 @@ fn put(block: u8, byte: u8) -> Beat<8> {
     })
 }
 
-/// A Get of it.
+/// A Get of this byte.
 fn get(block: u8) -> Beat<8> {
     Beat::A(BeatA {
         opcode: OpA::Get,
@@ -53,7 +53,7 @@ fn done() -> Beat<8> {
     })
 }
 
-/// The answer to a Get.
+/// The answer to a Get, with this byte.
 fn found(byte: u8) -> Beat<8> {
     Beat::D(BeatD {
         opcode: OpD::AccessAckData,
@@ -67,6 +67,7 @@ fn found(byte: u8) -> Beat<8> {
     })
 }
 
+/// Makes a judge of two links.
 pub fn makes_a_judge(alloc: Global) -> Came {
     match Judge::<8>::new(alloc, &[Level::C, Level::UL], Profile::One) {
         Ok(_) => Came::Done,
@@ -75,8 +76,8 @@ pub fn makes_a_judge(alloc: Global) -> Came {
     }
 }
 
-/// Pushes a beat that is answered so, and once more where it is refused: it answers then as if nothing had been
-/// refused.
+/// Pushes a beat and expects this answer. If it is refused memory, pushes it again; the answer must then be the
+/// expected one.
 fn pushes_again(
     judge: &mut Judge<8>,
     link: u8,
@@ -93,7 +94,7 @@ fn pushes_again(
     }
 }
 
-/// What came of two calls.
+/// The result of two calls.
 fn both(one: Came, other: Came) -> Came {
     match (one, other) {
         (Came::Wrong, _) | (_, Came::Wrong) => Came::Wrong,
@@ -102,7 +103,7 @@ fn both(one: Came, other: Came) -> Came {
     }
 }
 
-/// Writes a byte of each of these blocks on one link.
+/// Writes the first byte of each of these blocks on one link.
 fn writes(judge: &mut Judge<8>, blocks: u8) -> Came {
     let mut all = Came::Done;
     for block in 0..blocks {
@@ -112,7 +113,7 @@ fn writes(judge: &mut Judge<8>, blocks: u8) -> Came {
     all
 }
 
-/// Reads it on another.
+/// Reads these bytes on another link.
 fn reads(judge: &mut Judge<8>, blocks: u8) -> Came {
     let mut all = Came::Done;
     for block in 0..blocks {
@@ -122,7 +123,7 @@ fn reads(judge: &mut Judge<8>, blocks: u8) -> Came {
     all
 }
 
-/// Writes and reads twenty blocks; then a Get that finds another byte breaks M3.
+/// Writes and reads twenty blocks. Then a Get that returns another byte must break M3.
 pub fn judges(alloc: Global) -> Came {
     let Ok(mut judge) = Judge::<8>::new(alloc, &[Level::UL, Level::UL], Profile::One) else {
         return Came::Refused;

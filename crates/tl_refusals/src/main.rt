@@ -1,22 +1,24 @@
-//! Calls each call of the libraries that takes memory, and tells of each whether it was done, or was refused and left
-//! what was. With all its requests for memory granted each is done; `faults/` refuses them one by one.
+//! Makes each call of the libraries that allocates memory, and reports for each whether it was done, or was refused
+//! memory and changed nothing. If all requests for memory are granted, each call is done; `faults/` refuses them one by
+//! one.
 #![tactic(auto)]
 
 mod calls;
 mod judges;
+mod narrowing;
 mod worlds;
 
 use std::println;
 use std::process::ExitCode;
 
-/// What came of a call.
+/// The result of a call.
 #[derive(Clone, Copy, Debug, PartialEq, Eq)]
 pub enum Came {
     /// It was done.
     Done,
-    /// It was refused memory, and left what was.
+    /// It was refused memory, and changed nothing.
     Refused,
-    /// It answered something else, or changed what it should have left.
+    /// It had another answer, or changed something although it was refused.
     Wrong,
 }
 
@@ -38,6 +40,7 @@ fn main(rt: HostRuntime) -> ExitCode {
         ("Monitor::push", calls::pushes(alloc)),
         ("Judge::new", judges::makes_a_judge(alloc)),
         ("Judge::push", judges::judges(alloc)),
+        ("Narrower::narrow", narrowing::narrows(alloc)),
         ("Caching::new", calls::makes_a_cache(alloc)),
         ("agents_of", calls::makes_clients(alloc)),
         ("BitDirectory::new", calls::makes_words(alloc)),

@@ -22,7 +22,7 @@ use tl_world::world::World;
 
 type Caches = World<8, AnyClient<8>, BitDirectory>;
 
-/// How many events the contention has.
+/// The number of events of the contention.
 const EVENTS: usize = 31;
 
 /// A caching client with one source.
@@ -56,7 +56,7 @@ fn deliver(link: u8, channel: Channel) -> Event<8> {
     Event::Deliver { link, channel }
 }
 
-/// The events: client 0 acquires the block to write, and then client 1 to read.
+/// The events: client 0 acquires Trunk of the block, and then client 1 acquires Branch.
 fn event(place: usize) -> Event<8> {
     match place {
         0 => acquire(0, Grow::NtoT),
@@ -87,11 +87,12 @@ fn new_world(alloc: Global) -> Result<Caches, NewFault> {
     World::new(alloc, config, clients, directory)
 }
 
-/// Whether both clients hold the block to read, and nothing is outstanding.
+/// Whether both clients hold Branch of the block, and nothing is outstanding.
 fn is_shared(world: &Caches) -> bool {
     world.held(0, 0) == Perm::Branch && world.held(1, 0) == Perm::Branch && world.load() == 0
 }
 
+/// Makes a manager of the contention.
 pub fn makes_a_manager(alloc: Global) -> Came {
     let config = contention();
     let Ok(directory) = BitDirectory::new(alloc, config.blocks, config.clients.len() as u8) else {
@@ -104,6 +105,7 @@ pub fn makes_a_manager(alloc: Global) -> Came {
     }
 }
 
+/// Makes a world of the contention.
 pub fn makes_a_world(alloc: Global) -> Came {
     match new_world(alloc) {
         Ok(_) => Came::Done,
@@ -125,7 +127,7 @@ fn replayed(
     World::replay(alloc, config, clients, directory, events, outcomes)
 }
 
-/// Replays the contention: where it is refused the outcomes are as they were.
+/// Replays the contention. If that is refused, the outcomes must be as they were.
 pub fn replays(alloc: Global) -> Came {
     let events = events();
     let mut outcomes = [Outcome::Stalled; EVENTS];
@@ -136,7 +138,7 @@ pub fn replays(alloc: Global) -> Came {
     }
 }
 
-/// Runs the contention in a world that was made before: no call of it takes memory.
+/// Runs the contention in a world that was made before. No call of it allocates memory.
 pub fn runs(alloc: Global) -> Came {
     let Ok(mut world) = new_world(alloc) else {
         return Came::Refused;

@@ -1,4 +1,4 @@
-//! Plays the trials of data/ and writes what comes of them, which is compared with what ought to.
+//! Plays the trials of data/ and writes their results, which are compared with the expected ones.
 #![tactic(auto)]
 
 #[cfg(test)]
@@ -35,7 +35,7 @@ const TRIALS: [(Stage, &str); 18] = [
     (Stage::Beginnings, "world/brim.trials"),
 ];
 
-/// Plays the trials of a file. Answers whether it could be read, and what comes of it be written.
+/// Plays the trials of a file. Returns whether the file could be read and the results written.
 fn play_file(rt: &HostRuntime, stage: Stage, name: &str) -> bool {
     let Ok(text) = fs::read_to_string(rt, name) else {
         return false;

@@ -1,5 +1,5 @@
-//! Calls that no file of data/ makes: values that are made in code, readers and writers that fail,
-//! inputs of many lines, and want of memory.
+//! Calls that no file of data/ makes: values made in code, readers and writers that fail, inputs of many lines, and
+//! refused memory.
 
 mod accesses;
 mod beats;

@@ -1,5 +1,5 @@
-//! Plays files of sections. A section is a line `$ KIND` and the lines behind it, of which it is told
-//! what they are to a command or to a reader of lines. In `$ unended KIND` the last LF is left out.
+//! Plays files of sections. A section is a line `$ KIND` and the lines after it, for which the text of a command, or
+//! the content of the lines, is written. In `$ unended KIND` the last LF is left out.
 
 pub mod device;
 mod kind;
@@ -33,8 +33,8 @@ const FILES: [&str; 15] = [
     "text/runs.txt",
 ];
 
-/// What a command writes of an input, and its exit status: where it reads and writes at once, and
-/// where one byte a call, if that is another text.
+/// Writes the text and the exit status of a command for an input, which it reads and writes at once. If one byte a call
+/// gives another text, writes that too.
 fn tell_command(
     alloc: Global,
     command: Command,
@@ -57,7 +57,7 @@ fn tell_command(
     Ok(())
 }
 
-/// A section without its `$ `.
+/// A section, without its `$ `.
 fn tell_section(alloc: Global, section: &str, out: &mut Vec<u8>) -> io::Result<()> {
     let (name, input) = match section.split_once('\n') {
         None => (section, ""),
@@ -76,7 +76,7 @@ fn tell_section(alloc: Global, section: &str, out: &mut Vec<u8>) -> io::Result<(
     }
 }
 
-/// Plays the files one after another.
+/// Plays the files one after the other.
 pub fn play(rt: &HostRuntime) -> io::Result<()> {
     for name in FILES {
         let text = fs::read_to_string(rt, name)?;

@@ -1,4 +1,4 @@
--- What C is told of the situations of links.
+-- The calls of C on a covering, which counts the situations of links.
 use Rattle.std.specs.Prelude.{ℕ, Bool, ◌≡◌, ◌⊎◌, true, false, List, [], map, length, slice_get, unwrap_or, ⊤}
 use Rattle.std.specs.Prelude.{Option, Some, None, Result, Ok, Err}
 use Rattle.tl_beat.specs.declared.beat.Beat.{Beat}
@@ -27,16 +27,18 @@ use Rattle.hefrudyl.specs.declared.session.Session.{Session}
 use Rattle.hefrudyl.specs.declared.session.Session.TheVariants as session
 use Rattle.hefrudyl.specs.statement.Opened.{IsRefusal, may_open_under, refusal}
 
--- ---- one that is opened
+-- ---- a new covering
 
--- a new covering has the levels and the liberties, and has seen no beat
+-- a new covering has these levels and liberties, and no beats
 abbrev pub IsFreshCovering : {w : ℕ} → List ℕ → ℕ → Covering w → Type 0
 IsFreshCovering codes liberties c = Covers c (map level_at codes) (liberties_at liberties) [] false
 
+-- the result of making a covering: a new one, or a refusal
 abbrev pub MakesCovering : {w : ℕ} → List ℕ → ℕ → Result (Covering w) Answer → Type 0
 MakesCovering codes liberties (Ok c) = IsFreshCovering codes liberties c
 MakesCovering codes liberties (Err answer) = IsRefusal (IsCount (length codes)) answer
 
+-- the session holds a new covering of this width
 abbrev pub IsOpenedCovering : List ℕ → ℕ → ℕ → Session → Type 0
 IsOpenedCovering codes width liberties (session.Covering (covering.Four c)) =
     (width ≡ 4) × IsFreshCovering codes liberties c
@@ -46,7 +48,7 @@ IsOpenedCovering codes width liberties (session.Covering (covering.Sixteen c)) =
     (width ≡ 16) × IsFreshCovering codes liberties c
 IsOpenedCovering codes width liberties _ = ⊥
 
--- what a handle that held nothing opens
+-- the result of a call that opens a covering with an empty handle: the session that it opens, if any, and the answer
 abbrev pub OpensCovering : List ℕ → ℕ → ℕ → Option Session → Answer → Type 0
 OpensCovering codes width liberties (Some s) answer = (answer ≡ ok) × (may_open_under codes width ≡ true)
     × IsOpenedCovering codes width liberties s
@@ -54,7 +56,7 @@ OpensCovering codes width liberties None answer = answer ≡ refusal (may_open_u
 
 -- ---- beats
 
--- a beat was judged as a monitor judges it, and the covering covers the longer trace where the beat was taken
+-- The beat was judged as a monitor judges it. The covering then covers the trace with the beat if it was taken.
 pub record Counted {w : ℕ} (old new : Covering w) (x : Link × Beat w) (answer : Answer) : Type 0 where
   pub judged : Result ⊤ MonitorFault
   pub told : answer ≡ answer_of judged
@@ -63,32 +65,33 @@ pub record Counted {w : ℕ} (old new : Covering w) (x : Link × Beat w) (answer
   pub covers : (levels : List Level) (l : Liberties) (t : Trace w) (closed : Bool) → Covers old levels l t closed
       → CoversAfter judged new levels l x t
 
+-- the covering judges and counts the beat on the link; None of either is bad input
 abbrev pub CountsBeat : {w : ℕ} → Covering w → Covering w → Option Link → Option (Beat w) → Answer → Type 0
 CountsBeat old new (Some link) (Some beat) answer = Counted old new (link, beat) answer
 CountsBeat old new _ _ answer = IsBad answer old new
 
--- what is told of a picture on a link, 0 to 15
+-- the covering judges and counts the beat of this picture, on the link with this number, 0 to 15
 abbrev pub CountsOf : {w : ℕ} → Covering w → Covering w → ℕ → Picture → Answer → Type 0
 CountsOf {w} old new link x answer = CountsBeat old new (link_at link) (shown w x) answer
 
 -- ---- counts
 
--- how often a situation came, and in which line first, where it came
+-- the count of a situation, and its first line; 0 if it never came
 abbrev pub tally_of : Row → Tally
 tally_of r = record { count = r.count; line = unwrap_or r.first 0 }
 
+-- the tally is that of the row; None is bad input
 abbrev pub TallyIn : Option Row → Tally → Tally → Answer → Type 0
 TallyIn None was tally answer = IsBad answer was tally
 TallyIn (Some r) was tally answer = (answer ≡ ok) × (tally ≡ tally_of r)
 
--- the situations have numbers from 0 on, in the order in which they are told
+-- the tally of the situation with this number; the situations are numbered from 0, in the order of the report
 abbrev pub TallyOf : {w : ℕ} → Covering w → ℕ → Tally → Tally → Answer → Type 0
 TallyOf c number was tally answer = TallyIn (slice_get (rows_in c) number) was tally answer
 
 -- ---- sessions
 
--- this holds of the covering before and after, whose width stays; a session that holds none is bad input, by which
--- nothing changes
+-- P is true of the covering before and after, of the same width. A session without a covering is refused, and stays.
 abbrev pub OnCovering : ((w : ℕ) → Covering w → Covering w → Type 0) → Type 0 → Session → Session → Type 0
 OnCovering P refused (session.Covering (covering.Four old)) (session.Covering (covering.Four new)) = P 4 old new
 OnCovering P refused (session.Covering (covering.Eight old)) (session.Covering (covering.Eight new)) = P 8 old new
@@ -97,30 +100,37 @@ OnCovering P refused (session.Monitor old) new = refused × (new ≡ session.Mon
 OnCovering P refused (session.Judge old) new = refused × (new ≡ session.Judge old)
 OnCovering P refused (session.Client old) new = refused × (new ≡ session.Client old)
 OnCovering P refused (session.Manager old) new = refused × (new ≡ session.Manager old)
+OnCovering P refused (session.WideMonitor old) new = refused × (new ≡ session.WideMonitor old)
+OnCovering P refused (session.WideJudge old) new = refused × (new ≡ session.WideJudge old)
 OnCovering _ _ _ _ = ⊥
 
+-- the session's covering judges and counts the beat of this picture on this link
 abbrev pub CountsSession : ℕ → Picture → Answer → Session → Session → Type 0
 CountsSession link x answer old new = OnCovering (λ w c d. CountsOf c d link x answer) (answer ≡ bad) old new
 
+-- the tally of the situation with this number, from the session's covering
 abbrev pub TallySession : ℕ → Tally → Tally → Answer → Session → Type 0
 TallySession number was tally answer s =
     OnCovering (λ w c d. TallyOf c number was tally answer) (IsBad answer was tally) s s
 
 -- ---- names
 
+-- the sentence of a situation; empty if there is none
 abbrev pub sentence_of : Option Situation → List ℕ
 sentence_of None = []
 sentence_of (Some s) = sentence s
 
--- the sentence of the situation with a number; nothing where there is none
+-- the sentence of the situation with this number; empty if there is none
 abbrev pub sentence_at : ℕ → List ℕ
 sentence_at number = sentence_of (slice_get all_situations number)
 
+-- the name of a situation; empty if there is none
 abbrev pub name_of : Option Situation → List ℕ
 name_of None = []
 name_of (Some s) = name s
 
--- the name of the situation with a number is written; nothing where there is none, or no memory
+-- the name of the situation with this number is written, or nothing for want of memory; the name is empty if there is
+-- no such situation
 abbrev pub IsNamed : ℕ → List ℕ → List ℕ → ℕ → Type 0
 IsNamed number old new count =
     IsWritten (name_of (slice_get all_situations number)) old new count ⊎ ((count ≡ 0) × (new ≡ old))

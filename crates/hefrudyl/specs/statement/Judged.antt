@@ -1,4 +1,4 @@
--- What C is told of a beat, and what the monitor knows afterwards.
+-- The answer of a monitor to a beat, and the monitor's knowledge afterwards.
 use Rattle.std.specs.Prelude.{ℕ, Bool, ◌≡◌, ◌⊎◌, List, Option, Some, None, Result, ⊤}
 use Rattle.tl_beat.specs.declared.beat.Beat.{Beat}
 use Rattle.tl_beat.specs.declared.beat.Link.{Link}
@@ -18,19 +18,20 @@ use Rattle.tl_pictures.specs.statement.Answer.{answer_of, ok, IsBad}
 use Rattle.tl_pictures.specs.statement.Codes.{link_at}
 use Rattle.tl_pictures.specs.statement.Picture.{shown}
 
--- Whether a monitor is closed behind a beat, that was or wasn't before: closed by a broken rule, or as it was.
+-- whether a monitor is closed after a beat, by its state before and the result
 abbrev pub Closing : Type 0
 Closing = Bool → Result ⊤ MonitorFault → Bool
 
+-- a broken rule closes the monitor
 abbrev pub stops : Closing
 stops closed judged = closed_after judged
 
+-- the monitor stays open or closed as it was
 abbrev pub goes_on : Closing
 goes_on closed judged = closed
 
--- A beat was judged as the rules have it, after the trace that the monitor knew, and the monitor knows
--- the longer trace where the beat was taken. Memory was wanting only where more keys of one kind are pending
--- with the beat than before, or more blocks held.
+-- The beat was judged by the rules, after the trace that the monitor knew. The monitor then knows the trace with the
+-- beat if it was taken. Memory ran out only if the beat adds a pending key of some kind or a held block.
 pub record Judged {w : ℕ} (after : Closing) (old new : Monitor w) (x : Link × Beat w) (answer : Answer) : Type 0 where
   pub judged : Result ⊤ MonitorFault
   pub told : answer ≡ answer_of judged
@@ -48,21 +49,23 @@ pub record Judged {w : ℕ} (after : Closing) (old new : Monitor w) (x : Link ×
   pub memory_under : (levels : List Level) (l : Liberties) (t : Trace w) (closed : Bool)
       → KnowsUnder old levels l t closed → IsMoreUnder l (on_link x.0.0 t) x.1 judged
 
+-- the monitor judges the beat on the link; None of either is bad input
 abbrev pub ToldOfBeat : {w : ℕ} → Closing → Monitor w → Monitor w → Option Link → Option (Beat w) → Answer → Type 0
 ToldOfBeat after old new (Some link) (Some beat) answer = Judged after old new (link, beat) answer
 ToldOfBeat after old new _ _ answer = IsBad answer old new
 
--- what is told of a picture on a link, 0 to 15
+-- the monitor judges the beat of this picture, on the link with this number, 0 to 15
 abbrev pub ToldOf : {w : ℕ} → Closing → Monitor w → Monitor w → ℕ → Picture → Answer → Type 0
 ToldOf {w} after old new link x answer = ToldOfBeat after old new (link_at link) (shown w x) answer
 
--- What is told of a line of a trace: of the link and beat that it spells, whatever the link; one that spells no beat
--- is bad input.
+-- The monitor judges the link and beat that this line of a trace spells, for any link. A line that spells no beat is
+-- bad input.
 abbrev pub ToldOfLine : {w : ℕ} → Monitor w → Monitor w → List ℕ → Answer → Type 0
 ToldOfLine {w} old new line answer =
     ((link : Link) × (x : Beat w) × Spells line link x × Judged stops old new (link, x) answer)
     ⊎ ((fault : LineFault) × (line_fault w line ≡ Some fault) × IsBad answer old new)
 
+-- the number of entries of the link; None is bad input
 abbrev pub EntriesOnLink : {w : ℕ} → Monitor w → Option Link → ℕ → ℕ → Answer → Type 0
 EntriesOnLink m None was entries answer = IsBad answer was entries
 EntriesOnLink {w} m (Some link) was entries answer = (answer ≡ ok)
@@ -71,6 +74,6 @@ EntriesOnLink {w} m (Some link) was entries answer = (answer ≡ ok)
     × ((levels : List Level) (l : Liberties) (t : Trace w) (closed : Bool) → KnowsUnder m levels l t closed
     → entries ≡ entry_count_under l levels link t)
 
--- how many keys are pending and blocks held on a link
+-- the number of pending keys and held blocks of the link with this number
 abbrev pub EntriesOf : {w : ℕ} → Monitor w → ℕ → ℕ → ℕ → Answer → Type 0
 EntriesOf m link was entries answer = EntriesOnLink m (link_at link) was entries answer

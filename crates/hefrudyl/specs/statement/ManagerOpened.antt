@@ -1,4 +1,4 @@
--- What a manager is made from, and what a new one knows.
+-- The arguments from which C makes a manager, and the state of a new manager.
 use Rattle.std.specs.Prelude.{ℕ, Bool, ◌&&◌, ◌==◌, ◌≡◌, ◌++◌, List, [], drop, length, nat_le, replicate, None, Result}
 use Rattle.std.specs.Prelude.{Ok, Err, if◌then◌else◌}
 use Rattle.tl_beat.specs.declared.channel.Channel.{Channel}
@@ -17,7 +17,7 @@ use Rattle.hefrudyl.specs.statement.Opened.{IsRefusal}
 use Rattle.tl_pictures.specs.statement.Codes.{is_width, is_profile, liberties_at}
 use Rattle.tl_pictures.specs.statement.Configured.{links_fit, IsConfigOf}
 
--- 1 to 16 links, 1 to 1,024 blocks, 1 to 8 trackers, a width and a profile
+-- the arguments fit: 1 to 16 links, 1 to 1,024 blocks, 1 to 8 trackers, a width and a profile
 abbrev pub may_open_manager : List LinkConfig → ℕ → ℕ → ℕ → ℕ → Bool
 may_open_manager links blocks trackers width profile =
     nat_le 1 (length links) && nat_le (length links) 16 && links_fit links && nat_le 1 blocks && nat_le blocks 1024
@@ -31,17 +31,17 @@ IsFreshManager links blocks trackers profile port =
 
 -- ---- under liberties
 
--- the profile by which a manager grants a lone reader toT, or by which it doesn't
+-- the code of a manager's profile: 2 if it grants a lone reader toT, which is `writer`, otherwise 1
 abbrev pub profile_code : Liberties → ℕ
 profile_code l = if l.writer then 2 else 1
 
--- liberties that a manager can grant, and a source for the Probes of each link
+-- the arguments fit, a manager can grant the liberties, and each link has a source for its Probes
 abbrev pub may_open_manager_under : List LinkConfig → ℕ → ℕ → ℕ → ℕ → List ℕ → Bool
 may_open_manager_under links blocks trackers width liberties sources =
     may_open_manager links blocks trackers width (profile_code (liberties_at liberties))
     && (length sources == length links && may_grant (liberties_at liberties))
 
--- the terms of clients with these liberties, the Probes of whose links have these sources
+-- the terms of clients with these liberties; the Probes of the links have these sources
 abbrev pub terms_at : ℕ → List ℕ → Terms
 terms_at liberties sources = record {
   ids = (liberties_at liberties).ids;
@@ -50,13 +50,15 @@ terms_at liberties sources = record {
   sources = sources ++ drop (length sources) (replicate 16 0);
 }
 
--- a new manager, likewise, that grants its clients these terms
+-- a new manager has this configuration, grants its clients these terms, has taken and handed out nothing, and has
+-- nothing to send
 abbrev pub IsFreshManagerUnder : {w : ℕ} → List LinkConfig → ℕ → ℕ → ℕ → Terms → ManagerPort w → Type 0
 IsFreshManagerUnder links blocks trackers profile terms port =
     ((config : Config) × IsConfigOf links blocks trackers profile config
     × KnowsEndUnder port terms config (fresh_partner config))
     × ((link : ℕ) (ch : Channel) → to_send_on link ch port ≡ [])
 
+-- the result of making a manager: a new one, or a refusal
 abbrev pub MakesManager : {w : ℕ} → List LinkConfig → ℕ → ℕ → ℕ → Terms → Result (ManagerPort w) Answer → Type 0
 MakesManager links blocks trackers profile terms (Ok port) = IsFreshManagerUnder links blocks trackers profile terms port
 MakesManager links blocks trackers profile terms (Err answer) =

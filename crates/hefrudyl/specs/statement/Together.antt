@@ -1,5 +1,5 @@
--- What C is told of a beat that is judged together with those of all links, and what the judge knows afterwards.
-use Rattle.std.specs.Prelude.{ℕ, Bool, ◌≡◌, ◌⊎◌, List, Option, Some, None, Result, ⊤}
+-- The answer to a beat that a judge judges with the beats of all links, and the judge's knowledge afterwards.
+use Rattle.std.specs.Prelude.{ℕ, Bool, ◌≡◌, ◌⊎◌, List, Option, Some, Result, ⊤}
 use Rattle.tl_beat.specs.declared.beat.Beat.{Beat}
 use Rattle.tl_beat.specs.declared.beat.Link.{Link}
 use Rattle.tl_beat.specs.declared.fault.LineFault.{LineFault}
@@ -16,18 +16,20 @@ use Rattle.tl_pictures.specs.statement.Answer.{judge_answer, IsBad}
 use Rattle.tl_pictures.specs.statement.Codes.{link_at}
 use Rattle.tl_pictures.specs.statement.Picture.{shown}
 
--- whether a judge is closed behind a beat, as of a monitor
+-- whether a judge is closed after a beat, by its state before and the result
 abbrev pub Closing : Type 0
 Closing = Bool → Result ⊤ JudgeFault → Bool
 
+-- a broken rule closes the judge
 abbrev pub stops : Closing
 stops closed judged = closed_after closed judged
 
+-- the judge stays open or closed as it was
 abbrev pub goes_on : Closing
 goes_on closed judged = closed
 
--- A beat was judged as the rules have it, those of its link and those of memory, after the trace of all links that the
--- judge knew, and the judge knows the longer trace where the beat was taken.
+-- The beat was judged by the rules of its link and of memory, after the trace of all links that the judge knew. The
+-- judge then knows the trace with the beat if it was taken.
 pub record JudgedTogether {w : ℕ} (after : Closing) (old new : Judge w) (x : Link × Beat w) (answer : Answer) : Type 0
   where
     pub judged : Result ⊤ JudgeFault
@@ -37,15 +39,16 @@ pub record JudgedTogether {w : ℕ} (after : Closing) (old new : Judge w) (x : L
     pub knows : (levels : List Level) (l : Liberties) (t : Trace w) (closed : Bool) → Knows old levels l t closed
         → Knows new levels l (recorded_after judged x t) (after closed judged)
 
+-- the judge judges the beat on the link; None of either is bad input
 abbrev pub ToldOfBeatTogether : {w : ℕ} → Closing → Judge w → Judge w → Option Link → Option (Beat w) → Answer → Type 0
 ToldOfBeatTogether after old new (Some link) (Some beat) answer = JudgedTogether after old new (link, beat) answer
 ToldOfBeatTogether after old new _ _ answer = IsBad answer old new
 
--- what is told of a picture on a link, 0 to 15
+-- the judge judges the beat of this picture, on the link with this number, 0 to 15
 abbrev pub ToldTogether : {w : ℕ} → Closing → Judge w → Judge w → ℕ → Picture → Answer → Type 0
 ToldTogether {w} after old new link x answer = ToldOfBeatTogether after old new (link_at link) (shown w x) answer
 
--- what is told of a line of a trace: of the link and beat that it spells; one that spells no beat is bad input
+-- The judge judges the link and beat that this line of a trace spells. A line that spells no beat is bad input.
 abbrev pub ToldOfLineTogether : {w : ℕ} → Judge w → Judge w → List ℕ → Answer → Type 0
 ToldOfLineTogether {w} old new line answer =
     ((link : Link) × (x : Beat w) × Spells line link x × JudgedTogether stops old new (link, x) answer)

@@ -1,4 +1,4 @@
-//! What C may do with a client.
+//! The calls of C on a client.
 
 ghost use Rattle.std.specs.Prelude.{◌≡◌, None};
 ghost use Rattle.hefrudyl.specs.statement.Handled.{ClientOpenTold, AskTold, OfferTold, StallsTold, NextTold, PopTold};
@@ -13,7 +13,7 @@ use tl_pictures::operation::Operation;
 use tl_pictures::outcome::{Outcome, Reception};
 use tl_pictures::picture::Picture;
 
-/// Makes a client of a level, 0 for UL, 1 for UH and 2 for C, behind a handle that holds nothing.
+/// Makes a client of a level, 0 for UL, 1 for UH and 2 for C, in an empty handle.
 #[unsafe(no_mangle)]
 pub extern "C" fn tl_client_new(
     alloc: Global,
@@ -59,7 +59,7 @@ pub extern "C" fn tl_client_offer(
     answered!(alloc, client, session => session.offer(beat, reception))
 }
 
-/// Asks whether a beat would have to wait.
+/// Sets `stalled` to 1 if a client would stall a beat, otherwise to 0.
 #[unsafe(no_mangle)]
 pub extern "C" fn tl_client_stalls(
     alloc: Global,
@@ -85,7 +85,7 @@ pub extern "C" fn tl_client_next(
     answered!(alloc, client, session => session.next(channel, beat))
 }
 
-/// Shows the next beat that a client has to send on a channel, which is sent now.
+/// Shows the next beat that a client has to send on a channel, and removes it.
 #[unsafe(no_mangle)]
 pub extern "C" fn tl_client_pop(
     alloc: Global,
@@ -98,7 +98,7 @@ pub extern "C" fn tl_client_pop(
     answered!(alloc, client, session => session.pop(channel, beat))
 }
 
-/// Tells what a client holds of a block: 0 for None, 1 for Branch, 2 for Trunk.
+/// Sets `perm` to the permission that a client holds of a block: 0 for None, 1 for Branch, 2 for Trunk.
 #[unsafe(no_mangle)]
 pub extern "C" fn tl_client_held(
     alloc: Global,
@@ -124,7 +124,7 @@ pub extern "C" fn tl_client_copy(
     answered!(alloc, client, session => session.copy(block, bytes))
 }
 
-/// Tells whether a client refused a beat.
+/// Sets `is_closed` to 1 if a client has refused a beat, otherwise to 0.
 #[unsafe(no_mangle)]
 pub extern "C" fn tl_client_closed(alloc: Global, client: &mut Handle, is_closed: &mut u8) -> Answer
     ensures { ClosedTold is_closed.old is_closed.new result client.old.place.value client.new.place.value }
@@ -132,7 +132,7 @@ pub extern "C" fn tl_client_closed(alloc: Global, client: &mut Handle, is_closed
     answered!(alloc, client, session => session.closed(is_closed))
 }
 
-/// Frees what a handle holds, which then holds nothing.
+/// Frees the contents of a handle, and leaves it empty.
 #[unsafe(no_mangle)]
 pub extern "C" fn tl_client_free(alloc: Global, client: &mut Handle)
     ensures { client.new.place.value ≡ None }

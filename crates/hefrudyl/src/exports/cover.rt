@@ -1,4 +1,4 @@
-//! What C may do with a cover.
+//! The calls of C on a cover.
 
 ghost use Rattle.std.specs.Prelude.{◌≡◌, None};
 ghost use Rattle.hefrudyl.specs.statement.Handled.{CoverOpenTold, CountTold, TallyTold};
@@ -11,7 +11,7 @@ use std::mem;
 use tl_pictures::answer::Answer;
 use tl_pictures::picture::Picture;
 
-/// Makes a cover of links of these levels that have these liberties, behind a handle that holds nothing.
+/// Makes a cover of links of these levels with these liberties, in an empty handle.
 #[unsafe(no_mangle)]
 pub extern "C" fn tl_cover_new(
     alloc: Global,
@@ -38,7 +38,7 @@ pub extern "C" fn tl_cover_push(
     answered!(alloc, cover, session => covered::push(&mut session, link, beat))
 }
 
-/// Tells how often the situation of this number came, and in which line of a trace first.
+/// Reports the count of the situation with this number, and the line of a trace in which it first came.
 #[unsafe(no_mangle)]
 pub extern "C" fn tl_cover_count(
     alloc: Global,
@@ -51,7 +51,7 @@ pub extern "C" fn tl_cover_count(
     answered!(alloc, cover, session => covered::tell(&session, situation, tally))
 }
 
-/// Frees what a handle holds, which then holds nothing.
+/// Frees the contents of a handle, and leaves it empty.
 #[unsafe(no_mangle)]
 pub extern "C" fn tl_cover_free(alloc: Global, cover: &mut Handle)
     ensures { cover.new.place.value ≡ None }

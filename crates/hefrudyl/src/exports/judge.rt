@@ -1,4 +1,4 @@
-//! What C may do with a judge of all links of a manager.
+//! The calls of C on a judge of all links of a manager.
 
 ghost use Rattle.std.specs.Prelude.{◌≡◌, None};
 ghost use Rattle.hefrudyl.specs.statement.Handled.{JudgeOpenTold, JudgeOpenUnderTold, JudgeTold, JudgeTryTold, JudgeLineTold};
@@ -10,8 +10,7 @@ use std::mem;
 use tl_pictures::answer::Answer;
 use tl_pictures::picture::Picture;
 
-/// Makes a judge of all links of a manager, of these levels, 0 for UL, 1 for UH and 2 for C, behind a
-/// handle that holds nothing.
+/// Makes a judge of all links of a manager, of these levels, 0 for UL, 1 for UH and 2 for C, in an empty handle.
 #[unsafe(no_mangle)]
 pub extern "C" fn tl_judge_new(
     alloc: Global,
@@ -29,8 +28,8 @@ pub extern "C" fn tl_judge_new(
     )
 }
 
-/// Makes a judge of all links of a manager, of these levels, that have these liberties, bit 0 for `ids` to
-/// bit 7 for `uncorrupt`, behind a handle that holds nothing. `early`, bit 3, is a bad argument.
+/// Makes a judge of all links of a manager, of these levels and with these liberties, bit 0 for `ids` to bit 7 for
+/// `uncorrupt`, in an empty handle. `early`, bit 3, is a bad argument.
 #[unsafe(no_mangle)]
 pub extern "C" fn tl_judge_new_under(
     alloc: Global,
@@ -61,7 +60,8 @@ pub extern "C" fn tl_judge_push(
     answered!(alloc, judge, session => session.judge(link, beat))
 }
 
-/// Judges a beat of a link so. A beat that breaks a rule isn't taken, and the judge goes on behind it.
+/// Judges a beat of a link, after the earlier beats of all links. A beat that breaks a rule isn't taken, and doesn't
+/// close the judge.
 #[unsafe(no_mangle)]
 pub extern "C" fn tl_judge_try_push(
     alloc: Global,
@@ -74,7 +74,7 @@ pub extern "C" fn tl_judge_try_push(
     answered!(alloc, judge, session => session.try_judge(link, beat))
 }
 
-/// Judges the beat of a line of a trace so, its line feed included.
+/// Judges the beat of a line of a trace, with its line feed, as `tl_judge_push` does.
 #[unsafe(no_mangle)]
 pub extern "C" fn tl_judge_push_line(alloc: Global, judge: &mut Handle, line: &[u8]) -> Answer
     ensures { JudgeLineTold line.now result judge.old.place.value judge.new.place.value }
@@ -82,7 +82,7 @@ pub extern "C" fn tl_judge_push_line(alloc: Global, judge: &mut Handle, line: &[
     answered!(alloc, judge, session => session.judge_line(line))
 }
 
-/// Frees what a handle holds, which then holds nothing.
+/// Frees the contents of a handle, and leaves it empty.
 #[unsafe(no_mangle)]
 pub extern "C" fn tl_judge_free(alloc: Global, judge: &mut Handle)
     ensures { judge.new.place.value ≡ None }

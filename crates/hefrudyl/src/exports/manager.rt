@@ -1,4 +1,4 @@
-//! What C may do with a manager.
+//! The calls of C on a manager.
 
 ghost use Rattle.std.specs.Prelude.{◌≡◌, None};
 ghost use Rattle.hefrudyl.specs.statement.Handled.{ManagerOpenTold, ManagerOpenUnderTold, AdmitTold, StallsAtTold};
@@ -12,8 +12,7 @@ use tl_pictures::answer::Answer;
 use tl_pictures::config::LinkConfig;
 use tl_pictures::picture::Picture;
 
-/// Makes a manager of these links on this many blocks, with this many trackers, behind a handle that
-/// holds nothing.
+/// Makes a manager of these links with this many blocks and trackers, in an empty handle.
 #[unsafe(no_mangle)]
 pub extern "C" fn tl_manager_new(
     alloc: Global,
@@ -34,9 +33,9 @@ pub extern "C" fn tl_manager_new(
     )
 }
 
-/// Makes a manager whose clients have these liberties, bit 0 for `ids`, bit 4 for `drops`, bit 5 for `reports`, behind a
-/// handle that holds nothing. With bit 2, `writer`, it grants a lone reader toT; any other bit is a bad argument. There
-/// are as many sources as links: with `ids` the Probes of each link have its source.
+/// Makes a manager, in an empty handle, whose clients have these liberties: bit 0 for `ids`, bit 4 for `drops`, bit 5
+/// for `reports`. With bit 2, `writer`, it grants a lone reader toT. Any other bit is a bad argument. There are as many
+/// sources as links: with `ids` the Probes of each link have its source.
 #[unsafe(no_mangle)]
 pub extern "C" fn tl_manager_new_under(
     alloc: Global,
@@ -80,7 +79,7 @@ pub extern "C" fn tl_manager_offer(
     answered!(alloc, manager, session => session.offer_on(link, beat, taken))
 }
 
-/// Asks whether a beat of a link would have to wait.
+/// Sets `stalled` to 1 if a manager would stall a beat of a link, otherwise to 0.
 #[unsafe(no_mangle)]
 pub extern "C" fn tl_manager_stalls(
     alloc: Global,
@@ -109,7 +108,7 @@ pub extern "C" fn tl_manager_next(
     answered!(alloc, manager, session => session.next_on(link, channel, beat))
 }
 
-/// Shows the next beat that a manager has to send on a channel of a link, which is sent now.
+/// Shows the next beat that a manager has to send on a channel of a link, and removes it.
 #[unsafe(no_mangle)]
 pub extern "C" fn tl_manager_pop(
     alloc: Global,
@@ -123,7 +122,7 @@ pub extern "C" fn tl_manager_pop(
     answered!(alloc, manager, session => session.pop_on(link, channel, beat))
 }
 
-/// Tells whether a link of a manager takes no beats: one was refused, or there is no such link.
+/// Sets `is_closed` to 1 if a manager has refused a beat of a link or has no such link, otherwise to 0.
 #[unsafe(no_mangle)]
 pub extern "C" fn tl_manager_closed(
     alloc: Global,
@@ -136,7 +135,7 @@ pub extern "C" fn tl_manager_closed(
     answered!(alloc, manager, session => session.closed_on(link, is_closed))
 }
 
-/// Frees what a handle holds, which then holds nothing.
+/// Frees the contents of a handle, and leaves it empty.
 #[unsafe(no_mangle)]
 pub extern "C" fn tl_manager_free(alloc: Global, manager: &mut Handle)
     ensures { manager.new.place.value ≡ None }

@@ -1,4 +1,4 @@
-//! What C may do with a monitor.
+//! The calls of C on a monitor.
 
 ghost use Rattle.std.specs.Prelude.{◌≡◌, None};
 ghost use Rattle.hefrudyl.specs.statement.Handled.{MonitorOpenTold, MonitorOpenUnderTold};
@@ -11,8 +11,7 @@ use std::mem;
 use tl_pictures::answer::Answer;
 use tl_pictures::picture::Picture;
 
-/// Makes a monitor of links of these levels, 0 for UL, 1 for UH and 2 for C, behind a handle that
-/// holds nothing.
+/// Makes a monitor of links of these levels, 0 for UL, 1 for UH and 2 for C, in an empty handle.
 #[unsafe(no_mangle)]
 pub extern "C" fn tl_monitor_new(
     alloc: Global,
@@ -26,8 +25,8 @@ pub extern "C" fn tl_monitor_new(
     opened!(alloc, monitor, Session::open(alloc, levels, width, profile))
 }
 
-/// Makes a monitor of links of these levels that have these liberties, bit 0 for `ids` to bit 7 for
-/// `uncorrupt`, behind a handle that holds nothing.
+/// Makes a monitor of links of these levels with these liberties, bit 0 for `ids` to bit 7 for `uncorrupt`, in an empty
+/// handle.
 #[unsafe(no_mangle)]
 pub extern "C" fn tl_monitor_new_under(
     alloc: Global,
@@ -58,7 +57,7 @@ pub extern "C" fn tl_monitor_push(
     answered!(alloc, monitor, session => session.push(link, beat))
 }
 
-/// Judges a beat of a link. A beat that breaks a rule isn't taken, and the monitor goes on behind it.
+/// Judges a beat of a link. A beat that breaks a rule isn't taken, and doesn't close the monitor.
 #[unsafe(no_mangle)]
 pub extern "C" fn tl_monitor_try_push(
     alloc: Global,
@@ -71,7 +70,7 @@ pub extern "C" fn tl_monitor_try_push(
     answered!(alloc, monitor, session => session.try_push(link, beat))
 }
 
-/// Judges the beat of a line of a trace, its line feed included.
+/// Judges the beat of a line of a trace, with its line feed.
 #[unsafe(no_mangle)]
 pub extern "C" fn tl_monitor_push_line(alloc: Global, monitor: &mut Handle, line: &[u8]) -> Answer
     ensures { LineTold line.now result monitor.old.place.value monitor.new.place.value }
@@ -79,7 +78,7 @@ pub extern "C" fn tl_monitor_push_line(alloc: Global, monitor: &mut Handle, line
     answered!(alloc, monitor, session => session.push_line(line))
 }
 
-/// Tells how many keys are pending on a link, and how many blocks are held there.
+/// Reports the number of keys pending and blocks held on a link.
 #[unsafe(no_mangle)]
 pub extern "C" fn tl_monitor_entries(
     alloc: Global,
@@ -92,7 +91,7 @@ pub extern "C" fn tl_monitor_entries(
     answered!(alloc, monitor, session => session.entries(link, entries))
 }
 
-/// Frees what a handle holds, which then holds nothing.
+/// Frees the contents of a handle, and leaves it empty.
 #[unsafe(no_mangle)]
 pub extern "C" fn tl_monitor_free(alloc: Global, monitor: &mut Handle)
     ensures { monitor.new.place.value ≡ None }

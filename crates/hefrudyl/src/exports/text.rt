@@ -11,7 +11,7 @@ use tl_cover::situation::Situation;
 use tl_pictures::rule::name_of;
 use tl_pictures::text::{text_of, write_text};
 
-/// Writes as much of a rule's name as there is room for, and answers how many letters that is.
+/// Writes as much of a rule's name as fits, and returns the number of bytes written.
 #[unsafe(no_mangle)]
 pub extern "C" fn tl_rule_name(rule: u8, into: &mut [u8]) -> usize
     ensures { IsWritten (name_with rule) into.old into.new result }
@@ -19,7 +19,7 @@ pub extern "C" fn tl_rule_name(rule: u8, into: &mut [u8]) -> usize
     write_text(name_of(rule).as_bytes(), into)
 }
 
-/// Writes as much of the text of a code as there is room for, and answers how many bytes that is.
+/// Writes as much of the text of a code as fits, and returns the number of bytes written.
 #[unsafe(no_mangle)]
 pub extern "C" fn tl_error_text(code: u8, into: &mut [u8]) -> usize
     ensures { IsWritten (code_text code) into.old into.new result }
@@ -27,21 +27,21 @@ pub extern "C" fn tl_error_text(code: u8, into: &mut [u8]) -> usize
     write_text(text_of(code).as_bytes(), into)
 }
 
-/// The situation of a number among these.
+/// The situation with this number in the list, if there is one.
 fn numbered(all: &[Situation], number: u8) -> Option<Situation>
     ensures { result ≡ slice_get all.now number }
 {
     all.get(usize::from(number)).copied()
 }
 
-/// The situation of a number, from 0 on.
+/// The situation with this number, from 0 on, if there is one.
 fn situation_at(number: u8) -> Option<Situation>
     ensures { result ≡ slice_get all_situations number }
 {
     numbered(&Situation::ALL, number)
 }
 
-/// Appends a situation's name, where there is one.
+/// Appends a situation's name, if there is one.
 fn append_name(situation: Option<Situation>, out: &mut Vec<u8>) -> Result<(), AllocError>
     ensures { OnOk result (out.new.items ≡ out.old.items ++ name_of situation) }
 {
@@ -51,7 +51,7 @@ fn append_name(situation: Option<Situation>, out: &mut Vec<u8>) -> Result<(), Al
     }
 }
 
-/// A situation's sentence; nothing where there is none.
+/// A situation's sentence; empty if there is no situation.
 fn sentence_of(situation: Option<Situation>) -> &'static str
     ensures { result.now ≡ sentence_of situation }
 {
@@ -61,7 +61,7 @@ fn sentence_of(situation: Option<Situation>) -> &'static str
     }
 }
 
-/// Writes as much of a situation's name as there is room for, and answers how many letters that is: 0 if there is no
+/// Writes as much of a situation's name as fits, and returns the number of bytes written. It returns 0 if there is no
 /// such situation, or no memory.
 #[unsafe(no_mangle)]
 pub extern "C" fn tl_situation_name(alloc: Global, situation: u8, into: &mut [u8]) -> usize
@@ -74,7 +74,7 @@ pub extern "C" fn tl_situation_name(alloc: Global, situation: u8, into: &mut [u8
     }
 }
 
-/// Writes as much of a situation's sentence as there is room for, and answers how many bytes that is.
+/// Writes as much of a situation's sentence as fits, and returns the number of bytes written.
 #[unsafe(no_mangle)]
 pub extern "C" fn tl_situation_text(situation: u8, into: &mut [u8]) -> usize
     ensures { IsWritten (sentence_at situation) into.old into.new result }

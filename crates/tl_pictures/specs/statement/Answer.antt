@@ -1,4 +1,4 @@
--- The numbers by which C is answered.
+-- The numbers of answers in C.
 use Rattle.std.specs.Prelude.{ℕ, ◌≡◌, Result, Ok, Err, ⊤}
 use Rattle.tl_params.specs.declared.rule.Rule.{Rule}
 use Rattle.tl_params.specs.declared.rule.Rule.TheVariants.{L1, L2, L3, L4, L5, L6, L7, S1, H1, H2, H3, H4, H5, H6, H7}
@@ -13,7 +13,7 @@ use Rattle.tl_together.specs.declared.fault.JudgeFault.{JudgeFault}
 use Rattle.tl_together.specs.declared.fault.JudgeFault.TheVariants as judge
 use Rattle.tl_pictures.specs.declared.answer.Answer.{Answer}
 
--- the rules of level, burst, history and agents, each from the number before its first
+-- the numbers of the rules of level, burst, history and agents, in this order
 abbrev pub rule_number : Rule → ℕ
 rule_number L1 = 1
 rule_number L2 = 2
@@ -40,42 +40,53 @@ rule_number A1 = 22
 rule_number A2 = 23
 rule_number A3 = 24
 
--- the rules of memory, behind them
+-- the numbers of the rules between links, after those
 abbrev pub memory_rule_number : MemoryRule → ℕ
 memory_rule_number M1 = 25
 memory_rule_number M2 = 26
 memory_rule_number M3 = 27
 memory_rule_number M4 = 28
 
+-- the number of a rule of a link or between links
 abbrev pub breach_number : Breach → ℕ
 breach_number (OfLink rule) = rule_number rule
 breach_number (OfMemory rule) = memory_rule_number rule
 
+-- the answer with this code, and with no rule
 abbrev pub answer : ℕ → Answer
 answer code = record { code = code; rule = 0 }
 
--- done; a beat that breaks a rule; bad input; no memory; a monitor that is closed
+-- done; a beat breaks a rule; bad input; no memory; an earlier beat broke a rule
 abbrev pub ok : Answer
 ok = answer 0
 
+-- the beat breaks this rule
 abbrev pub broken : Rule → Answer
 broken rule = record { code = 1; rule = rule_number rule }
 
+-- the beat breaks this rule of its link or between links
 abbrev pub breaks : Breach → Answer
 breaks breach = record { code = 1; rule = breach_number breach }
 
+-- an argument is out of range
 abbrev pub bad : Answer
 bad = answer 2
 
+-- there is no memory
 abbrev pub no_memory : Answer
 no_memory = answer 3
 
+-- an earlier beat broke a rule
 abbrev pub closed : Answer
 closed = answer 4
 
--- there is nothing of what was asked for
+-- there is nothing to answer with
 abbrev pub nothing : Answer
 nothing = answer 5
+
+-- a beat names a block, a source or a sink for which no number is left
+abbrev pub too_many : Answer
+too_many = answer 6
 
 -- the answer to a beat that a monitor judged
 abbrev pub answer_of : Result ⊤ MonitorFault → Answer
@@ -85,7 +96,7 @@ answer_of (Err (Broken rule)) = broken rule
 answer_of (Err Memory) = no_memory
 answer_of (Err Closed) = closed
 
--- the answer to a beat that was judged together with those of all links
+-- the answer to a beat that a judge of all links judged
 abbrev pub judge_answer : Result ⊤ JudgeFault → Answer
 judge_answer (Ok u) = ok
 judge_answer (Err judge.Levels) = bad
@@ -93,6 +104,6 @@ judge_answer (Err (judge.Broken breach)) = breaks breach
 judge_answer (Err judge.Memory) = no_memory
 judge_answer (Err judge.Closed) = closed
 
--- bad input, which leaves what was
+-- bad input, which changes nothing
 abbrev pub IsBad : {A : Type 0} → Answer → A → A → Type 0
 IsBad answer was now = (answer ≡ bad) × (now ≡ was)

@@ -1,4 +1,4 @@
--- The numbers by which C names levels, profiles, widths, channels and links.
+-- The numbers of levels, profiles, widths, channels and links in C.
 use Rattle.std.specs.Prelude.{ℕ, Bool, true, ◌&&◌, ◌||◌, ◌==◌, List, [], ◌∷◌, nat_lt, Option, Some, None}
 use Rattle.std.specs.Prelude.{if◌then◌else◌}
 use Rattle.tl_beat.specs.declared.beat.Link.{Link}
@@ -11,23 +11,24 @@ use Rattle.tl_params.specs.declared.liberties.Liberties.{Liberties}
 use Rattle.tl_params.specs.declared.profile.Profile.{Profile}
 use Rattle.tl_params.specs.declared.profile.Profile.TheVariants as profile
 
--- the level of a code, 0 for UL, 1 for UH, 2 for C
+-- the level with a code: 0 for UL, 1 for UH, any other for C
 abbrev pub level_at : ℕ → Level
 level_at code = if code == 0 then level.UL else if code == 1 then level.UH else level.C
 
--- each is the code of a level
+-- each code is that of a level: 0, 1 or 2
 abbrev pub are_levels : List ℕ → Bool
 are_levels [] = true
 are_levels (code ∷ codes) = nat_lt code 3 && are_levels codes
 
--- the profile of a code, 1 or 2
+-- the profile with a code: 1 for the first, any other for the second
 abbrev pub profile_at : ℕ → Profile
 profile_at code = if code == 1 then profile.One else profile.Two
 
+-- the code is that of a profile
 abbrev pub is_profile : ℕ → Bool
 is_profile code = code == 1 || code == 2
 
--- the liberties of a code: bit 0 for `ids` to bit 7 for `uncorrupt`
+-- the liberties with a code: bit 0 for `ids` to bit 7 for `uncorrupt`
 abbrev pub liberties_at : ℕ → Liberties
 liberties_at code = record {
   ids = bit code 0;
@@ -40,11 +41,15 @@ liberties_at code = record {
   uncorrupt = bit code 7;
 }
 
--- how many bytes a beat may have
+-- the number of bytes that a beat may have
 abbrev pub is_width : ℕ → Bool
 is_width width = width == 4 || width == 8 || width == 16
 
--- the channel of a code, 0 for A to 4 for E
+-- the number of bytes that a wide beat may have
+abbrev pub is_wide_width : ℕ → Bool
+is_wide_width width = is_width width || width == 32 || width == 64
+
+-- the channel with a code, 0 for A to 4 for E
 abbrev pub channel_at : ℕ → Option Channel
 channel_at code =
     if code == 0 then Some channel.A else
@@ -52,6 +57,6 @@ channel_at code =
     if code == 2 then Some channel.C else if code == 3 then Some channel.D else if code == 4 then Some channel.E else
     None
 
--- the link of a code, 0 to 15
+-- the link with a code, 0 to 15
 abbrev pub link_at : ℕ → Option Link
 link_at code = if nat_lt code 16 then Some (record { 0 = code }) else None

@@ -1,4 +1,4 @@
--- The fields by which C is shown a beat.
+-- The fields of a beat in C.
 use Rattle.std.specs.Prelude.{ℕ, Bool, List, ◌≡◌, ◌++◌, ◌-◌, replicate, Option, Some, None, if◌then◌else◌}
 use Rattle.tl_beat.specs.declared.beat.Beat.{Beat}
 use Rattle.tl_beat.specs.declared.beat.Beat.TheVariants as beat
@@ -11,14 +11,16 @@ use Rattle.tl_pictures.specs.declared.answer.Answer.{Answer}
 use Rattle.tl_pictures.specs.declared.picture.Picture.{Picture}
 use Rattle.tl_pictures.specs.statement.Answer.{ok, nothing}
 
--- the lanes of a beat of w bytes, and zeros behind them
+-- the lanes of a beat of w bytes, then zeros; all zeros without data
 abbrev pub lanes_shown : ℕ → Option (List ℕ) → List ℕ
 lanes_shown w None = replicate 16 0
 lanes_shown w (Some lanes) = lanes ++ replicate (16 - w) 0
 
+-- 1 for true, 0 for false
 abbrev pub flag : Bool → ℕ
 flag set = if set then 1 else 0
 
+-- the fields of a beat of channel A
 abbrev pub a_depicted : {w : ℕ} → BeatA w → Picture
 a_depicted {w} x = record {
   lanes = lanes_shown w x.lanes;
@@ -34,6 +36,7 @@ a_depicted {w} x = record {
   corrupt = flag x.corrupt;
 }
 
+-- the fields of a beat of channel B
 abbrev pub b_depicted : {w : ℕ} → BeatB w → Picture
 b_depicted {w} x = record {
   lanes = lanes_shown w x.lanes;
@@ -49,6 +52,7 @@ b_depicted {w} x = record {
   corrupt = flag x.corrupt;
 }
 
+-- the fields of a beat of channel C
 abbrev pub c_depicted : {w : ℕ} → BeatC w → Picture
 c_depicted {w} x = record {
   lanes = lanes_shown w x.lanes;
@@ -64,6 +68,7 @@ c_depicted {w} x = record {
   corrupt = flag x.corrupt;
 }
 
+-- the fields of a beat of channel D
 abbrev pub d_depicted : {w : ℕ} → BeatD w → Picture
 d_depicted {w} x = record {
   lanes = lanes_shown w x.lanes;
@@ -79,7 +84,7 @@ d_depicted {w} x = record {
   corrupt = flag x.corrupt;
 }
 
--- the fields of a beat; what its channel lacks is 0
+-- the fields of a beat; a field that its channel doesn't have is 0
 abbrev pub depicted : {w : ℕ} → Beat w → Picture
 depicted (beat.A x) = a_depicted x
 depicted (beat.B x) = b_depicted x
@@ -99,7 +104,7 @@ depicted (beat.E x) = record {
   corrupt = 0;
 }
 
--- the beat is shown, where there is one
+-- the beat is written to the picture, if there is one
 abbrev pub ShowsBeat : {w : ℕ} → Option (Beat w) → Picture → Picture → Answer → Type 0
 ShowsBeat None was picture answer = (answer ≡ nothing) × (picture ≡ was)
 ShowsBeat (Some x) was picture answer = (answer ≡ ok) × (picture ≡ depicted x)

@@ -1,4 +1,4 @@
--- The rules that the numbers of answers stand for.
+-- The rules by their numbers in answers.
 use Rattle.std.specs.Prelude.{ℕ, ◌==◌, List, [], ◌∷◌}
 use Rattle.std.specs.List.{find}
 use Rattle.std.specs.Prelude.{Option, Some, None}
@@ -11,6 +11,7 @@ use Rattle.tl_params.specs.declared.memory_rule.MemoryRule.TheVariants.{M1, M2, 
 use Rattle.tl_params.specs.statement.Names.{memory_rule_name}
 use Rattle.tl_pictures.specs.statement.Answer.{rule_number, memory_rule_number}
 
+-- the rules of a link and of agents
 abbrev pub rules : List Rule
 rules =
     L1 ∷ L2 ∷ L3 ∷ L4 ∷ L5 ∷ L6 ∷ L7 ∷ S1 ∷ H1 ∷ H2 ∷ H3 ∷ H4 ∷ H5 ∷ H6 ∷ H7 ∷ H8 ∷ H9 ∷ H10 ∷ H11 ∷ H12 ∷ H13 ∷ A1 ∷ A2
@@ -20,16 +21,16 @@ rules =
 abbrev pub rule_with : ℕ → Option Rule
 rule_with n = find (λ rule. rule_number rule == n) rules
 
--- the rule of memory with a number
+-- the rule between links with a number
 abbrev pub memory_rule_with : ℕ → Option MemoryRule
 memory_rule_with n = find (λ rule. memory_rule_number rule == n) (M1 ∷ M2 ∷ M3 ∷ M4 ∷ [])
 
--- the name of one of them, or nothing
+-- the name of one of them; empty if there is none
 abbrev pub name_of : Option Rule → Option MemoryRule → List ℕ
 name_of (Some rule) memory = rule_name rule
 name_of None (Some rule) = memory_rule_name rule
 name_of None None = []
 
--- the name of the rule with a number; nothing for a number that no rule has
+-- the name of the rule with a number; empty if no rule has it
 abbrev pub name_with : ℕ → List ℕ
 name_with n = name_of (rule_with n) (memory_rule_with n)

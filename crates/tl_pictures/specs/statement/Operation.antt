@@ -1,4 +1,4 @@
--- The operation that the fields of C show, where they show one.
+-- The operation by its fields in C, if they are those of one.
 use Rattle.std.specs.Prelude.{ℕ, Bool, true, false, ◌==◌, ◌≡◌, refl, nat_le, Option, Some, None, option_map}
 use Rattle.std.specs.Prelude.{if◌then◌else◌}
 use Rattle.std.proofs.lemmas.Bool.{leb-true}
@@ -10,13 +10,15 @@ use Rattle.tl_client.specs.declared.operation.Op.{Op}
 use Rattle.tl_client.specs.declared.operation.Op.TheVariants as op
 use Rattle.tl_pictures.specs.declared.operation.Operation.{Operation}
 
+-- an Acquire, if the param is a grow
 abbrev pub acquire_of : (w : ℕ) → Operation → Option (Op w)
 acquire_of w x = option_map (λ grow. op.Acquire x.block grow) (grow_of x.param)
 
+-- a Release, if the param is a prune
 abbrev pub release_of : (w : ℕ) → Operation → Option (Op w)
 release_of w x = option_map (λ prune. op.Release x.block prune) (prune_of x.param)
 
--- an access whose size is at most a block; its source is the client's to choose, and no beat is corrupt
+-- an access whose size is at most a block; the client replaces its source, and no beat is corrupt
 abbrev pub access_if : (w : ℕ) (x : Operation) → Option OpA → (fits : Bool) → nat_le x.size 6 ≡ fits → Option (Op w)
 access_if w x None fits is = None
 access_if w x (Some opcode) false is = None
@@ -32,10 +34,11 @@ access_if w x (Some opcode) true is = Some (op.Access (message.A (record {
   small = leb-true x.size 6 is;
 })))
 
+-- an access, if the opcode is one of channel A and the size at most a block
 abbrev pub access_of : (w : ℕ) → Operation → Option (Op w)
 access_of w x = access_if w x (a_with x.opcode) (nat_le x.size 6) refl
 
--- the operation that the fields show
+-- the operation with these fields, if there is one
 abbrev pub asked_for : (w : ℕ) → Operation → Option (Op w)
 asked_for w x =
     if x.kind == 0 then Some (op.Load x.address x.size) else

@@ -1,4 +1,4 @@
-//! A world of each number of clients and sources, on few and on many blocks.
+//! A world for each number of clients and sources, on few and on many blocks.
 
 ghost use Rattle.tl_beat.specs.statement.Width.{IsWidth};
 
@@ -20,7 +20,7 @@ use tl_rules::param::Grow;
 use tl_rules::perm::Perm;
 use tl_world::world::World;
 
-/// Each client acquires a block to read.
+/// Each client acquires Branch of a block.
 fn acquires(block: u16) -> [Event<8>; 16] {
     let grow = Grow::NtoB;
     let operation = Op::Acquire { block, grow };
@@ -44,7 +44,7 @@ fn world_in<D: Directory>(
     }
 }
 
-/// So many clients have been granted what they asked for.
+/// This many clients hold Branch of the block.
 fn all_read<const W: usize, A: Agent<W>, D: Directory>(
     rt: &impl Abort,
     world: &World<W, A, D>,
@@ -66,7 +66,7 @@ fn all_started(rt: &impl Abort, outcomes: &[Outcome<8>], count: usize) {
     }
 }
 
-/// The clients of a new world with each directory read its last block.
+/// The clients of a new world, with each kind of directory, read its last block.
 fn reads(rt: &impl Abort, alloc: Global, blocks: u16, sources: &[u8]) {
     let block = blocks.saturating_sub(1);
     let all = acquires(block);

@@ -1,4 +1,4 @@
-//! Both directories, through what they are to the manager.
+//! Both directories, through the calls that a manager makes.
 
 ghost use Rattle.std.specs.Prelude.{◌≡◌};
 
@@ -9,7 +9,7 @@ use tl_manager::directory::Directory;
 use tl_manager::table::TableDirectory;
 use tl_rules::perm::Perm;
 
-/// The words of block 0, and those of block 1, which no call names.
+/// The words of block 0, and those of block 1, which no call changes.
 fn words_are<D: Directory>(rt: &impl Abort, directory: &D, holders: u16, owners: u16)
     requires { D.blocks directory.now ≡ 2 }
 {

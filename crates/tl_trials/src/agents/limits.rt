@@ -1,4 +1,4 @@
-//! Limits of a configuration, one by one and several at once, in their order.
+//! Limits of a configuration, broken one by one and several at once, in their order.
 
 use crate::agents::worlds::config_of;
 use crate::play::made::{Covers, Hires, make_manager, make_world};
@@ -19,7 +19,7 @@ use tl_rules::profile::Profile;
 use tl_world::agents::agents_of;
 use tl_world::world::World;
 
-/// Blocks, trackers, and the sources of each client, with the limit that is broken first.
+/// Blocks, trackers, the sources of each client, and the first limit that is broken.
 const BROKEN: [(u16, u8, &[u8], NewFault); 11] = [
     (1, 1, &[], NewFault::N1),
     (0, 1, &[1], NewFault::N2),
@@ -65,8 +65,8 @@ fn is_refused<A: Hires<8>, D: Covers>(
     }
 }
 
-/// Of blocks and sources that are out of their limits no clients can be had, so that a world is refused for
-/// the number of clients, before anything else, or of trackers.
+/// With blocks or sources out of their limits there are no clients to make a world of. So a world is refused first for
+/// its number of clients, or for its trackers.
 const NO_WORLD: [(u16, u8, &[u8], NewFault); 4] = [
     (1, 1, &[], NewFault::N1),
     (0, 9, &[], NewFault::N1),
@@ -90,7 +90,7 @@ fn limits_of_worlds(rt: HostRuntime) {
     }
 }
 
-/// The outcomes are then as they were.
+/// The outcomes stay as they were.
 #[test]
 fn limits_of_replays(rt: HostRuntime) {
     let alloc = rt.alloc();
@@ -118,7 +118,7 @@ fn limits_of_replays(rt: HostRuntime) {
     }
 }
 
-/// The limits of one client: blocks before sources.
+/// The limits of one client: its blocks come before its sources.
 fn limits_of<A: Hires<8>>(rt: &impl Abort, alloc: Global, level: Level) {
     let rows = [
         (1, 1, None),

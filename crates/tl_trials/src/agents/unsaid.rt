@@ -1,4 +1,4 @@
-//! Operations that no line of a schedule says: messages that no beat carries, or that no client sends.
+//! Operations that no line of a schedule spells: messages that no beat carries, or that no client sends.
 
 ghost use Rattle.std.specs.Prelude.{◌≤◌};
 ghost use Rattle.tl_beat.specs.statement.Width.{IsWidth};
@@ -62,7 +62,7 @@ fn is_busy<A: Agent<8>>(rt: &impl Abort, client: &mut A, operation: Op<8>, busy:
     assert_eq!(rt; client.ask(operation), (Reply::Busy(busy), None));
 }
 
-/// What a client of any level isn't asked for. The source of an access is replaced.
+/// Operations that a client of any level refuses. The source of an access is replaced.
 fn asked_of<A: Hires<8>>(rt: &impl Abort, alloc: Global, level: Level, load: Busy) {
     let mut client = client_of::<A>(rt, alloc, level);
     is_busy(rt, &mut client, grant_ack(), Busy::B4);
@@ -108,7 +108,7 @@ fn corrupt_put<const W: usize>() -> Op<W> {
     access(put)
 }
 
-/// What is asked, each time followed by a delivery on channel A.
+/// Operations, each followed by a delivery on channel A.
 fn asked_for<const W: usize>() -> [Event<W>; 4]
     requires { IsWidth W }
 {
@@ -123,7 +123,7 @@ fn asked_for<const W: usize>() -> [Event<W>; 4]
     [first, delivery, second, delivery]
 }
 
-/// A message that has a corrupt bit, or is no access, isn't sent.
+/// A message with a corrupt bit, or that is no access, isn't sent.
 fn is_not_sent<const W: usize>(rt: &impl Abort, outcomes: [Outcome<W>; 4])
     requires { IsWidth W }
 {

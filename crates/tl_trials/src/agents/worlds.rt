@@ -5,7 +5,7 @@ use tl_rules::config::{ClientConfig, Config};
 use tl_rules::level::Level;
 use tl_rules::profile::Profile;
 
-/// So many blocks and trackers, and clients with so many sources.
+/// A configuration with this many blocks and trackers, and a client for each number of sources.
 pub fn config_of(blocks: u16, trackers: u8, level: Level, sources: &[u8]) -> Config {
     let mut clients = ArrayVec::new();
     for sources in sources {

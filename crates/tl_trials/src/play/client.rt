@@ -1,4 +1,4 @@
-//! Plays a trial on clients: what they are asked, and beats that they are offered.
+//! Plays a trial on clients: operations, and beats that are offered.
 
 ghost use Rattle.tl_beat.specs.statement.Width.{IsWidth};
 
@@ -49,7 +49,7 @@ fn ask<const W: usize, A: Agent<W>>(
     append_sent(message, out)
 }
 
-/// What came of a beat, as a world tells of it.
+/// The outcome of a beat, as a world has it.
 fn outcome_of<const W: usize>(verdict: Verdict, beat: Beat<W>) -> Outcome<W> {
     match verdict {
         Verdict::Stalled => Outcome::Stalled,
@@ -62,7 +62,7 @@ fn outcome_of<const W: usize>(verdict: Verdict, beat: Beat<W>) -> Outcome<W> {
     }
 }
 
-/// Whether a client stalls a beat is what it does when it is offered it, and a refusal closes the link.
+/// Offers a beat. `stalls` must say whether it is stalled, and a refusal must close the link.
 fn offer<const W: usize, A: Agent<W>>(
     client: &mut A,
     offered: Offered<W>,
@@ -91,7 +91,7 @@ fn offer<const W: usize, A: Agent<W>>(
     append_text(if as_said { "" } else { "not as it said\n" }, out)
 }
 
-/// Answers a question: what is held of a block, its copy, or whether the link is closed.
+/// Answers a question: the permission held of a block, its copy, or whether the link is closed.
 fn answer<const W: usize, A: Agent<W>>(
     client: &A,
     mut words: Split<'_, char>,
@@ -141,7 +141,7 @@ fn play_lines<const W: usize, A: Agent<W>>(
     Ok(())
 }
 
-/// A client of one kind, the first one of a configuration.
+/// A client of one kind: the first of a configuration.
 fn make_client<const W: usize, A: Hires<W>>(alloc: Global, config: &Config) -> Result<A, NewFault>
     requires { IsWidth W }
 {
@@ -151,7 +151,7 @@ fn make_client<const W: usize, A: Hires<W>>(alloc: Global, config: &Config) -> R
     }
 }
 
-/// What is told of a trial by a client of one kind.
+/// The results of a trial on a client of one kind.
 fn played<const W: usize, A: Hires<W>>(alloc: Global, trial: Trial) -> Result<Vec<u8>, NewFault>
     requires { IsWidth W }
 {
@@ -162,8 +162,8 @@ fn played<const W: usize, A: Hires<W>>(alloc: Global, trial: Trial) -> Result<Ve
     Ok(text)
 }
 
-/// Plays a trial on a client of its level, by itself, as one of any level and as one that counts: appends what they
-/// all tell.
+/// Plays a trial on a client of its level, on the same within `AnyClient`, and on one that counts. Appends the results,
+/// which must agree.
 pub fn play_clients<const W: usize>(
     alloc: Global,
     trial: Trial,

@@ -1,4 +1,4 @@
-//! A client of the six calls that an agent needs.
+//! A client with only the six calls that an agent needs.
 
 ghost use Rattle.std.specs.Prelude.{◌≡◌};
 
@@ -16,7 +16,7 @@ use tl_rules::perm::Perm;
 use tl_rules::profile::Profile;
 use tl_rules::rule::Rule;
 
-/// A client that counts its misses. It has no body of its own for the calls that are there to be quick.
+/// A client that counts its misses. It has no bodies of its own for the calls that exist for speed.
 #[derive(Drop)]
 pub struct Counting<const W: usize> {
     pub client: AnyClient<W>,

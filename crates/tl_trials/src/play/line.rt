@@ -1,4 +1,4 @@
-//! The words of a line, and words that are written.
+//! The words of a line, and appending of text.
 
 use itoa::Buffer;
 use std::alloc::AllocError;
@@ -6,7 +6,7 @@ use std::str::Split;
 use tl_beat::channel::Channel;
 use tl_rules::perm::Perm;
 
-/// The decimal number that is the next word. A word of another kind counts as the greatest number.
+/// The next word as a decimal number; the greatest number if it isn't one.
 pub fn number(words: &mut Split<'_, char>) -> u16 {
     match words.next() {
         None => u16::MAX,
@@ -14,7 +14,7 @@ pub fn number(words: &mut Split<'_, char>) -> u16 {
     }
 }
 
-/// The same of a number of a client or link.
+/// The next word as the number of a client or link, at most 255.
 pub fn small_number(words: &mut Split<'_, char>) -> u8 {
     number(words).min(255) as u8
 }
@@ -31,10 +31,12 @@ pub fn channel_named(letter: &str) -> Option<Channel> {
     }
 }
 
+/// Appends a text.
 pub fn append_text(text: &str, out: &mut Vec<u8>) -> Result<(), AllocError> {
     out.extend_from_slice(text.as_bytes())
 }
 
+/// Appends a number in decimal.
 pub fn append_number(number: u64, out: &mut Vec<u8>) -> Result<(), AllocError> {
     let mut digits = Buffer::new();
     out.extend_from_slice(digits.format(number).as_bytes())

@@ -20,10 +20,9 @@ use tl_rules::level::Level;
 use tl_rules::profile::Profile;
 use tl_world::world::World;
 
-/// A kind of client, of which new ones can be had.
+/// A kind of client that can be made.
 pub trait Hires<const W: usize>: Agent<W> {
-    /// A client of its link, which has sent and taken nothing. There is none of a level that isn't of the
-    /// kind.
+    /// A new client of its link. There is none for a level that isn't of the kind.
     fn hire(
         alloc: Global,
         config: ClientConfig,
@@ -85,9 +84,9 @@ impl<const W: usize> Hires<W> for Plain<W> {
     }
 }
 
-/// A kind of directory, of which new ones can be had.
+/// A kind of directory that can be made.
 pub trait Covers: Directory {
-    /// A directory of the blocks and clients of a configuration, in which nothing is recorded.
+    /// A directory of the blocks and clients of a configuration, without any permission recorded.
     fn cover(alloc: Global, config: &Config) -> Result<Self, AllocError>
         ensures { IfOk result (λ directory. IsEmpty Self.perm_of Self.blocks Self.clients config.now directory) };
 }
@@ -125,7 +124,7 @@ pub fn hire_all<const W: usize, A: Hires<W>>(
     Ok(clients)
 }
 
-/// A world to which nothing has happened.
+/// A new world.
 pub fn make_world<const W: usize, A: Hires<W>, D: Covers>(
     alloc: Global,
     config: Config,
@@ -137,7 +136,7 @@ pub fn make_world<const W: usize, A: Hires<W>, D: Covers>(
     World::new(alloc, config, clients, directory)
 }
 
-/// A manager that was offered nothing.
+/// A new manager.
 pub fn make_manager<const W: usize, D: Covers>(
     alloc: Global,
     config: &Config,

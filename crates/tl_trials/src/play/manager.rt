@@ -1,4 +1,4 @@
-//! Plays a trial on managers: beats that they are offered.
+//! Plays a trial on managers: beats that are offered.
 
 ghost use Rattle.tl_beat.specs.statement.Width.{IsWidth};
 
@@ -28,7 +28,7 @@ fn append_handed<const W: usize>(handed: &Handed<W>, out: &mut Vec<u8>) -> Resul
     Ok(())
 }
 
-/// Whether a manager stalls a beat is what it does when it is offered it, and a refusal closes the link.
+/// Offers a beat. `stalls` must say whether it is stalled, and a refusal must close the link.
 fn offer<const W: usize, D: Directory>(
     manager: &mut Manager<W, D>,
     offered: Offered<W>,
@@ -59,7 +59,7 @@ fn offer<const W: usize, D: Directory>(
     append_text(if as_said { "" } else { "not as it said\n" }, out)
 }
 
-/// A beat that is offered, or the question whether a link is closed.
+/// Plays a line: a beat that is offered, or the question whether a link is closed.
 fn play_line<const W: usize, D: Directory>(
     manager: &mut Manager<W, D>,
     line: &str,
@@ -111,7 +111,7 @@ fn play_anew<const W: usize, D: Covers>(
     Ok(manager)
 }
 
-/// Plays a trial on a manager with each directory, and appends what both tell.
+/// Plays a trial on a manager with each kind of directory. Appends the results, which must agree.
 pub fn play_managers<const W: usize>(
     alloc: Global,
     trial: Trial,

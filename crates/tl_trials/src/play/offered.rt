@@ -17,7 +17,7 @@ pub struct Offered<const W: usize> {
     pub beat: Beat<W>,
 }
 
-/// The beat of a beat line, on its channel, or on another one that stands before it, as in `on E 00 ..`.
+/// The beat of a beat line, on its own channel, or on the channel that comes first, as in `on E 00 ..`.
 pub fn offered_by<const W: usize>(line: &str) -> Option<Offered<W>>
     requires { IsWidth W }
 {
@@ -44,6 +44,7 @@ pub fn offered_by<const W: usize>(line: &str) -> Option<Offered<W>>
     }
 }
 
+/// Appends `refused` and the rule, as a line.
 pub fn append_refused(rule: Rule, out: &mut Vec<u8>) -> Result<(), AllocError> {
     append_text("refused ", out)?;
     append_text(rule.name(), out)?;

@@ -50,7 +50,7 @@ fn play_anew<const W: usize, A: Hires<W>, D: Covers>(
     Ok(world)
 }
 
-/// What a world answers to the questions behind the last event.
+/// The answers of a world to the questions after the last event.
 fn last_answers<const W: usize, A: Agent<W>, D: Directory>(
     alloc: Global,
     world: &World<W, A, D>,
@@ -69,7 +69,7 @@ fn last_answers<const W: usize, A: Agent<W>, D: Directory>(
     Ok(text)
 }
 
-/// Room for so many outcomes.
+/// Room for this many outcomes.
 #[derive(Drop)]
 struct Room<const W: usize> {
     outcomes: Vec<Outcome<W>>,
@@ -91,7 +91,7 @@ fn clear<const W: usize>(outcomes: &mut [Outcome<W>])
     }
 }
 
-/// A new world of a replay of events, where there is room for as many outcomes.
+/// A new world by a replay of events, of as many as there is room for outcomes.
 pub fn replayed<const W: usize, A: Hires<W>, D: Covers>(
     alloc: Global,
     config: Config,
@@ -108,7 +108,7 @@ pub fn replayed<const W: usize, A: Hires<W>, D: Covers>(
     World::replay(alloc, config, clients, directory, events, outcomes)
 }
 
-/// What a world answers behind the last event is what was told.
+/// The answers of a world after the last event must be those in the record.
 fn answer_again<const W: usize, A: Agent<W>, D: Directory>(
     alloc: Global,
     world: &World<W, A, D>,
@@ -123,7 +123,7 @@ fn answer_again<const W: usize, A: Agent<W>, D: Directory>(
     Ok(())
 }
 
-/// A replay of what was told comes to the same.
+/// A replay of the events in the record must have the same outcomes.
 fn replay_again<const W: usize, A: Hires<W>, D: Covers>(
     alloc: Global,
     trial: Trial,
@@ -142,7 +142,7 @@ fn replay_again<const W: usize, A: Hires<W>, D: Covers>(
     Ok(world)
 }
 
-/// A new world to which events happen in one call, where there is room for as many outcomes.
+/// A new world in which events happen in one call, as many as there is room for outcomes.
 pub fn ran<const W: usize, A: Hires<W>, D: Covers>(
     alloc: Global,
     config: Config,
@@ -158,7 +158,7 @@ pub fn ran<const W: usize, A: Hires<W>, D: Covers>(
     Ok(world)
 }
 
-/// Whether a world drains within its load, after which it is idle.
+/// Whether a world drains within its load, and is then idle.
 fn drains<const W: usize, A: Agent<W>, D: Directory>(world: &mut World<W, A, D>) -> bool
     requires { IsWidth W }
 {
@@ -166,7 +166,7 @@ fn drains<const W: usize, A: Agent<W>, D: Directory>(world: &mut World<W, A, D>)
     world.drain() <= load && is_idle(world)
 }
 
-/// As many events happen to a new world as there is room for, and come to the same. Then it drains.
+/// As many events happen in a new world as there is room for, with the same outcomes. Then it drains.
 fn drain_behind<const W: usize, A: Hires<W>, D: Covers>(
     alloc: Global,
     trial: Trial,
@@ -184,7 +184,7 @@ fn drain_behind<const W: usize, A: Hires<W>, D: Covers>(
     Ok(world)
 }
 
-/// The same behind each beginning of what was told.
+/// The same after each first part of the record.
 fn drain_behind_each<const W: usize, A: Hires<W>, D: Covers>(
     alloc: Global,
     trial: Trial,
@@ -200,16 +200,16 @@ fn drain_behind_each<const W: usize, A: Hires<W>, D: Covers>(
     drain_behind(alloc, trial, told, outcomes, same)
 }
 
-/// How far a trial is played again.
+/// The ways in which a trial is played again.
 #[derive(Clone, Copy)]
 pub enum Depth {
     /// In each way.
     EachWay,
-    /// Behind each beginning too.
+    /// Also after each first part of the record.
     EachBeginning,
 }
 
-/// Worlds of one kind are played in each way.
+/// Plays worlds of one kind in each way.
 fn tell_again<const W: usize, A: Hires<W>, D: Covers>(
     alloc: Global,
     trial: Trial,
@@ -230,7 +230,7 @@ fn tell_again<const W: usize, A: Hires<W>, D: Covers>(
     replay_again(alloc, trial, told, outcomes, same)
 }
 
-/// The same, as far as is asked.
+/// Plays worlds of one kind to this depth.
 fn tell_as_deep<const W: usize, A: Hires<W>, D: Covers>(
     alloc: Global,
     trial: Trial,
@@ -250,7 +250,7 @@ fn tell_as_deep<const W: usize, A: Hires<W>, D: Covers>(
     tell_again(alloc, trial, told, outcomes, same)
 }
 
-/// Whether all clients keep copies.
+/// Whether each client keeps copies.
 fn all_keep(config: &Config) -> bool {
     let clients = config.clients.as_slice();
     clients
@@ -258,7 +258,7 @@ fn all_keep(config: &Config) -> bool {
         .all(|client| matches!(client.level, Level::C))
 }
 
-/// Whether none does.
+/// Whether no client keeps copies.
 fn none_keeps(config: &Config) -> bool {
     let clients = config.clients.as_slice();
     clients
@@ -266,7 +266,7 @@ fn none_keeps(config: &Config) -> bool {
         .all(|client| !matches!(client.level, Level::C))
 }
 
-/// Plays a trial on worlds of each kind that the levels allow.
+/// Plays a trial on worlds of each kind that its levels allow.
 fn tell_all<const W: usize>(
     alloc: Global,
     trial: Trial,
@@ -306,7 +306,7 @@ fn tell_all<const W: usize>(
     Ok(())
 }
 
-/// Plays a trial on worlds: appends what all of them tell, and how many events it told of.
+/// Plays a trial on worlds. Appends their results, which must agree, and the number of events.
 pub fn play_worlds<const W: usize>(
     alloc: Global,
     trial: Trial,

@@ -1,4 +1,4 @@
-//! Writes beats, messages and outcomes, where they have a line.
+//! Writes beats, messages and outcomes, if they have a line.
 
 ghost use Rattle.std.specs.Bool.{OnTrue};
 ghost use Rattle.tl_beat.specs.statement.Line.{IsWritable};
@@ -13,7 +13,7 @@ use tl_burst::message::Message;
 use tl_coherence::event::{Event, Outcome};
 use tl_schedule::outcome::append_outcome;
 
-/// Whether a beat has room in its line.
+/// Whether a beat fits its line.
 fn is_writable<const W: usize>(beat: &Beat<W>) -> bool
     requires { IsWidth W }
     ensures { OnTrue result (IsWritable beat.now) }
@@ -38,7 +38,7 @@ fn has_line<const W: usize>(outcome: &Outcome<W>) -> bool
     }
 }
 
-/// Appends what comes of an event.
+/// Appends the outcome of an event.
 pub fn append_told<const W: usize>(
     event: &Event<W>,
     outcome: &Outcome<W>,
@@ -68,7 +68,7 @@ fn append_beat<const W: usize>(
     }
 }
 
-/// The bytes that a message carries or could carry.
+/// The payload of a message; zeros for a GrantAck.
 fn payload_of<const W: usize>(message: &Message<W>) -> [u8; 64] {
     match message {
         Message::A(m) => m.payload,
@@ -79,12 +79,12 @@ fn payload_of<const W: usize>(message: &Message<W>) -> [u8; 64] {
     }
 }
 
-/// Whether no byte behind so many isn't 0.
+/// Whether each byte after the first `count` is 0.
 fn ends_behind(payload: &[u8; 64], count: usize) -> bool {
     payload.iter().skip(count).all(|byte| *byte == 0)
 }
 
-/// How many bytes of a message its beats show.
+/// The number of bytes of a message's payload that its beats carry.
 fn shown<const W: usize>(message: &Message<W>) -> usize
     requires { IsWidth W }
 {
@@ -102,7 +102,7 @@ fn shown<const W: usize>(message: &Message<W>) -> usize
     }
 }
 
-/// Appends the beats of a message that is sent on a link. What its beats don't show is 0.
+/// Appends the beats of a message that is sent on a link. The bytes that its beats don't carry must be 0.
 pub fn append_message<const W: usize>(
     link: Link,
     message: &Message<W>,

@@ -11,13 +11,13 @@ use std::alloc::Global;
 use tl_params::width::Width;
 use tl_rules::config::NewFault;
 
-/// What plays a trial.
+/// The player of a trial.
 #[derive(Clone, Copy)]
 pub enum Stage {
     Clients,
     Managers,
     Worlds,
-    /// Worlds that begin each trial anew behind each of its events.
+    /// Worlds that begin each trial again after each of its events.
     Beginnings,
 }
 
@@ -37,7 +37,7 @@ fn play_at<const W: usize>(
     }
 }
 
-/// Appends the name of a trial, and what is told of it.
+/// Appends the name of a trial, and its results.
 fn play_trial(
     alloc: Global,
     stage: Stage,

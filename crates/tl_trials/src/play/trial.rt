@@ -1,4 +1,4 @@
-//! A trial: a header, and lines behind it.
+//! A trial: a header, and lines after it.
 
 use tl_rules::config::{Config, NewFault};
 use tl_schedule::header::{Schedule, read_schedule};
@@ -9,7 +9,7 @@ pub struct Trial<'a> {
     pub text: &'a str,
 }
 
-/// What the header names, which is that of a schedule.
+/// The header of the trial, which is that of a schedule.
 pub fn schedule_of(trial: Trial) -> Option<Schedule> {
     let header = trial.text.split_inclusive('\n').next()?;
     read_schedule(header.as_bytes())

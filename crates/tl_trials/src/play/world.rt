@@ -1,4 +1,4 @@
-//! Plays the lines of a trial on a world: what happens, and what is asked of it.
+//! Plays the lines of a trial on a world: events, and questions.
 
 ghost use Rattle.tl_beat.specs.statement.Width.{IsWidth};
 
@@ -17,28 +17,29 @@ use tl_schedule::line::{Line, read_event};
 use tl_schedule::outcome::append_drained;
 use tl_world::world::World;
 
-/// How a line `drain` is played.
+/// The ways to play a line `drain`.
 #[derive(Clone, Copy, Debug, PartialEq, Eq)]
 pub enum Way {
-    /// Each delivery is an event, of which is told.
+    /// Each delivery is an event, and its outcome is written.
     Told,
-    /// The same, but only their number is told.
+    /// Each delivery is an event, and only their number is written.
     Counted,
     /// In one call of `drain`.
     AtOnce,
 }
 
-/// What was played and told.
+/// The events that were played, their outcomes, and the text that was written.
 #[derive(Drop)]
 pub struct Record<const W: usize> {
     pub events: Vec<Event<W>>,
     pub outcomes: Vec<Outcome<W>>,
     pub text: Vec<u8>,
-    /// Where the answers begin that no event stands behind.
+    /// The place in `text` of the answers after the last event.
     pub last: usize,
 }
 
 impl<const W: usize> Record<W> {
+    /// A record without events.
     pub fn new(alloc: Global) -> Record<W> {
         Record {
             events: Vec::new(alloc),
@@ -48,18 +49,18 @@ impl<const W: usize> Record<W> {
         }
     }
 
-    /// Whether these are the answers behind the last event.
+    /// Whether these are the answers after the last event.
     pub fn ends_with(&self, answers: &[u8]) -> bool {
         Some(answers) == self.text.as_slice().get(self.last..)
     }
 
-    /// So many events from the first one on, or all.
+    /// The first events, this many of them, or all.
     pub fn first_events(&self, count: usize) -> &[Event<W>] {
         let events = self.events.as_slice();
         events.get(..count).unwrap_or(events)
     }
 
-    /// Whether these are its first outcomes.
+    /// Whether the record begins with these outcomes.
     pub fn begins_with(&self, outcomes: &[Outcome<W>]) -> bool {
         Some(outcomes) == self.outcomes.as_slice().get(..outcomes.len())
     }
@@ -97,7 +98,7 @@ fn happen<const W: usize, A: Agent<W>, D: Directory>(
     record.tell(is_told, event, outcome)
 }
 
-/// What is next is delivered until nothing is: the number of deliveries.
+/// Makes the next delivery until there is none, and returns their number.
 fn deliver_all<const W: usize, A: Agent<W>, D: Directory>(
     world: &mut World<W, A, D>,
     is_told: bool,
@@ -117,12 +118,12 @@ fn deliver_all<const W: usize, A: Agent<W>, D: Directory>(
     Ok(load)
 }
 
-/// Whether nothing is outstanding, and no delivery is next.
+/// Whether nothing is outstanding, and there is no next delivery.
 pub fn is_idle<const W: usize, A: Agent<W>, D: Directory>(world: &World<W, A, D>) -> bool {
     world.next_delivery().is_none() && world.load() == 0
 }
 
-/// A drain makes at most as many deliveries as the load says, and leaves an idle world.
+/// Drains the world. That must take at most as many deliveries as the load, and leave the world idle.
 fn drain<const W: usize, A: Agent<W>, D: Directory>(
     world: &mut World<W, A, D>,
     way: Way,
@@ -156,8 +157,8 @@ fn append_depths<const W: usize, A: Agent<W>, D: Directory>(
     append_text("\n", out)
 }
 
-/// Answers a question: what a client holds of a block, its copy, how deep the channels of a link ever
-/// were, or the load.
+/// Answers a question: the permission that a client holds of a block, its copy, the greatest number of beats in each
+/// channel of a link, or the load.
 fn answer_words<const W: usize, A: Agent<W>, D: Directory>(
     world: &World<W, A, D>,
     mut words: Split<'_, char>,
@@ -182,6 +183,7 @@ fn answer_words<const W: usize, A: Agent<W>, D: Directory>(
     }
 }
 
+/// Appends the answer to the question in a line.
 pub fn answer<const W: usize, A: Agent<W>, D: Directory>(
     world: &World<W, A, D>,
     line: &str,
@@ -190,7 +192,7 @@ pub fn answer<const W: usize, A: Agent<W>, D: Directory>(
     answer_words(world, line.trim_end().split(' '), out)
 }
 
-/// Plays a line behind the header.
+/// Plays a line after the header.
 pub fn play_line<const W: usize, A: Agent<W>, D: Directory>(
     world: &mut World<W, A, D>,
     way: Way,

@@ -1,4 +1,4 @@
-//! What lines of accesses say, at each width.
+//! The messages of lines of accesses, at each width.
 
 ghost use Rattle.std.specs.Prelude.{◌≤◌};
 ghost use Rattle.tl_beat.specs.statement.Width.{IsWidth};
@@ -15,11 +15,11 @@ use tl_schedule::line::{Line, read_event};
 pub const FULL: &str =
     "ffffffffffffffffffffffffffffffffffffffffffffffffffffffffffffffffffffffffffffffffffffffffffffffffffffffffffffffffffffffffffffffff";
 
-/// What an access is but for its address: opcode, param and size, and mask.
+/// The fields of an access without its address: opcode, param, size and mask.
 type Access = (OpA, u8, u8, u64);
 
-/// The line of an access of client 0 with this message, which has source 0 and corrupt 0, and these
-/// bytes from a lane on.
+/// The line must spell an access of client 0 with this message, with source 0, with corrupt 0, and with these bytes
+/// from a lane on.
 fn sends<const W: usize>(
     rt: &impl Abort,
     line: &str,
@@ -107,7 +107,7 @@ fn atomics_by_name(rt: HostRuntime) {
     }
 }
 
-/// In a mask the last beat's lanes stand first, with a digit a beat of 4 bytes, and four of 16.
+/// A mask has the last beat's lanes first, with one digit a beat of 4 bytes, and four of 16.
 #[test]
 fn puts_at_each_width(rt: HostRuntime) -> Result<(), Fail> {
     let line = format!(in rt.alloc(); "00 put 6 00000000 {FULL}\n")?;

@@ -1,4 +1,4 @@
-//! Lines of beats whose bytes no file shows, and lines that are appended.
+//! Lines of beats whose bytes no file has, and lines that are appended.
 
 use std::test::Fail;
 use tl_beat::beat::{Beat, Link};
@@ -22,14 +22,14 @@ fn a_line_is_at_most_256_bytes_long(rt: HostRuntime) {
     let long = [b'\n'; 257];
     let read: Result<(Link, Beat<8>), LineFault> = read_line(&long);
     assert_eq!(rt; read.err(), Some(LineFault::F1));
-    // A letter that is none comes before the number of fields, within that length.
+    // A wrong letter comes before the number of fields, within that length.
     let mut near = [b' '; 256];
     near[255] = b'\n';
     let read: Result<(Link, Beat<8>), LineFault> = read_line(&near);
     assert_eq!(rt; read.err(), Some(LineFault::F2));
 }
 
-/// Behind what is there, up to a megabyte.
+/// After other bytes, up to a megabyte.
 #[test]
 fn lines_are_appended(rt: HostRuntime) -> Result<(), Fail> {
     let (link, beat): (Link, Beat<8>) = read_line(b"01 E 03\n")?;

@@ -1,4 +1,4 @@
-//! Beats that are taken one after another, and messages that come again of their beats.
+//! Beats that are taken one after the other, and messages that are assembled from their beats.
 
 ghost use Rattle.std.specs.Prelude.{◌≤◌};
 ghost use Rattle.tl_beat.specs.statement.Width.{IsWidth};
@@ -30,7 +30,7 @@ fn request<const W: usize>(put: bool, size: u8, source: u8) -> Beat<W>
     })
 }
 
-/// These are the parts that the beats of a PutFullData of this size are, one after another.
+/// The beats of a PutFullData of this size, one after the other, have these places in their burst.
 fn is_parted<const W: usize>(rt: &impl Abort, size: u8, parts: &[Part])
     requires width { IsWidth W }
     requires small { size ≤ 6 }
@@ -80,7 +80,7 @@ fn messages_of_one_beat(rt: HostRuntime) {
     is_only(&rt, &Beat::<8>::E(BeatE { sink: 3 }));
 }
 
-/// So many beats of a burst, one of another source, which is refused, and a further one.
+/// This many beats of a burst, one of another source, which is refused, and one more.
 fn goes_on_after_a_refusal<const W: usize>(rt: &impl Abort, beats: u8)
     requires { IsWidth W }
 {
@@ -105,8 +105,7 @@ fn a_beat_of_another_source_is_refused(rt: HostRuntime) {
     goes_on_after_a_refusal::<16>(&rt, 2);
 }
 
-/// Distinct bytes, all mask bits and every other corrupt bit of the beats that carry data of this
-/// size.
+/// Distinct bytes, all mask bits and every other corrupt bit of the beats with data of this size.
 fn data_of<const W: usize>(size: u8) -> ([u8; 64], u64, u16)
     requires width { IsWidth W }
     requires small { size ≤ 6 }
@@ -129,7 +128,7 @@ fn data_of<const W: usize>(size: u8) -> ([u8; 64], u64, u16)
     (payload, mask, corrupt)
 }
 
-/// All beats of a message, taken one after another, give the message at the last one.
+/// All beats of a message, taken one after the other, give the message with the last one.
 fn comes_again<const W: usize>(rt: &impl Abort, message: &Message<W>)
     requires { IsWidth W }
 {

@@ -1,4 +1,4 @@
-//! What the bytes of a block may be, where it is granted, given back and written.
+//! The values that the bytes of a block may have after Grants, reports and Puts.
 
 use std::alloc::{AllocError, Global};
 use std::process::Abort;
@@ -18,7 +18,7 @@ fn each(byte: u8) -> KnownBytes {
     KnownBytes::all(&[byte; 64])
 }
 
-/// What a Put of eight bytes, at the start of the block, writes.
+/// The write of a Put of eight bytes at the start of the block.
 fn eight(byte: u8) -> Write {
     Write {
         first: 0,
@@ -27,7 +27,7 @@ fn eight(byte: u8) -> Write {
     }
 }
 
-/// Takes the answer to a Put of eight bytes, before which so many beats were taken.
+/// Takes the answer to a Put of eight bytes. `moment` is the number of beats taken before it.
 fn put(
     alloc: Global,
     block: &mut BlockBytes,
@@ -40,12 +40,12 @@ fn put(
     Ok(())
 }
 
-/// The windows of an access whose request is complete at this moment, while nobody holds its block.
+/// The windows of an access whose request is complete at this moment, while no link holds its block.
 fn opened(asked: u64) -> WritingWindows {
     WritingWindows::new(true, asked, asked)
 }
 
-/// Of bytes 5, 7 and 9 those are possible, at a place, that these say.
+/// The byte at a place may have the values 5, 7 and 9 exactly as these say.
 fn may_be(rt: &impl Abort, block: &BlockBytes, place: u8, possible: [bool; 3]) {
     let found = [
         block.may_be(place, 5),
@@ -112,7 +112,7 @@ fn a_put_beside_a_copy(rt: HostRuntime) -> Result<(), Fail> {
     Ok(())
 }
 
-/// Of bytes 5, 7 and 9 a read may bring those, at a place, that these say.
+/// A read may bring the values 5, 7 and 9 at a place exactly as these say.
 fn may_bring(rt: &impl Abort, read: &ReadBytes, place: u8, possible: [bool; 3]) {
     let found = [
         read.may_bring(place, 5),

@@ -13,13 +13,14 @@ pub const DECODE: Command = Command::Decode {
     width: Width::Eight,
 };
 
-/// The line of a Get, and its text.
+/// The line of a Get.
 pub const GET: &[u8] = b"00 A 4 0 3 00 00000040 ff - 0\n";
 
+/// The readable line of that Get.
 pub const GET_TEXT: &[u8] =
     b"00 A Get 0 size=3 source=00 address=00000040 mask=ff data=- corrupt=0\n";
 
-/// A trace with no fault, and a schedule.
+/// A trace without a fault, and a schedule.
 const TRACE: &[u8] = b"tltrace 1 C
 00 A 6 0 6 00 00000000 ff - 0
 00 D 5 1 6 00 00 0 0000000000000000 0
@@ -81,8 +82,8 @@ fn a_fault_of_the_writer(rt: HostRuntime) {
     }
 }
 
-/// A reader that fails where it is asked for more than the line at fault: a short line, and one that
-/// has 256 bytes and no end.
+/// A reader that fails if it is asked for more than the line at fault: a short line, and one of 256 bytes without an
+/// end.
 #[test]
 fn asks_for_nothing_after_the_fault(rt: HostRuntime) {
     let long = [b'0'; 256];
@@ -120,7 +121,7 @@ fn asks_for_nothing_after_the_fault(rt: HostRuntime) {
     }
 }
 
-/// Where an allocation fails (`rt try --test --fail-alloc N`), nothing has been written.
+/// If an allocation fails (`rt try --test --fail-alloc N`), nothing has been written.
 #[test]
 fn want_of_memory_is_no_verdict(rt: HostRuntime) {
     let mut reader = b"tltrace 1 C\n00 A 6 0 6 00 00000000 ff - 0\n00 E 00\n".as_slice();

@@ -1,4 +1,4 @@
-//! What lines of events say, and the lines beside them that say nothing.
+//! The events of lines, and lines close to them that spell nothing.
 
 ghost use Rattle.tl_beat.specs.statement.Width.{IsWidth};
 
@@ -100,7 +100,7 @@ fn is_at_fault<const W: usize>(rt: &impl Abort, line: &[u8], fault: EventFault)
     assert_eq!(rt; read_event::<W>(line), Err(fault), "{line:?}");
 }
 
-/// What stands before and behind an event in the lines beside its own.
+/// The bytes before and after an event in the lines close to its own.
 const AROUND: [(&str, &str); 7] = [
     ("", " \n"),
     (" ", "\n"),
@@ -111,8 +111,8 @@ const AROUND: [(&str, &str); 7] = [
     ("", "\r\n"),
 ];
 
-/// The line of an event is read, and those beside it say nothing: with more around it, a space more
-/// within it, its last byte left out, or without its end.
+/// The line of an event is read, and those close to it spell nothing: with more bytes around it, with one more space
+/// within it, without its last byte, or without its end.
 fn has_none_beside_it<const W: usize>(
     rt: &(impl Abort + AllocGlobal),
     line: &str,
@@ -139,7 +139,7 @@ fn has_none_beside_it<const W: usize>(
     Ok(())
 }
 
-/// The line of these bytes, one after another, says nothing.
+/// The line of these bytes, one part after the other, spells nothing.
 fn joined_is_at_fault<const W: usize>(
     rt: &(impl Abort + AllocGlobal),
     front: &[u8],

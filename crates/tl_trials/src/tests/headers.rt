@@ -1,4 +1,4 @@
-//! What headers of schedules name.
+//! The values of headers of schedules.
 
 use std::test::Fail;
 use tl_params::header::Version;
@@ -7,7 +7,7 @@ use tl_params::profile::Profile;
 use tl_params::width::Width;
 use tl_schedule::header::read_schedule;
 
-/// A header: its version, blocks, trackers and number of clients, and the last of these.
+/// A header: its version, blocks, trackers and number of clients, and the last client.
 type Named = (&'static str, Version, u16, u8, usize, (Level, u8));
 
 const HEADERS: [Named; 10] = [
@@ -106,7 +106,7 @@ fn headers_of_each_version(rt: HostRuntime) -> Result<(), Fail> {
         let client = clients.last().map(|c| (c.level, c.sources));
         assert_eq!(rt; client, Some(last), "{line}");
     }
-    // An end too many.
+    // One end too many.
     assert!(rt; read_schedule(b"tlsched 1 1 1 C:1\n\n").is_none());
     Ok(())
 }

@@ -1,4 +1,4 @@
-//! Inputs of many lines and of several pieces, and how far a run reads.
+//! Inputs of many lines and of several pieces, and the number of bytes that a run reads.
 
 ghost use Rattle.std.specs.Prelude.{◌<◌};
 
@@ -15,7 +15,7 @@ use tl_engine::tool::run_tool;
 
 const COUNT: usize = 5000;
 
-/// This many times the same bytes, and others behind them.
+/// These bytes, this many times, and then others.
 fn repeated(
     alloc: Global,
     bytes: &[u8],
@@ -30,7 +30,7 @@ fn repeated(
     Ok(all)
 }
 
-/// At once and byte by byte, and with a line at fault behind them.
+/// In one piece and byte by byte, and with a line at fault after them.
 #[test]
 fn decodes_many_lines(rt: HostRuntime) -> Result<(), Fail> {
     let rows: [(&[u8], &[u8], Status); 2] = [
@@ -54,8 +54,7 @@ fn decodes_many_lines(rt: HostRuntime) -> Result<(), Fail> {
     Ok(())
 }
 
-/// What the monitor writes of so many Gets that are answered, on so many links in turn, and of a line
-/// behind them.
+/// The text of the monitor for this many Gets with answers, on this many links in turn, and for a line after them.
 fn judged(
     alloc: Global,
     header: &str,
@@ -95,7 +94,7 @@ fn judges_many_beats(rt: HostRuntime) -> Result<(), Fail> {
 /// Sixteen clients of mixed levels, the first one of eight plain and every second one a cache.
 const CLIENTS: &str = "UL:8 UH:8 C:8 UH:8 C:8 UH:8 C:8 UH:8 UL:8 UH:8 C:8 UH:8 C:8 UH:8 C:8 UH:8";
 
-/// The block of a client's request, of which it has eight of its own below the last one of all.
+/// The block of a client's request. Each client has eight blocks, below those of the client before it.
 fn block_of(client: u16, request: u16) -> u16 {
     1023u16
         .wrapping_sub(client.wrapping_mul(8))
@@ -123,7 +122,7 @@ fn append_accesses(schedule: &mut Vec<u8>) -> io::Result<()> {
     writeln!(schedule, "drain")
 }
 
-/// Caches acquire their blocks, and the others get as much as they may of theirs.
+/// Caches acquire their blocks, and the others get as many bytes of theirs as they may.
 fn append_blocks(schedule: &mut Vec<u8>) -> io::Result<()> {
     for client in 0..16u16 {
         for request in 0..8u16 {
@@ -139,9 +138,8 @@ fn append_blocks(schedule: &mut Vec<u8>) -> io::Result<()> {
     writeln!(schedule, "drain")
 }
 
-/// What is written of the large schedule, of 259 lines and one at fault behind them, whose reader
-/// fails where it is asked for more. The same is written where it comes in one piece, all of whose
-/// text waits.
+/// The text of the large schedule, of 259 lines and one at fault after them, whose reader fails if it is asked for
+/// more. The text is the same if the schedule comes in one piece, and all of the text waits.
 fn played(rt: &impl Abort, alloc: Global, trace: bool) -> Result<Vec<u8>, Fail> {
     let mut schedule = Vec::new(alloc);
     writeln!(&mut schedule, "tlsched 1 1024 8 {CLIENTS}")?;
@@ -158,16 +156,16 @@ fn played(rt: &impl Abort, alloc: Global, trace: bool) -> Result<Vec<u8>, Fail> 
     Ok(text)
 }
 
-/// How many lines of a text end so.
+/// The number of lines of a text that end with these bytes.
 fn lines_that_end(text: &[u8], end: &[u8]) -> usize {
     text.split(|byte| *byte == b'\n')
         .filter(|line| line.ends_with(end))
         .count()
 }
 
-/// Of a size up to 3 an access is two deliveries, of 4 three, of 5 five and of 6 nine. So the first
-/// drain is 2 * 16 of the plain clients and 14 * 27 of the others, and the second 2 * 16, 8 * 72 Gets
-/// and 6 * 80 Acquires, each with GrantAck.
+/// An access of a size up to 3 takes two deliveries, one of 4 three, of 5 five and of 6 nine. So the first drain is 2 *
+/// 16 of the plain clients and 14 * 27 of the others, and the second 2 * 16, 8 * 72 Gets and 6 * 80 Acquires, each with
+/// GrantAck.
 #[test]
 fn plays_a_large_schedule(rt: HostRuntime) -> Result<(), Fail> {
     let text = played(&rt, rt.alloc(), false)?;
@@ -183,7 +181,7 @@ fn plays_a_large_schedule(rt: HostRuntime) -> Result<(), Fail> {
     }
     assert_eq!(rt; lines_that_end(text, b" ack"), 64);
     assert_eq!(rt; lines_that_end(text, b" granted T"), 48);
-    // Half of a block, of which the other half was put.
+    // Half of a block, whose other half was put.
     let mut data = [b'0'; 128];
     for i in 32..64usize {
         data[2 * i] = b'a';
@@ -193,7 +191,7 @@ fn plays_a_large_schedule(rt: HostRuntime) -> Result<(), Fail> {
     Ok(())
 }
 
-/// Its trace is one in which the monitor finds no fault.
+/// The monitor finds no fault in its trace.
 #[test]
 fn traces_a_large_schedule(rt: HostRuntime) -> Result<(), Fail> {
     let text = played(&rt, rt.alloc(), true)?;
@@ -207,7 +205,7 @@ fn traces_a_large_schedule(rt: HostRuntime) -> Result<(), Fail> {
     Ok(())
 }
 
-/// Gives a line a call, and fails where not all of the text of those before has been written.
+/// Gives one line a call, and fails if not all of the text of the lines before it has been written.
 #[derive(Drop)]
 struct Patient<'a> {
     left: usize,
@@ -230,7 +228,7 @@ impl Read for Patient<'_> {
     }
 }
 
-/// Counts what it is given.
+/// Counts the bytes that it is given.
 #[derive(Drop)]
 struct Counting<'a> {
     written: &'a Cell<usize>,

@@ -12,7 +12,7 @@ use tl_params::perm::Perm;
 use tl_params::profile::Profile;
 use tl_params::rule::Rule;
 
-/// A block to write, granted without its data, and acknowledged.
+/// Trunk of a block, granted without data and acknowledged.
 const HELD: [&str; 3] = [
     "00 A 7 1 6 00 00000000 ff - 0\n",
     "00 D 4 0 6 00 00 0 - 0\n",
@@ -25,7 +25,7 @@ const EARLY_ANSWER: [&str; 2] = [
     "00 D 0 0 4 00 00 0 - 0\n",
 ];
 
-/// A Grant for NtoB that gives the block to write.
+/// A Grant toT for NtoB.
 const LONE_READER: [&str; 2] = [
     "00 A 6 0 6 00 00000000 ff - 0\n",
     "00 D 5 0 6 00 00 0 0000000000000000 0\n",
@@ -37,13 +37,13 @@ const DENIED: [&str; 2] = [
     "00 D 4 1 6 00 00 1 - 0\n",
 ];
 
-/// An answer with a sink that grants nothing.
+/// An answer that grants nothing, with a sink.
 const WITH_SINK: [&str; 2] = [
     "00 A 4 0 3 00 00000000 ff - 0\n",
     "00 D 1 0 3 00 07 0 0000000000000000 0\n",
 ];
 
-/// A denied answer to a Get whose data aren't corrupt.
+/// A denied answer to a Get, whose data aren't corrupt.
 const UNCORRUPT: [&str; 2] = [
     "00 A 4 0 3 00 00000000 ff - 0\n",
     "00 D 1 0 3 00 00 1 0000000000000000 0\n",

@@ -1,4 +1,4 @@
-//! Monitors beat by beat: what is kept, and want of memory.
+//! Monitors beat by beat: the number of entries, and refused memory.
 
 ghost use Rattle.tl_beat.specs.statement.Width.{IsWidth};
 
@@ -19,7 +19,7 @@ use tl_together::breach::Breach;
 use tl_together::fault as together;
 use tl_together::trace::check_together;
 
-/// AcquireBlock of block 0 to write, GrantData, GrantAck, a Probe that takes the copy, and its answer.
+/// AcquireBlock NtoT of block 0, GrantData, GrantAck, a Probe toN, and its ProbeAck.
 const LENT: [&str; 12] = [
     "00 A 6 1 6 00 00000000 ff - 0\n",
     "00 D 5 0 6 00 00 0 0000000000000000 0\n",
@@ -35,7 +35,7 @@ const LENT: [&str; 12] = [
     "00 C 4 1 6 00 00000000 - 0\n",
 ];
 
-/// The same of a copy to read.
+/// The same with Branch.
 const SHARED: [&str; 12] = [
     "00 A 6 0 6 00 00000000 ff - 0\n",
     "00 D 5 1 6 00 00 0 0000000000000000 0\n",
@@ -57,7 +57,7 @@ const ANSWERED: [&str; 2] = [
     "00 D 1 0 3 00 00 0 0000000000000000 0\n",
 ];
 
-/// A block to write for each of two links, and what gives it up again.
+/// Trunk of a block for each of two links, and the Releases of both.
 const GRANTED_IN_TURN: [&str; 10] = [
     "00 A 7 1 6 00 00000000 ff - 0\n",
     "01 A 7 1 6 00 00000040 ff - 0\n",
@@ -71,7 +71,7 @@ const GRANTED_IN_TURN: [&str; 10] = [
     "01 D 6 0 6 00 00 0 - 0\n",
 ];
 
-/// One block to write for both: the first beat of each GrantData.
+/// Trunk of one block for both links: the first beat of each GrantData.
 const GRANTED_TO_BOTH: [&str; 4] = [
     "00 A 6 1 6 00 00000000 ff - 0\n",
     "01 A 6 1 6 00 00000000 ff - 0\n",
@@ -102,7 +102,7 @@ fn numbers_of_levels_out_of_their_limits(rt: HostRuntime) {
     }
 }
 
-/// With each number of levels, the last link and the one behind it.
+/// With each number of levels, the last link and the one after it.
 fn begins_with_each_number<const W: usize>(rt: &(impl Abort + AllocGlobal)) -> Result<(), Fail>
     requires { IsWidth W }
 {
@@ -161,7 +161,7 @@ fn entries_after_each_beat(rt: HostRuntime) -> Result<(), Fail> {
     Ok(())
 }
 
-/// Pushes a beat; where there is no memory for it nothing has changed, and it is pushed again.
+/// Pushes a beat. If it is refused memory, nothing has changed, and it is pushed again.
 fn pushes_again(rt: &impl Abort, monitor: &mut Monitor<8>, beat: &Beat<8>) {
     let before = monitor.entries(Link(0));
     match monitor.push(Link(0), beat) {
@@ -205,7 +205,7 @@ fn memory_that_is_refused_once(rt: HostRuntime) -> Result<(), Fail> {
     Ok(())
 }
 
-/// Thousands of beats, on which a body that gives up would show, and an answer too many.
+/// Thousands of beats, which would show a body that stops early, and then one answer too many.
 #[test]
 fn many_beats_and_a_fault_at_the_end(rt: HostRuntime) -> Result<(), Fail> {
     let mut trace: Vec<(Link, Beat<8>)> = Vec::new(rt.alloc());

@@ -30,7 +30,7 @@ fn delivery<const W: usize>() -> Event<W> {
     }
 }
 
-/// The line of the answer to a Load of this size.
+/// The line of the reply to a Load of this size.
 fn answers<const W: usize>(
     rt: &(impl Abort + AllocGlobal),
     size: u8,
@@ -49,7 +49,7 @@ fn answers<const W: usize>(
     Ok(())
 }
 
-/// The line of the end of an operation, behind a beat.
+/// The text for the end of an operation, after a beat.
 fn ends<const W: usize>(
     rt: &(impl Abort + AllocGlobal),
     finish: Finish,
@@ -72,7 +72,7 @@ fn ends<const W: usize>(
     Ok(())
 }
 
-/// The line of an outcome that moves nothing.
+/// The line of an outcome that moves no beat.
 fn stays<const W: usize>(
     rt: &(impl Abort + AllocGlobal),
     empty: bool,

@@ -1,4 +1,4 @@
-//! What accesses do to a block, blank messages, and legality that no line shows.
+//! The effect of accesses on a block, blank messages, and legality that no line shows.
 
 ghost use Rattle.std.specs.Prelude.{◌≡◌, ◌≤◌};
 ghost use Rattle.tl_beat.specs.statement.Width.{IsWidth};
@@ -17,7 +17,7 @@ use tl_rules::legality::message::check;
 use tl_rules::merge::merge_masked;
 use tl_rules::perform::perform;
 
-/// A request of 8 bytes or less with the operand's bytes from a place of the payload on.
+/// A request of at most 8 bytes, with the operand's bytes from a place of the payload on.
 fn request<const W: usize>(
     opcode: OpA,
     param: u8,
@@ -102,7 +102,7 @@ fn arithmetic_on_four_and_eight_bytes(rt: HostRuntime) {
     }
 }
 
-/// The operand of a narrow atomic lies in the lanes of its address, whatever the width.
+/// The operand of a narrow atomic is on the lanes of its address, at each width.
 #[test]
 fn atomics_at_widths_4_and_16(rt: HostRuntime) {
     let mut block = [0xff; 64];
@@ -203,7 +203,7 @@ fn the_first_beat_that_breaks_a_rule(rt: HostRuntime) {
     );
 }
 
-/// Payload, mask and corrupt bits past the beats of a message.
+/// Payload, mask and corrupt bits after the beats of a message.
 #[test]
 fn blank_messages(rt: HostRuntime) {
     assert!(rt; is_blank(&request::<8>(OpA::PutFullData, 0, 3, 0, 0, u64::MAX, 0xff)));
@@ -227,7 +227,7 @@ fn get<const W: usize>(size: u8, address: u32, corrupt: bool) -> Beat<W> {
     })
 }
 
-/// A mask of more lanes than a beat has, and a beat on another channel.
+/// A mask with more lanes than a beat has, and a beat on another channel.
 #[test]
 fn beats_that_no_line_spells(rt: HostRuntime) {
     assert_eq!(rt;

@@ -1,9 +1,9 @@
-//! A reader and a writer of one byte a call, which fail where they are set to.
+//! A reader and a writer of one byte a call, which fail if they are set to.
 
 use std::alloc::Global;
 use std::io::{self, Read, Write};
 
-/// Gives one byte a call, and then an error where it is set to fail.
+/// Gives one byte a call, and then an error if it is set to fail.
 #[derive(Drop)]
 pub struct Slow<'a> {
     rest: &'a [u8],
@@ -34,7 +34,7 @@ impl Read for Slow<'_> {
 /// Takes one byte a call while there is room, and then none, or fails.
 #[derive(Drop)]
 pub struct Narrow {
-    /// What was taken.
+    /// The bytes that were taken.
     pub taken: Vec<u8>,
     room: usize,
     fails: bool,

@@ -1,30 +1,30 @@
-//! What is told of a section, by the name in its first line.
+//! The kinds of sections, by the names in their first lines.
 
 use tl_engine::command::Command;
 use tl_params::level::Level;
 use tl_params::width::Width;
 
-/// How a line by itself is read.
+/// The ways to read a single line.
 #[derive(Clone, Copy)]
 pub enum Reading {
     /// As a beat.
     Beat,
     /// As a beat of a link of this level.
     Level(Level),
-    /// As what happens to a world.
+    /// As an event of a world.
     Event,
     /// As the header of a schedule.
     Header,
 }
 
-/// What is told of a section.
+/// The results that are written for a section.
 #[derive(Clone, Copy)]
 pub enum Kind {
-    /// What a command writes of it.
+    /// The text that a command writes for it.
     Command(Command),
-    /// The fault of it as a whole trace.
+    /// The fault of the section as a whole trace.
     Trace,
-    /// What each of its lines is, where beats have this width.
+    /// The content of each of its lines, for beats of this width.
     Lines(Reading, Width),
 }
 
@@ -37,7 +37,7 @@ fn width_of(name: &str) -> Option<Width> {
     }
 }
 
-/// What is told of lines, by this name.
+/// The way to read lines that has this name.
 fn reading_of(name: &str) -> Option<Reading> {
     match name {
         "beats" => Some(Reading::Beat),
@@ -68,7 +68,7 @@ fn command_of(name: &str) -> Option<Command> {
     }
 }
 
-/// The kind of this name: a command, `trace`, or a width and what is told of lines.
+/// The kind with this name: a command, `trace`, or a width and a way to read lines.
 pub fn kind_of(name: &str) -> Option<Kind> {
     if let Some(command) = command_of(name) {
         return Some(Kind::Command(command));

@@ -1,4 +1,4 @@
-//! What lines are, each by itself or as a whole trace.
+//! The content of lines, each by itself or as a whole trace.
 
 ghost use Rattle.tl_beat.specs.statement.Width.{IsWidth};
 
@@ -74,7 +74,7 @@ fn tell_line<const W: usize>(reading: Reading, line: &[u8], out: &mut Vec<u8>) -
     }
 }
 
-/// What each line is; an empty input is one line.
+/// The content of each line; an empty input is one line.
 fn tell_lines<const W: usize>(reading: Reading, input: &str, out: &mut Vec<u8>) -> io::Result<()>
     requires { IsWidth W }
 {
@@ -87,7 +87,7 @@ fn tell_lines<const W: usize>(reading: Reading, input: &str, out: &mut Vec<u8>) 
     Ok(())
 }
 
-/// What each line is, where beats have this width.
+/// The content of each line, for beats of this width.
 pub fn tell(reading: Reading, width: Width, input: &str, out: &mut Vec<u8>) -> io::Result<()> {
     match width {
         Width::Four => tell_lines::<4>(reading, input, out),
@@ -96,7 +96,7 @@ pub fn tell(reading: Reading, width: Width, input: &str, out: &mut Vec<u8>) -> i
     }
 }
 
-/// The first fault of a whole trace behind its header.
+/// The first fault of a whole trace, after its header.
 fn tell_beats<const W: usize>(
     alloc: Global,
     header: &Header,

@@ -124,6 +124,11 @@ def together(count=0):
     return with_library(f"together{count}", [], ["sv/tl_checker_dpi.cpp"], "-DTOGETHER", f"-DCOUNT={count}")
 
 
+def covered():
+    """The example with a checker on each link and one of all links, which tell situations."""
+    return with_library("covered", [], ["sv/tl_checker_dpi.cpp"], "-DCHECKED", "-DTOGETHER", "-DCOUNT=1", "-DCOVERED")
+
+
 def proved(width=8, checkers="CHECKED", base=0):
     """The example under the proved manager, with a proved client in place of the second cache, and a checker on each
     link, or one of all links."""
@@ -144,6 +149,25 @@ def shared(*flags):
 def shared_checked():
     """The same with a checker of all links on the caches' side, and one of the ports on the manager's."""
     return with_library("shared_checked", [], ["sv/tl_checker_dpi.cpp"], "-DSHARED", "-DTOGETHER", "-DCOUNT=0")
+
+
+# The example on wide links: its caches share a port, beats have 32 bytes, and the map begins behind 32 bits of address.
+WIDE = ["-DSHARED", "-DWIDTH=32", "-DADDRESS_BITS=64", "-DBASE=64'h1_8000_0000"]
+
+
+def wide(*flags):
+    """The example on wide links."""
+    return verilator("wide" + "".join(flags), "bench_recorded", SV + EXAMPLE, *WIDE, *flags)
+
+
+def wide_in_icarus():
+    """The same in Icarus, as a command."""
+    return ["vvp", "-n", icarus("wide.vvp", "bench_recorded", SV + EXAMPLE, *WIDE)]
+
+
+def wide_checked():
+    """The same with a checker on each link, one of all links on the caches' side, and one of the ports on the manager's."""
+    return with_library("wide_checked", [], ["sv/tl_checker_dpi.cpp"], *WIDE, "-DCHECKED", "-DTOGETHER", "-DCOUNT=0")
 
 
 def liberal():

@@ -14,10 +14,11 @@ extern "C" {
 enum tl_code {
   TL_OK = 0,           /* done: a beat breaks no rule */
   TL_BROKEN = 1,       /* the beat breaks the rule that the answer names; what judged it is closed */
-  TL_BAD_ARGUMENT = 2, /* something is out of range, or the handle isn't as wanted; nothing changed */
-  TL_NO_MEMORY = 3,    /* there is no memory; nothing changed */
+  TL_BAD_ARGUMENT = 2, /* an argument is out of range, or the handle is empty or not yet freed; nothing changed */
+  TL_NO_MEMORY = 3,    /* there is no memory; nothing changed (of a wide beat, tl_monitor_push_wide says what did) */
   TL_CLOSED = 4,       /* an earlier beat broke a rule */
-  TL_NOTHING = 5       /* there is nothing of what was asked for; nothing changed */
+  TL_NOTHING = 5,      /* no beat waits, or no copy is held; nothing changed */
+  TL_TOO_MANY = 6      /* more blocks, sources or sinks than can be numbered; nothing changed */
 };
 
 enum tl_rule {
@@ -75,6 +76,21 @@ typedef struct tl_beat {
   uint8_t corrupt;
 } tl_beat;
 
+/* The fields of a wide beat, of at most 64 bytes, likewise: bit i of the mask is that of lane i. */
+typedef struct tl_wide_beat {
+  uint8_t lanes[64];
+  uint64_t address;
+  uint64_t mask;
+  uint16_t source;
+  uint16_t sink;
+  uint8_t channel;
+  uint8_t opcode;
+  uint8_t param;
+  uint8_t size;
+  uint8_t denied;
+  uint8_t corrupt;
+} tl_wide_beat;
+
 typedef struct tl_answer {
   uint8_t code; /* enum tl_code */
   uint8_t rule; /* enum tl_rule */
@@ -105,6 +121,17 @@ tl_answer tl_monitor_try_push(tl_monitor *monitor, uint8_t link, const tl_beat *
 /* Judges the beat of a line of a trace, which ends in a line feed (docs/FORMATS.md). A line that spells
    no beat is TL_BAD_ARGUMENT. */
 tl_answer tl_monitor_push_line(tl_monitor *monitor, const uint8_t *line, size_t length);
+
+/* Makes a monitor of wide beats, of 4, 8, 16, 32 or 64 bytes, of links that have these liberties. */
+tl_answer tl_monitor_new_wide(tl_monitor *monitor, const uint8_t *levels, size_t links, uint8_t width,
+                              uint8_t liberties);
+
+/* Judges a wide beat of a link, 0 to 15, by the beats of at most 16 bytes that it becomes (docs/FORMATS.md, "Wide
+   beats"): the rule is that of the first of them at fault. A beat that names more than 2^26 blocks, 256 sources of its
+   link or 256 sinks in all is TL_TOO_MANY. After TL_NO_MEMORY the same beat may be pushed again; another one may be
+   TL_BAD_ARGUMENT, if a part of the first is taken already. The monitor must be one of wide beats; the other calls on
+   it but tl_monitor_free are TL_BAD_ARGUMENT. */
+tl_answer tl_monitor_push_wide(tl_monitor *monitor, uint8_t link, const tl_wide_beat *beat);
 
 /* Tells how many keys are pending on a link, and how many blocks are held there, together. */
 tl_answer tl_monitor_entries(tl_monitor *monitor, uint8_t link, uint64_t *entries);
@@ -140,6 +167,13 @@ tl_answer tl_judge_try_push(tl_judge *judge, uint8_t link, const tl_beat *beat);
    TL_BAD_ARGUMENT. */
 tl_answer tl_judge_push_line(tl_judge *judge, const uint8_t *line, size_t length);
 
+/* Makes a judge of wide beats, of 4, 8, 16, 32 or 64 bytes, of links that have these liberties, any but TL_EARLY. */
+tl_answer tl_judge_new_wide(tl_judge *judge, const uint8_t *levels, size_t links, uint8_t width,
+                            uint8_t liberties);
+
+/* Judges a wide beat of a link, after the earlier beats of all links, as tl_monitor_push_wide does. */
+tl_answer tl_judge_push_wide(tl_judge *judge, uint8_t link, const tl_wide_beat *beat);
+
 /* Frees what the handle holds. It holds nothing then. */
 void tl_judge_free(tl_judge *judge);
 
@@ -158,7 +192,7 @@ typedef struct tl_tally {
 } tl_tally;
 
 /* Situations have numbers from 0 on, in the order in which `tltool cover` writes them. */
-enum { TL_SITUATIONS = 66 };
+enum { TL_SITUATIONS = 79 };
 
 /* Makes a cover of 1 to 16 links of these levels (enum tl_level), of beats of 4, 8 or 16 bytes, that have these
    liberties (the sum of enum tl_liberty), behind a handle that holds nothing. */

@@ -153,6 +153,27 @@ private:
   Judge(tl_judge made, Made) : Handle(made) {}
 };
 
+/// What judges wide beats of links that have these liberties (the sum of enum tl_liberty).
+template <typename Made, void (*Free)(Made *),
+          tl_answer (*New)(Made *, const std::uint8_t *, std::size_t, std::uint8_t, std::uint8_t),
+          tl_answer (*Push)(Made *, std::uint8_t, const tl_wide_beat *)>
+class Wide : public Handle<Made, Free> {
+public:
+  explicit Wide(const std::vector<std::uint8_t> &levels, std::uint8_t width, std::uint8_t liberties = 0) {
+    tl_answer answer = New(&this->handle, levels.data(), levels.size(), width, liberties);
+    require_made(answer, "hefrudyl: levels, width or liberties");
+  }
+
+  /// Judges a wide beat of a link (hefrudyl.h).
+  tl_answer push(std::uint8_t link, const tl_wide_beat &beat) { return Push(&this->handle, link, &beat); }
+};
+
+/// A monitor of wide beats of links.
+using WideMonitor = Wide<tl_monitor, tl_monitor_free, tl_monitor_new_wide, tl_monitor_push_wide>;
+
+/// A judge of wide beats of all links of one manager.
+using WideJudge = Wide<tl_judge, tl_judge_free, tl_judge_new_wide, tl_judge_push_wide>;
+
 /// A client of a link, with the beats that it has still to send.
 class Client : public Handle<tl_client, tl_client_free> {
 public:

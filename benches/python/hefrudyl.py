@@ -25,6 +25,7 @@ class Code(enum.IntEnum):
     NO_MEMORY = 3
     CLOSED = 4
     NOTHING = 5
+    TOO_MANY = 6
 
 
 class Level(enum.IntEnum):
@@ -176,6 +177,22 @@ class _Beat(ctypes.Structure):
     ]
 
 
+class _WideBeat(ctypes.Structure):
+    _fields_ = [
+        ("lanes", ctypes.c_uint8 * 64),
+        ("address", ctypes.c_uint64),
+        ("mask", ctypes.c_uint64),
+        ("source", ctypes.c_uint16),
+        ("sink", ctypes.c_uint16),
+        ("channel", ctypes.c_uint8),
+        ("opcode", ctypes.c_uint8),
+        ("param", ctypes.c_uint8),
+        ("size", ctypes.c_uint8),
+        ("denied", ctypes.c_uint8),
+        ("corrupt", ctypes.c_uint8),
+    ]
+
+
 class _Answer(ctypes.Structure):
     _fields_ = [("code", ctypes.c_uint8), ("rule", ctypes.c_uint8)]
 
@@ -255,6 +272,8 @@ def _load():
             ("push", [ctypes.c_uint8, ctypes.POINTER(_Beat)]),
             ("try_push", [ctypes.c_uint8, ctypes.POINTER(_Beat)]),
             ("push_line", [ctypes.c_char_p, ctypes.c_size_t]),
+            ("new_wide", [ctypes.c_char_p, ctypes.c_size_t, ctypes.c_uint8, ctypes.c_uint8]),
+            ("push_wide", [ctypes.c_uint8, ctypes.POINTER(_WideBeat)]),
         ):
             call = getattr(library, f"tl_{name}_{ending}")
             call.restype, call.argtypes = _Answer, [handle, *arguments]
@@ -337,12 +356,12 @@ def _field(value, name, limit):
     return int(value)
 
 
-def _struct(beat):
-    if len(beat.data) > 16:
-        raise ValueError(f"data have {len(beat.data)} bytes, wanted 16 at most")
-    shown = _Beat()
+def _struct(beat, of=_Beat):
+    shown = of()
+    if len(beat.data) > len(shown.lanes):
+        raise ValueError(f"data have {len(beat.data)} bytes, wanted {len(shown.lanes)} at most")
     shown.lanes[: len(beat.data)] = beat.data
-    for name, kind in _Beat._fields_[1:]:
+    for name, kind in of._fields_[1:]:
         setattr(shown, name, _field(getattr(beat, name), name, 1 << (8 * ctypes.sizeof(kind))))
     return shown
 
@@ -441,6 +460,38 @@ class Monitor(_Judging):
         told = ctypes.c_uint64()
         _taken(_library.tl_monitor_entries(self._handle, _field(link, "link", 256), told), "the link")
         return told.value
+
+
+class _WideJudging(_Agent):
+    """What judges wide beats, of `width` bytes, of 1 to 16 links of these levels that have these liberties, by the library's
+    calls of a name."""
+
+    def __init__(self, name, handle, levels, width, liberties):
+        super().__init__(handle, getattr(_library, f"tl_{name}_free"), width)
+        self._push = getattr(_library, f"tl_{name}_push_wide")
+        codes = bytes(_field(level, "a level", 256) for level in levels)
+        new = getattr(_library, f"tl_{name}_new_wide")
+        _taken(new(self._handle, codes, len(codes), _field(width, "width", 256), _field(int(liberties), "liberties", 256)),
+               "levels, width or liberties")
+
+    def push(self, link, beat):
+        """Judges a wide beat of a link. Where there is no memory, the same beat may be pushed again."""
+        answer = self._push(self._handle, _field(link, "link", 256), _struct(beat, _WideBeat))
+        return Verdict(Code(answer.code), rule_name(answer.rule))
+
+
+class WideJudge(_WideJudging):
+    """A judge of all links of one manager, of wide beats of 4, 8, 16, 32 or 64 bytes, under these liberties, any but EARLY."""
+
+    def __init__(self, levels, width, liberties=0):
+        super().__init__("judge", _Judge(), levels, width, liberties)
+
+
+class WideMonitor(_WideJudging):
+    """A monitor of 1 to 16 links of these levels, of wide beats of 4, 8, 16, 32 or 64 bytes, under these liberties."""
+
+    def __init__(self, levels, width, liberties=0):
+        super().__init__("monitor", _Monitor(), levels, width, liberties)
 
 
 @dataclasses.dataclass(frozen=True)

@@ -6,7 +6,7 @@ import subprocess
 
 from harness import (
     TLTOOL, CHECKERS, DPI, INCLUDES, SV, WATCH, HOME_BUGS, BUGS, test, want, run, path, files, verilator, icarus, checked, recorded,
-    together, judged, beat_lines,
+    together, covered, judged, beat_lines,
 )
 
 
@@ -96,6 +96,27 @@ def a_checker_of_all_links_that_counts_goes_on_as_all_does():
         wants_counted(told, "tl_manager_checker", faults)
 
 
+def situations_told(told, checker):
+    """What each checker of a kind tells of situations, in the order in which it ends, as sorted lines."""
+    parts = re.findall(rf"^\d+: {checker}: (\d+ of \d+ situations seen)\n((?:  .*\n)*)", told, re.M)
+    return [sorted([summary, *(line.strip() for line in lines.splitlines())]) for summary, lines in parts]
+
+
+def situations_of(trace):
+    """What `tltool cover` says of a trace, as sorted lines, without the verdict."""
+    return sorted(judged(trace, "cover").splitlines()[1:])
+
+
+@test
+def checkers_tell_the_situations_that_cover_does():
+    for bug in (0, 8):
+        words = [covered(), "+seed=1", "+cycles=3000", f"+bug={bug}"]
+        told = run([*words, f"+trace={path('seen')}"])
+        want(situations_told(told, "tl_manager_checker") == [situations_of(path("seen"))], f"bug {bug}: {told}")
+        links = sorted(situations_told(run([*words, f"+traces={path('seen')}"]), "tl_link_checker"))
+        want(links == sorted(situations_of(path(f"seen{link}")) for link in range(3)), f"bug {bug}: {links}")
+
+
 @test
 def the_checker_of_a_link_takes_liberties():
     top = "test_liberties"
@@ -116,8 +137,8 @@ def the_checker_of_all_links_takes_liberties():
 
 # What doesn't fit, by module: a parameter, and the name that says what is wanted.
 RECORDER_LIMITS = [
-    ("LINK(16)", "tl_links_are_0_to_15"), ("W(32)", "tl_W_is_4_8_or_16"), ("SOURCE_BITS(9)", "tl_SOURCE_BITS_is_1_to_8"),
-    ("SINK_BITS(9)", "tl_SINK_BITS_is_1_to_8"), ("ADDRESS_BITS(36)", "tl_ADDRESS_BITS_is_1_to_32"),
+    ("LINK(16)", "tl_links_are_0_to_15"), ("W(24)", "tl_W_is_4_8_16_32_or_64"), ("SOURCE_BITS(17)", "tl_SOURCE_BITS_is_1_to_16"),
+    ("SINK_BITS(17)", "tl_SINK_BITS_is_1_to_16"), ("ADDRESS_BITS(65)", "tl_ADDRESS_BITS_is_1_to_64"),
     ("TIMEOUT(-1)", "tl_TIMEOUT_is_0_or_more"), ("LEVEL(3)", "tl_LEVELS_are_0_1_or_2"), ("PROFILE(3)", "tl_PROFILE_is_1_or_2"),
     ("LIBERTIES(256)", "tl_LIBERTIES_is_0_to_255"),
 ]
@@ -133,7 +154,8 @@ SHARED_LIMITS = [
 ]
 CHECKER_LIMITS = [
     ("LIBERTIES(8)", "tl_rules_between_links_take_no_LIBERTY_EARLY"), ("LIBERTIES(256), .TOGETHER(0)", "tl_LIBERTIES_is_0_to_255"),
-    ("PROFILE(3)", "tl_PROFILE_is_1_or_2"), ("LEVELS(4'b1110)", "tl_LEVELS_are_0_1_or_2"), ("W(5)", "tl_W_is_4_8_or_16"),
+    ("PROFILE(3)", "tl_PROFILE_is_1_or_2"), ("LEVELS(4'b1110)", "tl_LEVELS_are_0_1_or_2"), ("W(5)", "tl_W_is_4_8_16_32_or_64"),
+    ("W(32), .COUNT(1)", "tl_COUNT_is_0_on_wide_links"), ("ADDRESS_BITS(33), .COVER(1)", "tl_COVER_is_0_on_wide_links"),
 ]
 AGENT_LIMITS = [
     ("BLOCKS(1025)", "tl_BLOCKS_is_1_to_1024"), ("SOURCES(9)", "tl_SOURCES_is_1_to_8"), ("PROFILE(0)", "tl_PROFILE_is_1_or_2"),

@@ -197,29 +197,35 @@ def situations(out):
 def situations_are_counted_over_the_seeds_and_holes_are_listed():
     told = conform("client", "tl_cache.toml", "--seeds", "2", "--cycles", "2000", "--keep", out="tl_cache", status=0)
     counts, summary = situations("tl_cache")
-    sums = collections.Counter()
+    sums, bins = collections.Counter(), collections.Counter()
     for seed in (1, 2):
-        rows = json.loads(run([TLTOOL, "cover", "--json", path(f"tl_cache/seed-{seed}.trace")]))["situations"]
-        sums.update({row["name"]: row["count"] for row in rows})
-    want(counts == dict(sums) and len(counts) == 66, f"{counts} aren't {sums}")
+        here = json.loads(run([TLTOOL, "cover", "--json", path(f"tl_cache/seed-{seed}.trace")]))
+        sums.update({row["name"]: row["count"] for row in here["situations"]})
+        bins.update({row["name"]: row["counts"][0] or 0 for row in here["bins"]})
+    want(counts == dict(sums) and len(counts) == 79, f"{counts} aren't {sums}")
     holes = [name for name, count in counts.items() if not count and name not in NEVER_OF_CACHE]
-    want(summary == f"{61 - len(holes)} of 61 situations seen", summary)
+    want(summary == f"{63 - len(holes)} of 63 situations seen", summary)
     want(f"{summary}; not seen: {', '.join(holes)}\n" in told if holes else f"{summary}\n" in told, told)
     with open(path("tl_cache/report.html")) as file:
         page = file.read()
     for name in [*holes, *NEVER_OF_CACHE]:
         want(f'<td class="name">{name}</td>' in page, f"{name} isn't in the report")
     want("the proved manager sends no Probe toT" in page, "why report-TtoT can't come")
+    cell = re.search(r'<td class="name">A-AcquireBlock-NtoB-64</td><td class="number">([\d,]+)</td>', page)
+    want(cell and int(cell[1].replace(",", "")) == bins["A-AcquireBlock-NtoB-64"], f"{cell}, and cover says {bins['A-AcquireBlock-NtoB-64']}")
 
 
 # What traffic of the cache's bench can't bring.
 NEVER_OF_CACHE = ["probe-toT", "report-TtoT", "access-beside-transfer", "access-of-held-block", "three-contend"]
+# What only a liberty allows, and the cache's links have none.
+NEVER_OF_CACHE += ["release-TtoT", "release-BtoB", "release-NtoN", "early-response", "early-grant-ack", "probe-with-source",
+                   "sink-without-grant", "grant-of-more", "copy-dropped", "grant-denied", "denied-uncorrupt"]
 
 
 @test
 def a_run_ends_when_all_situations_have_come():
     told = conform("client", "tl_cache.toml", "--seeds", "40", "--jobs", "2", "--until-covered", out="tl_cache", status=0)
-    want(int(re.search(r"^clean: (\d+) seeds", told, re.M)[1]) < 40 and "\n61 of 61 situations seen\n" in told, told)
+    want(int(re.search(r"^clean: (\d+) seeds", told, re.M)[1]) < 40 and "\n63 of 63 situations seen\n" in told, told)
 
 
 @test

@@ -35,6 +35,18 @@ def a_judge_of_all_links_from_c_under_the_sanitizers():
 
 
 @test
+def wide_beats_from_c():
+    c_test("test_wide")
+    wrapped = ["-DREFUSALS", "-Wl,--wrap=malloc", "-Wl,--wrap=realloc"]
+    want("0 failures" in run([compiled("test_wide_refused", "gcc", "tests/test_wide.c", "-std=c11", *wrapped)]), "test_wide.c")
+
+
+@test
+def wide_beats_from_c_under_the_sanitizers():
+    c_test("test_wide", *SANITIZERS)
+
+
+@test
 def a_cover_from_c():
     c_test("test_cover")
 

@@ -11,6 +11,8 @@ LINTED = [
     ("tl_link_recorder", SV, []), ("tl_manager_recorder", SV, ["-GN=3", "-GTIMEOUT=5"]),
     ("tl_manager_recorder", SV, ["-GN=1", "-GW=16", "-GPENDING=1'b1", "-GCLIENTS=2", "-GFIRST_SOURCES=128'h0400", "-GLAST_SOURCES=128'h0703"]),
     ("tl_link_checker", WATCH + CHECKERS, []), ("tl_manager_checker", WATCH + CHECKERS, ["-GN=3", "-GW=4", "-GTIMEOUT=5"]),
+    ("tl_link_recorder", SV, ["-GW=32", "-GADDRESS_BITS=64", "-GSOURCE_BITS=16", "-GTIMEOUT=5"]),
+    ("tl_link_checker", WATCH + CHECKERS, ["-GW=64", "-GSINK_BITS=9"]), ("tl_manager_checker", WATCH + CHECKERS, ["-GN=2", "-GADDRESS_BITS=33"]),
     ("tl_proved_client", ["sv/tl_pkg.sv", "sv/tl_proved_client.sv"], []),
     *((it, ["sv/tl_pkg.sv", f"conformance/sv/{it}.sv"], ["-I" + os.path.join(HERE, "conformance/sv")]) for it in OF_CONFORMANCE),
 ]

@@ -1,5 +1,6 @@
 """The opcodes and params of header and package are the product's."""
 
+import functools
 import subprocess
 
 from harness import TLTOOL, test, want, enumerators, icarus, run, verilator
@@ -75,3 +76,7 @@ def beats_are_told_in_the_words_of_decode():
             lines = [line_of(width, channel, opcode, param, "data=-" not in text) for channel, opcode, param, text in beats]
             done = subprocess.run([TLTOOL, "decode", "--width", str(width)], input="\n".join(lines) + "\n", stdout=subprocess.PIPE, text=True)
             want(done.stdout.splitlines() == [f"00 {text}" for _, _, _, text in beats], f"width {width}: {done.stdout[-300:]}")
+        # a wide beat has more digits
+        digits = (("source=5a", "source=005a"), ("sink=c3", "sink=00c3"), ("address=", "address=00000000"), ("mask=", "mask=0000"), ("data=0", "data=" + 33 * "0"))
+        wanted = [functools.reduce(lambda text, it: text.replace(*it), digits, text) for width, *_, text in told if width == "16"]
+        want([text for width, *_, text in told if width == "32"] == wanted, "wide beats")

@@ -64,7 +64,7 @@ def the_headers_structs_are_pythons():
     module = python_module()
     structs = [("tl_" + name.lower(), getattr(module, "_" + name))
                for name in ("Beat", "Answer", "Monitor", "Judge", "Client", "Operation", "Outcome", "Reception", "Manager", "Cover", "Tally")]
-    structs.append(("tl_link_config", module._LinkConfig))
+    structs += [("tl_link_config", module._LinkConfig), ("tl_wide_beat", module._WideBeat)]
     source = path("layout.c")
     with open(source, "w") as text:
         text.write('#include <hefrudyl.h>\n#include <stdio.h>\nint main(void) {\n')
@@ -114,8 +114,30 @@ def read_trace(module, name):
     version = int(header[1])
     width = int(header[2]) if version > 1 else 8
     profile = int(header[3]) if version == 3 else 1
-    liberties = read_liberties(module, header[3]) if version == 4 else None
+    liberties = read_liberties(module, header[3]) if version > 3 else None
     return ([module.Level[level] for level in header[min(version, 3) + 1:]], width, profile, liberties), lines[1:]
+
+
+def renamed(beat):
+    """The beat behind an address of more than 32 bits, with long ids: 0 is kept, since L2 asks for it."""
+    return dataclasses.replace(beat, address=beat.address + 0x1_8000_0000 if beat.channel < 3 else 0,
+                               source=beat.source and 0x100 + beat.source, sink=beat.sink and 0x300 + beat.sink)
+
+
+def told_of_wide(module, kind, name, changed):
+    """What the library says of a trace whose beats are pushed as wide ones, each changed so: `line N X`, or nothing."""
+    (levels, width, profile, liberties), lines = read_trace(module, name)
+    if liberties is None:
+        liberties = module.Liberty.WRITER if profile == 2 else module.Liberty(0)
+    if kind is module.WideJudge and module.Liberty.EARLY in liberties:
+        return "line 1 F7"
+    with kind(levels, width, liberties) as judge:
+        for number, line in enumerate(lines, 2):
+            link, beat = beat_of(module, line)
+            verdict = judge.push(link, changed(beat))
+            if not verdict:
+                return f"line {number} {verdict.rule}"
+    return ""
 
 
 def told_of(module, kind, name):
@@ -146,6 +168,21 @@ def python_judges_traces_as_the_command_does():
 
 
 @test
+def python_judges_wide_beats_as_the_command_does():
+    """Every example trace of wide beats, and those of the rules with other names: renaming changes nothing."""
+    module = python_module()
+    data = os.path.join(ROOT, "crates/tl_examples/data")
+    wide = [it.path for it in sorted(os.scandir(os.path.join(data, "wide")), key=lambda it: it.name) if it.is_file()]
+    names = [(it, lambda beat: beat) for it in wide if not it.endswith("narrow_line.trace")]
+    want(len(names) >= 4, f"{len(names)} traces")
+    names += [(os.path.join(data, "rules", it), renamed) for it in sorted(os.listdir(os.path.join(data, "rules")))]
+    for name, changed in names:
+        for kind, command, right in ((module.WideMonitor, "monitor", "clean"), (module.WideJudge, "coherent", "coherent")):
+            told, wanted = told_of_wide(module, kind, name, changed), judged(name, command)
+            want(wanted == told or wanted.startswith(right) and not told, f"{name}: {told}, and {command} says {wanted}")
+
+
+@test
 def python_counts_situations_as_the_command_does():
     """Every example trace of the situations: names, sentences, counts and first lines."""
     module = python_module()
@@ -169,6 +206,12 @@ def python_refuses_what_does_not_fit():
         try:
             module.Monitor(levels, width)
             want(False, f"{levels} {width} made a monitor")
+        except ValueError:
+            pass
+    for kind, width, liberties in ((module.WideMonitor, 24, 0), (module.WideJudge, 32, module.Liberty.EARLY)):
+        try:
+            kind([module.Level.C], width, liberties)
+            want(False, f"{width} {liberties} made a {kind.__name__}")
         except ValueError:
             pass
     one = [(module.Level.C, 1)]

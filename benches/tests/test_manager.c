@@ -309,14 +309,14 @@ static void lines(void) {
 
 static void texts(void) {
   uint8_t text[128];
-  for (int code = TL_OK; code <= TL_NOTHING; code++) {
+  for (int code = TL_OK; code <= TL_TOO_MANY; code++) {
     size_t count = tl_error_text((uint8_t)code, text, sizeof text);
     want(count > 3 && count < sizeof text, "each code has a text");
   }
   want(tl_error_text(TL_OK, text, sizeof text) == 4 && memcmp(text, "done", 4) == 0, "done");
   text[2] = '?';
   want(tl_error_text(TL_OK, text, 2) == 2 && text[2] == '?', "no more than there is room for");
-  want(tl_error_text(6, text, sizeof text) == 0, "there is no code 6");
+  want(tl_error_text(TL_TOO_MANY + 1, text, sizeof text) == 0, "there is no code after the last");
 }
 
 int main(void) {

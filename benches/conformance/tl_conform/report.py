@@ -104,6 +104,19 @@ def of_situations(covered, seeds):
     return "\n".join(parts)
 
 
+def of_bins(covered, levels):
+    """The table of each link: how often messages began in each bin that one of the links can have."""
+    rows = []
+    for name, counts in covered.bins.items():
+        if any(count is not None for count in counts):
+            cells = "".join(f"<td class=\"number{' bad' if count == 0 else ''}\">{shown(count)}</td>" for count in counts)
+            rows.append(f'<td class="name">{name}</td>{cells}')
+    heads = "".join(f"<th class=number>Link {link} ({level})</th>" for link, level in enumerate(levels))
+    body = "\n".join(f"<tr>{row}</tr>" for row in rows)
+    return (f'<p>{covered.bin_summary}. An empty cell is a bin that the link can\'t have.</p>\n<div class="wide"><table>\n'
+            f"<thead><tr><th>Bin</th>{heads}</tr></thead>\n<tbody>\n{body}\n</tbody>\n</table></div>")
+
+
 def of_names(heads, rows):
     return rows_under(heads, [f'<td class="name">{name}</td>' + "".join(f'<td class="text">{html.escape(it)}</td>' for it in rest)
                               for name, *rest in rows])

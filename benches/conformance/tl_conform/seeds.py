@@ -23,10 +23,12 @@ PERIOD = 10  # of the bench's clock, whose first rising edge is at 5
 
 
 class Seed:
-    """What is found of a seed: no fault, or a name for it, where it came, what was said and by whom. And how often each situation came."""
+    """What is found of a seed: no fault, or a name for it, where it came, what was said and by whom. And how often each situation came,
+    and each bin on each link."""
 
-    def __init__(self, number, said, status, seconds, trace, situations):
-        self.number, self.seconds, self.trace, self.situations = number, seconds, trace, situations
+    def __init__(self, number, said, status, seconds, trace, counts):
+        self.number, self.seconds, self.trace = number, seconds, trace
+        self.situations, self.bins = counts
         self.fault, self.text, self.by = None, "", ""
         done = DONE.search(said)
         self.cycles, self.beats = (int(it) for it in done.groups()) if done else (None, None)

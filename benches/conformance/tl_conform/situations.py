@@ -13,9 +13,18 @@ ACCESSES = {"get": {"Get"}, "put": PUTS, "atomic": ATOMICS, "mask": {"PutPartial
             "logical": {"LogicalData"}}
 # What a situation between links needs: so many links that acquire blocks, and one of these accesses from another one.
 OF_SEVERAL = {
-    "contention": (2, set()), "three-contend": (3, set()), "read-of-owned": (1, {"Get"}), "write-to-owned": (1, PUTS),
+    "contention": (2, set()), "three-contend": (3, set()), "report-beside-grant": (2, set()), "read-of-owned": (1, {"Get"}), "write-to-owned": (1, PUTS),
     "atomic-on-owned": (1, ATOMICS), "write-to-shared": (2, PUTS),
 }
+# The liberty without which no beat brings a situation.
+LIBERTY_OF = {
+    "probe-with-source": "ids", "sink-without-grant": "sinks", "grant-of-more": "writer", "copy-dropped": "drops",
+    "release-TtoT": "reports", "release-BtoB": "reports", "release-NtoN": "reports", "grant-denied": "denied",
+    "denied-uncorrupt": "uncorrupt", "early-response": "early", "early-grant-ack": "early",
+}
+# Of these, what a client's end brings, and the liberties that the proved manager uses.
+OF_CLIENTS = {"copy-dropped", "release-TtoT", "release-BtoB", "release-NtoN", "early-grant-ack"}
+OF_PROVED_MANAGER = {"writer", "ids"}
 APART = "a proved client sends accesses only to blocks that it never acquires"
 OF_PROVED_CLIENTS = {
     "probe-beside-release": "a proved client takes no Probe of a block while its Release is pending",
@@ -52,6 +61,8 @@ def why_never(name, map):
         return why_no_access(ACCESSES[word], bytes, map)
     if name == "response-at-once":
         return ""
+    if name in ("sink-without-grant", "denied-uncorrupt", "early-response"):
+        return why_no_liberty(name, map)
     if map.caches == 0:
         return "no link acquires blocks"
     return why_not_beside(name, map) if name in OF_SEVERAL else why_not_of_a_link(name, map)
@@ -70,12 +81,26 @@ def no_link_sends(accesses):
 
 def why_not_of_a_link(name, map):
     """The same of a situation of one link that acquires blocks."""
+    if name in LIBERTY_OF:
+        return why_no_liberty(name, map)
     if not map.is_cache and name in OF_PROVED_CLIENTS:
         return OF_PROVED_CLIENTS[name]
     if map.side == "client" and name in ("probe-toT", "report-TtoT"):
         return "the proved manager sends no Probe toT"
     least = {"two-grants": 2, "four-grants": 4}.get(name, 1)
     return f"no link has {least} sources" if not map.is_cache and map.sources_of_client < least else ""
+
+
+def why_no_liberty(name, map):
+    """The same of a situation that only a liberty allows."""
+    liberty = LIBERTY_OF[name]
+    if liberty not in map.liberties:
+        return f"the links don't have the liberty {liberty}"
+    if name in OF_CLIENTS:
+        return "" if map.is_cache else f"a proved client doesn't use the liberty {liberty}"
+    if map.side == "client" and (liberty not in OF_PROVED_MANAGER or liberty == "ids" and map.probe_source == 0):
+        return f"the proved manager doesn't use the liberty {liberty}"
+    return ""
 
 
 def why_not_beside(name, map):
@@ -98,14 +123,21 @@ def shares_a_block(map):
 
 
 def count(tool, trace):
-    """How often each situation came in a trace, up to its first line at fault; nothing where there is no trace."""
+    """How often each situation came in a trace, and each bin on each link, up to the first line at fault; nothing where there is no
+    trace."""
     if not trace.exists():
-        return {}
+        return {}, {}
     _, said = tltool(tool, "cover", "--json", str(trace))
     try:
-        return {row["name"]: row["count"] for row in json.loads(said)["situations"] if row["count"]}
+        told = json.loads(said)
     except ValueError:
-        return {}
+        return {}, {}
+    return {row["name"]: row["count"] for row in told["situations"] if row["count"]}, {row["name"]: row["counts"] for row in told["bins"]}
+
+
+def both(one, other):
+    """The sum of two counts of a bin, None where the link can't have it."""
+    return other if one is None else one if other is None else one + other
 
 
 class Covered:
@@ -114,11 +146,14 @@ class Covered:
     def __init__(self, table):
         self.table = table
         self.messages, self.seeds = collections.Counter(), collections.defaultdict(set)
+        self.bins = {}  # by name the counts on each link
 
     def add(self, seed):
         self.messages.update(seed.situations)
         for name in seed.situations:
             self.seeds[name].add(seed.number)
+        for name, counts in seed.bins.items():
+            self.bins[name] = [both(*pair) for pair in zip(self.bins[name], counts)] if self.bins.get(name) else counts
 
     @property
     def seen(self):
@@ -133,6 +168,11 @@ class Covered:
     def never(self):
         """What can't come and didn't, with the reasons."""
         return {name: reason for name, reason in self.table.never.items() if not self.messages[name]}
+
+    @property
+    def bin_summary(self):
+        possible = [count for counts in self.bins.values() for count in counts if count is not None]
+        return f"{sum(count > 0 for count in possible)} of {len(possible)} bins of the links seen"
 
     @property
     def summary(self):

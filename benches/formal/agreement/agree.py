@@ -81,8 +81,11 @@ def recorded(path, liberties):
 
 
 def examples(tool):
+    """The examples but those of wide beats, which the modules don't take."""
     for path in sorted((ROOT / "crates/tl_examples/data").rglob("*.trace")):
-        yield case_of(tool, path.name, path.read_text("latin-1"))
+        text = path.read_text("latin-1")
+        if not text.startswith("tltrace 5 "):
+            yield case_of(tool, path.name, text)
 
 
 def worlds(tool, count):

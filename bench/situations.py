@@ -1,12 +1,17 @@
 #!/usr/bin/env python3
 """situations.py TOOL [SEEDS]: counts the situations of the random traces of SEEDS seeds (250 if none is said) in each of four
-worlds, by reading the lines, and compares the counts and the first lines with those of `tltool cover --json`. Ends with the sums,
-and `situations: N traces, M differ`."""
+worlds, and of the examples' traces in the folder situations/, by reading the lines, and compares the counts and the first lines
+with those of `tltool cover --json`, of each trace and of all together; the tables of the links likewise. Says what came of the events of the schedules, and what
+part of them came to nothing. Ends with the sums of outcomes, messages and situations, and `situations: N traces, M differ`."""
 import collections
 import json
 import pathlib
+import re
 import subprocess
 import sys
+import tempfile
+
+EXAMPLES = pathlib.Path(__file__).resolve().parent.parent / "crates/tl_examples/data/situations"
 
 WORLDS = [
     [],
@@ -16,9 +21,29 @@ WORLDS = [
 ]
 GROWS, CAPS = ["NtoB", "NtoT", "BtoT"], ["toT", "toB", "toN"]
 REPORTS = ["TtoB", "TtoN", "BtoN", "TtoT", "BtoB", "NtoN"]
+IDLE = ("busy", "miss", "empty", "stalled", "no client")
 ARITHMETIC, LOGICAL = ["MIN", "MAX", "MINU", "MAXU", "ADD"], ["XOR", "OR", "AND", "SWAP"]
 # What a link holds after a report, a prune or a cap, by its number.
 LEFT, GIVEN = ["B", "N", "N", "T", "B", "N"], ["T", "B", "N"]
+
+
+# The tables: opcodes by channel, and their params by opcode.
+OPCODES = {
+    "A": ["PutFullData", "PutPartialData", "ArithmeticData", "LogicalData", "Get", "Intent", "AcquireBlock", "AcquirePerm"],
+    "B": [None, None, None, None, None, None, "ProbeBlock", "ProbePerm"],
+    "C": [None, None, None, None, "ProbeAck", "ProbeAckData", "Release", "ReleaseData"],
+    "D": ["AccessAck", "AccessAckData", "HintAck", None, "Grant", "GrantData", "ReleaseAck"],
+}
+PARAMS = {
+    "ArithmeticData": ARITHMETIC,
+    "LogicalData": LOGICAL,
+    "Intent": ["PrefetchRead", "PrefetchWrite"],
+    **dict.fromkeys(["AcquireBlock", "AcquirePerm"], GROWS),
+    **dict.fromkeys(["ProbeBlock", "ProbePerm", "Grant", "GrantData"], CAPS),
+    **dict.fromkeys(["ProbeAck", "ProbeAckData", "Release", "ReleaseData"], REPORTS),
+}
+PLAIN = ["PutFullData", "PutPartialData", "Get", "AccessAck", "AccessAckData"]
+WAITS = ["0", "1", "2-3", "4-7", "8-15", "16-31", "32-63", "64-127"]
 
 
 class Beat:
@@ -28,15 +53,19 @@ class Beat:
         fields = line.split(" ")
         self.link, self.channel = int(fields[0], 16), fields[1]
         self.opcode = self.param = self.size = self.source = self.block = self.mask = self.sink = None
+        self.denied = self.corrupt = False
         if self.channel == "E":
             self.sink = int(fields[2], 16)
         else:
             self.opcode, self.param, self.size = (int(it, 16) for it in fields[2:5])
             self.source = int(fields[5], 16)
+            self.name = OPCODES[self.channel][self.opcode]
+            self.corrupt = fields[-1] == "1"
             if self.channel == "D":
-                self.sink = int(fields[6], 16)
+                self.sink, self.denied = int(fields[6], 16), fields[7] == "1"
             else:
-                self.block = int(fields[6], 16) // 64
+                self.address = int(fields[6], 16)
+                self.block = self.address // 64
         if self.channel in "AB":
             self.mask = int(fields[7], 16)
         data = {"A": 8, "B": 8, "C": 7, "D": 8}.get(self.channel)
@@ -62,8 +91,10 @@ class Link:
 
     def __init__(self):
         self.left = {}  # of the burst that is unfinished on a channel, how many beats are missing
+        self.under_way = {}  # the newest beat of that burst
         self.held = collections.defaultdict(lambda: "N")
         self.requests, self.releases = {}, {}  # the last by source
+        self.asked = {}  # param and line of the last Probe of a block
         self.acquiring, self.releasing, self.probed = set(), set(), set()
         self.granted = {}  # the sink that a block waits for
         self.sinks = set()
@@ -76,6 +107,7 @@ class Link:
         first = self.begins(beat)
         self.left[beat.channel] = (beat.beats if first else self.left[beat.channel]) - 1
         last = not self.left[beat.channel]
+        self.under_way[beat.channel] = None if last else beat
         if first:
             self.open(beat)
         if last:
@@ -87,6 +119,8 @@ class Link:
             self.requests[beat.source] = beat
         if beat.acquire:
             self.acquiring.add(beat.block)
+            if beat.param < 2:
+                self.held[beat.block] = "N"
         if beat.probe:
             self.probed.add(beat.block)
         if beat.release:
@@ -103,7 +137,8 @@ class Link:
             self.probed.discard(beat.block)
         if beat.grant:
             block = self.requests[beat.source].block
-            self.held[block] = GIVEN[beat.param]
+            if not beat.denied:
+                self.held[block] = GIVEN[beat.param]
             self.acquiring.discard(block)
         if beat.release_ack:
             self.releasing.discard(self.releases[beat.source])
@@ -117,6 +152,8 @@ def on_channel_a(beat, link, others, width):
     holding = [other.held[block] for other in others]
     if beat.acquire:
         yield f"acquire-{GROWS[beat.param]}"
+        if beat.param < 2 and link.held[block] != "N":
+            yield "copy-dropped"
         contending = sum(block in other.acquiring for other in others)
         yield from ["contention"][: contending > 0]
         yield from ["three-contend"][: contending > 1]
@@ -142,6 +179,8 @@ def on_channel_a(beat, link, others, width):
 def on_channel_b(beat, link):
     held, block = link.held[beat.block], beat.block
     yield f"probe-{CAPS[beat.param]}"
+    if beat.source:
+        yield "probe-with-source"
     if block in link.releasing:
         yield "probe-beside-release"
     if block in link.acquiring and held in "NB":
@@ -150,11 +189,15 @@ def on_channel_b(beat, link):
         yield "probe-of-nothing"
 
 
-def on_channel_c(beat, link):
+def on_channel_c(beat, link, others):
+    if beat.opcode == 5 and any(other.under_way.get("D") and other.under_way["D"].grant for other in others):
+        yield "report-beside-grant"
     if beat.probe_ack:
         yield f"report-{REPORTS[beat.param]}"
-    if beat.release and beat.param < 3:
+    if beat.release:
         yield f"release-{REPORTS[beat.param]}"
+    if (beat.probe_ack or beat.release) and beat.param == 5 and link.held[beat.block] != "N":
+        yield "copy-dropped"
     if beat.release and beat.block in link.probed:
         yield "release-beside-probe"
     if beat.release and beat.block in link.granted:
@@ -166,8 +209,19 @@ def on_channel_d(beat, link):
     if newest and newest.source == beat.source:
         if newest.release if beat.release_ack else newest.channel == "A":
             yield "response-at-once"
+    asking = link.under_way.get("C" if beat.release_ack else "A")
+    if asking and asking.source == beat.source and (asking.release or not beat.release_ack):
+        yield "early-response"
+    if not beat.grant and beat.sink:
+        yield "sink-without-grant"
+    if beat.opcode == 1 and beat.denied and not beat.corrupt:
+        yield "denied-uncorrupt"
     if beat.grant:
         request = link.requests[beat.source]
+        if beat.denied:
+            yield "grant-denied"
+        if request.acquire and request.param == 0 and beat.param == 0:
+            yield "grant-of-more"
         change = f"{link.held[request.block]}to{GIVEN[beat.param]}"
         if change in GROWS:
             yield f"grant-{change}"
@@ -179,37 +233,135 @@ def on_channel_d(beat, link):
             yield "four-grants"
 
 
+def on_channel_e(beat, link):
+    if not (link.newest and link.newest.channel == "D"):
+        yield "grant-ack-later"
+    grant = link.under_way.get("D")
+    if grant and grant.grant and grant.sink == beat.sink:
+        yield "early-grant-ack"
+
+
 def situations(beat, link, others, width):
     """The situations that a message begins in with a beat."""
+    between = all(link.under_way.get(channel) for channel in "ACD")
+    return [*["between-bursts"][:between], *situations_of_channel(beat, link, others, width)]
+
+
+def situations_of_channel(beat, link, others, width):
     if beat.channel == "A":
         return on_channel_a(beat, link, others, width)
     if beat.channel == "B" and beat.probe:
         return on_channel_b(beat, link)
     if beat.channel == "C":
-        return on_channel_c(beat, link)
+        return on_channel_c(beat, link, others)
     if beat.channel == "D":
         return on_channel_d(beat, link)
-    late = beat.channel == "E" and not (link.newest and link.newest.channel == "D")
-    return ["grant-ack-later"] if late else []
+    return on_channel_e(beat, link) if beat.channel == "E" else []
+
+
+def kind_of(beat):
+    """Channel, opcode, param and bytes of a message."""
+    if beat.channel == "E":
+        return "E-GrantAck"
+    params = PARAMS.get(beat.name)
+    return "-".join([beat.channel, beat.name, *([params[beat.param]] if params else []), str(2**beat.size)])
+
+
+def bins(beat, link, number):
+    """The bins of the table of its link in which a message begins with a beat, in this line."""
+    yield kind_of(beat)
+    if beat.grant:
+        change = f"{link.held[link.requests[beat.source].block]}to{GIVEN[beat.param]}"
+        yield from [f"grant-{change}"][: change in GROWS]
+    if beat.probe_ack:
+        param, line = link.asked[beat.block]
+        yield f"report-{REPORTS[beat.param]}-{CAPS[param]}"
+        between = number - line - 1
+        yield f"waited-{WAITS[between.bit_length()] if between < 128 else '128-up'}"
+    if beat.access:
+        yield f"access-{2**beat.size}-at-{min(64, beat.address & -beat.address or 64)}"
+
+
+def can_come(name, level, width, liberties):
+    """Whether a link of this level, of beats of so many bytes, with these liberties, can have a bin."""
+    word, *rest = name.split("-")
+    if word == "access":
+        return level != "UL" or int(rest[0]) <= width
+    if word not in list("ABCDE"):
+        return level == "C"
+    opcode, param, size = rest[0], rest[1:-1], rest[-1]
+    if opcode.startswith("Release") and word == "C" and param[0] not in ["TtoB", "TtoN", "BtoN"]:
+        return level == "C" and bool(liberties & {"reports", "standard"})
+    if opcode.startswith("Grant") and param == ["toN"]:
+        return level == "C" and bool(liberties & {"denied", "standard"})
+    if opcode in PLAIN:
+        return level != "UL" or int(size) <= width
+    if opcode in ["ArithmeticData", "LogicalData", "Intent", "HintAck"]:
+        return level != "UL"
+    return level == "C"
+
+
+def header_of(trace):
+    """The levels that a header names, the words of its liberties, and the bytes of a beat."""
+    words = trace.splitlines()[0].split()
+    width = int(words[2]) if words[1] != "1" else 8
+    rest = words[2:] if words[1] == "1" else words[3:]
+    levels = [word for word in rest if word in ("UL", "UH", "C")]
+    return levels, set(rest[0].split(",")) if words[1] == "4" else set(), width
+
+
+def beats_of(trace):
+    """The beats of a trace without a fault, each with its line, and the bytes of a beat."""
+    _, *lines = trace.splitlines()
+    width = header_of(trace)[2]
+    return [(number, Beat(line, width)) for number, line in enumerate(lines, 2)], width
 
 
 def covered(trace):
-    """How often each situation came in a trace without a fault, and in which line first."""
-    header, *lines = trace.splitlines()
-    words = header.split()
-    width = int(words[2]) if words[1] != "1" else 8
+    """How often each situation came in a trace without a fault, and in which line first; and the tables of the links: how often
+    each bin came on each link."""
+    beats, width = beats_of(trace)
     links = collections.defaultdict(Link)
-    found = {}
-    for number, line in enumerate(lines, 2):
-        beat = Beat(line, width)
+    found, tables = {}, collections.Counter()
+    for number, beat in beats:
         link = links[beat.link]
         if link.begins(beat):
             others = [other for name, other in links.items() if name != beat.link]
             for name in situations(beat, link, others, width):
                 count, first = found.get(name, (0, number))
                 found[name] = (count + 1, first)
+            tables.update((beat.link, name) for name in bins(beat, link, number))
+            if beat.probe:
+                link.asked[beat.block] = (beat.param, number)
         link.take(beat)
-    return found
+    return found, tables
+
+
+def outcome_of(line):
+    """The kind of an outcome's line."""
+    if re.match(r"[0-9a-f]{2} [A-E] ", line):
+        done = re.search(r" done [0-9a-f]{2} (\w+(?: [BT]\b)?)", line)
+        kind = re.match(r"data|.*", done[1])[0] if done else ""
+        return f"done {kind}" if done else "moved"
+    return re.match(r"busy B\d|no client|\w+", line)[0]
+
+
+def outcomes(schedule, lines):
+    """The kind of what came of each event, those of drains aside."""
+    rest = iter(lines)
+    for event in schedule[1:]:
+        if event == "drain":
+            while not next(rest).startswith("drained "):
+                pass
+        else:
+            yield outcome_of(next(rest))
+
+
+def messages(tool, width, trace):
+    """Channel, name and param of each beat of a trace."""
+    for line in said(tool, "decode", "--width", width, text=trace.partition("\n")[2]).splitlines():
+        fields = line.split(" ")
+        yield " ".join(fields[1:4] if fields[1] != "E" else fields[1:3])
 
 
 def said(tool, *words, text=None):
@@ -217,28 +369,88 @@ def said(tool, *words, text=None):
     return subprocess.run([tool, *words], input=text, capture_output=True, text=True, check=True).stdout
 
 
+class Comparison:
+    """The counts of traces by `cover` and by reading the lines."""
+
+    def __init__(self, tool):
+        self.tool = tool
+        self.traces = self.differ = 0
+        self.sums, self.first = collections.Counter(), {}
+        self.bins, self.can = collections.Counter(), set()
+        self.folder = tempfile.TemporaryDirectory()
+        self.files = []
+
+    def told(self, *words, text=None):
+        told = json.loads(said(self.tool, "cover", "--json", *words, text=text))
+        return told["situations"], {row["name"]: row["counts"] for row in told["bins"]}
+
+    def compare(self, what, told, here):
+        for name in {**told, **here}:
+            if told.get(name) != here.get(name, (0, None)):
+                self.differ += 1
+                print(f"{what}: {name}: told {told.get(name)}, counted {here.get(name)}")
+
+    def compare_bins(self, what, told, here, can):
+        """The tables: `can` says of a link and a bin whether the link can have it."""
+        links = range(max([link for link, _ in here] + [len(counts) - 1 for counts in told.values()], default=-1) + 1)
+        for name in {*told, *(name for _, name in here)}:
+            counted = [here[link, name] or (0 if can(link, name) else None) for link in links]
+            if told.get(name, [None] * len(links)) != counted:
+                self.differ += 1
+                print(f"{what}: {name}: told {told.get(name)}, counted {counted}")
+
+    def add(self, what, trace):
+        here, tables = covered(trace)
+        situations, told = self.told(text=trace)
+        self.compare(what, {row["name"]: (row["count"], row["line"]) for row in situations}, here)
+        levels, liberties, width = header_of(trace)
+        can = {(link, name) for link, level in enumerate(levels) for name in told if can_come(name, level, width, liberties)}
+        self.compare_bins(what, told, tables, lambda *cell: cell in can)
+        self.bins.update(tables)
+        self.can |= can
+        for name, (count, line) in here.items():
+            self.sums[name] += count
+            self.first.setdefault(name, (self.traces, line))
+        self.files.append(pathlib.Path(self.folder.name, f"{self.traces}.trace"))
+        self.files[-1].write_text(trace)
+        self.traces += 1
+
+    def all_together(self):
+        """The same of all traces in one call; gives the names of all situations."""
+        rows, bins = self.told(*map(str, self.files))
+        self.compare_bins("all", bins, self.bins, lambda *cell: cell in self.can)
+        here = {name: (self.sums[name], *place) for name, place in self.first.items()}
+        told = {row["name"]: (row["count"], row["trace"], row["line"]) for row in rows}
+        self.compare("all", told, {name: here.get(name, (0, None, None)) for name in told} | here)
+        return list(told)
+
+
 def main():
     tool, seeds = pathlib.Path(sys.argv[1]).resolve(), int(sys.argv[2]) if len(sys.argv) > 2 else 250
-    sums, traces, differ = collections.Counter(), 0, 0
+    comparison = Comparison(tool)
+    came, beats = collections.Counter(), collections.Counter()
     for words in WORLDS:
+        width = dict(zip(words[::2], words[1::2])).get("--width", "8")
+        here = collections.Counter()
         for seed in range(seeds):
-            trace = said(tool, "run", "--trace", text=said(tool, "random", "--seed", str(seed), *words))
-            rows = json.loads(said(tool, "cover", "--json", text=trace))["situations"]
-            told = {row["name"]: (row["count"], row["line"]) for row in rows}
-            here = covered(trace)
-            sums.update({name: here.get(name, (0, None))[0] for name in told})
-            traces += 1
-            for name, row in told.items():
-                if row != here.get(name, (0, None)):
-                    differ += 1
-                    print(f"{' '.join(words)} --seed {seed}: {name}: told {row}, counted {here.get(name, (0, None))}")
-            for name in here.keys() - told.keys():
-                differ += 1
-                print(f"{name} isn't told")
-    for name, count in sums.items():
-        print(f"{count:9} {name}")
-    print(f"situations: {traces} traces, {differ} differ")
-    sys.exit(differ > 0)
+            schedule = said(tool, "random", "--seed", str(seed), *words)
+            here.update(outcomes(schedule.splitlines(), said(tool, "run", text=schedule).splitlines()))
+            trace = said(tool, "run", "--trace", text=schedule)
+            beats.update(messages(tool, width, trace))
+            comparison.add(f"{' '.join(words)} --seed {seed}", trace)
+        idle = sum(n for kind, n in here.items() if kind.startswith(IDLE))
+        print(f"{' '.join(words) or 'default options'}: {100 * idle / here.total():.1f} % of {here.total()} events came to nothing")
+        came += here
+    for path in sorted(EXAMPLES.glob("*.trace")):
+        comparison.add(path.name, path.read_text())
+    names = comparison.all_together()
+    sums = {name: comparison.sums[name] for name in names}
+    for title, found in (("outcomes", dict(sorted(came.items()))), ("beats", dict(sorted(beats.items()))), ("situations", sums)):
+        print(f"\n{title}, {sum(found.values())} in all")
+        for kind, count in found.items():
+            print(f"  {kind:32} {count:9}")
+    print(f"situations: {comparison.traces} traces, {comparison.differ} differ")
+    sys.exit(comparison.differ > 0)
 
 
 if __name__ == "__main__":

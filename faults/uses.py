@@ -28,6 +28,19 @@ LINES = "the numbers of the first line and of the last, without leading zeros, a
 BLOCK = "the number of a block in three digits or in seven, of 0 to 9 and a to f, as 00f"
 LIBERTIES = "none, standard, or names of ids, sinks, writer, early, drops, reports, denied and uncorrupt, in this order, with a comma between them"
 EARLY = "tltool: the header names early answers, which coherent doesn't take\n"
+WIDE_WORDS = f"""00 A AcquireBlock NtoT size=6 source=0100 address=0000000180000000 mask=ffffffff data=- corrupt=0
+00 D GrantData toT size=6 source=0100 sink=0010 denied=0 data={64 * '0'} corrupt=0
+00 D GrantData toT size=6 source=0100 sink=0010 denied=0 data={64 * '0'} corrupt=0
+00 E GrantAck sink=0010
+01 A AcquireBlock NtoB size=6 source=0002 address=0000000180000000 mask=ffffffff data=- corrupt=0
+00 B ProbeBlock toB size=6 source=0000 address=0000000180000000 mask=ffffffff data=- corrupt=0
+00 C ProbeAckData TtoB size=6 source=0000 address=0000000180000000 data={62 * '0'}5a corrupt=0
+00 C ProbeAckData TtoB size=6 source=0000 address=0000000180000000 data={64 * '0'} corrupt=0
+01 D GrantData toB size=6 source=0002 sink=0011 denied=0 data={62 * '0'}5a corrupt=0
+01 D GrantData toB size=6 source=0002 sink=0011 denied=0 data={64 * '0'} corrupt=0
+01 E GrantAck sink=0011
+"""
+WIDE = "tltool: the header is of wide beats, which monitor and coherent read, without --all, --report and --junit\n"
 NUMBER = "a number from 0 to 18446744073709551615"
 LIST = "1 to 16 clients with commas between them, each UL, UH or C with its number of sources from 1 to 8, as C:2,C:2,UH:1"
 LIBERTIES_TOGETHER = "none, or names of ids, sinks, writer, drops, reports, denied and uncorrupt, in this order, with a comma between them"
@@ -127,6 +140,32 @@ ROWS = [
     ("tltool decode --width 32 beats.txt", 2, "", "error: invalid value '32' for '--width <BYTES>': a beat carries 4, 8 or 16 bytes\n.."),
     ("tltool decode --width 0x8 beats.txt", 2, "", "error: invalid value '0x8' for '--width <BYTES>': a beat carries 4, 8 or 16 bytes\n.."),
     ("tltool decode --width", 2, "", "error: .."),
+    *(
+        (f"tltool decode --wide --width {it} beats.txt", 2, "", f"error: invalid value '{it}' for '--width <BYTES>': a wide beat carries 4, 8, 16, 32 or 64 bytes\n..")
+        for it in ("2", "24", "128", "032", "0x8", "wide")
+    ),
+    ("tltool decode --wide --width", 2, "", "error: .."),
+    ("tltool decode --wide --wide beats.txt", 2, "", "error: .."),
+    ("tltool decode --wide=yes beats.txt", 2, "", "error: .."),
+    ("tltool monitor --wide two_caches.trace", 2, "", "error: unexpected argument '--wide' found.."),
+    # lines of wide beats in words
+    *((f"tail -n +2 wide/two_caches.trace | {it}", 0, WIDE_WORDS, "") for it in ("tltool decode --wide --width 32", "tltool decode --width 32 --wide")),
+    ("tail -n +2 wide/two_caches.trace >beats.wide; tltool decode --wide --width 32 beats.wide", 0, WIDE_WORDS, ""),
+    ("tltool decode --wide --width 32 wide/two_caches.trace", 1, F2.format(1), ""),
+    ("tail -n +2 wide/two_caches.trace | tltool decode --wide", 1, F3.format(1), ""),
+    ("tail -n +2 wide/two_caches.trace | tltool decode --wide --width 64", 1, F3.format(1), ""),
+    ("tail -n +2 wide/two_caches.trace | tltool decode", 1, F3.format(1), ""),
+    ("tltool decode --wide beats.txt", 1, F3.format(1), ""),
+    ("tail -n +2 wide/two_caches.trace | head -c -1 | tail -1 | tltool decode --wide --width 32", 1, F1.format(1), ""),
+    ("printf '00 E 0010' | tltool decode --wide", 1, F1.format(1), ""),
+    ("printf '00 E 0010\\n00 E 10\\n00 E 0011\\n' | tltool decode --wide", 1, "00 E GrantAck sink=0010\nline 2 F3\n", ""),
+    ("printf '00 A 4 9 3 ffff ffffffffffffffff 00 - 0\\n' | tltool decode --wide", 1, "line 1 F5\n", ""),
+    ("printf '' | tltool decode --wide", 0, "", ""),
+    ("tltool decode --wide missing.trace", 3, "", "tltool: cannot open missing.trace\n"),
+    *(
+        (f"printf '00 A 2 5 2 ffff fedcba9876543210 {mask} {data} 1\\n' | tltool decode --wide --width {width}", 0, f"00 A ArithmeticData 5 size=2 source=ffff address=fedcba9876543210 mask={mask} data={data} corrupt=1\n", "")
+        for width, mask, data in ((4, "a", "01234567"), (8, "a5", "0123456789abcdef"), (16, "a55a", 2 * "0123456789abcdef"), (64, "a55a0ff0123489ab", 8 * "0123456789abcdef"))
+    ),
     ("tltool monitor --width 4 two_caches.trace", 2, "", "error: unexpected argument '--width' found.."),
     ("tltool monitor --verbose two_caches.trace", 2, "", "error: unexpected argument '--verbose' found.."),
     ("tltool run --trace=x", 2, "", "error: .."),
@@ -139,6 +178,29 @@ ROWS = [
         for word in ("0", "01", "+1", "one", "1.5", "18446744073709551616")
     ),
     ("tltool monitor --all", 2, "", "error: .."),
+    # traces of wide beats
+    ("tltool monitor wide/two_caches.trace", 0, "clean 11\n", ""),
+    ("tltool monitor <wide/two_caches.trace", 0, "clean 11\n", ""),
+    ("tltool coherent wide/two_caches.trace", 0, "coherent 11\n", ""),
+    ("tltool coherent --allow ids <wide/two_caches.trace", 0, "coherent 11\n", ""),
+    ("tltool coherent wide/second_part.trace", 1, "line 6 M3\n", ""),
+    ("sed '1s/none/early/' wide/two_caches.trace | tltool monitor", 0, "clean 11\n", ""),
+    ("sed '1s/none/early/' wide/two_caches.trace | tltool coherent", 1, F7.format(1), EARLY),
+    ("sed '1s/none/early/' wide/two_caches.trace >early.trace; tltool coherent early.trace", 1, F7.format(1), EARLY),
+    ("sed '1s/32/24/' wide/two_caches.trace | tltool monitor", 1, F7.format(1), ""),
+    ("sed '1s/32/16/' wide/two_caches.trace | tltool monitor", 1, F3.format(2), ""),
+    ("sed '1s/none //' wide/two_caches.trace | tltool monitor", 1, F7.format(1), ""),
+    ("sed '1s/tltrace 5/tltrace 6/' wide/two_caches.trace | tltool monitor", 1, F7.format(1), ""),
+    ("head -c -1 wide/two_caches.trace | tltool monitor", 1, F1.format(12), ""),
+    *(
+        (f"tltool {words} wide/two_caches.trace", 1, f"{F7.format(1)}..", WIDE)
+        for words in ("explain", "explain --coherent", "monitor --all 3", "coherent --all 3", "monitor --report wide.json", "coherent --junit wide.xml")
+    ),
+    *(
+        (f"tltool {words} <wide/two_caches.trace", 1, f"{F7.format(1)}..", WIDE)
+        for words in ("monitor --all 3", "coherent --all 3", "monitor --report wide.json")
+    ),
+    ("tltool chart wide/two_caches.trace | grep -c 'line 1 F7'", 0, "..", WIDE),
     # words of liberties
     *(
         (f"tltool monitor --allow {word} two_caches.trace", 2, "", f"error: invalid value '{word}' for '--allow <LIBERTIES>': {LIBERTIES}\n..")
@@ -179,7 +241,7 @@ ROWS = [
     ("tltool chart a b", 2, "", "error: unexpected argument 'b' found.."),
     # words of the situations
     ("tltool cover --help", 0, "..", ""),
-    ("tltool cover a b", 2, "", "error: unexpected argument 'b' found.."),
+    ("tltool cover --json a --json", 2, "", "error: .."),
     ("tltool cover --json=x", 2, "", "error: .."),
     ("tltool cover --all 2 two_caches.trace", 2, "", "error: unexpected argument '--all' found.."),
     # words of a random schedule
@@ -307,13 +369,25 @@ ROWS = [
     ("tltool chart rules", 3, "", "tltool: read failed\n"),
     ("tltool chart two_caches.trace >/dev/full", 3, "", "tltool: write failed\n"),
     # situations
-    ("tltool cover two_caches.trace | head -9 | tail -3 | cut -d: -f1", 0, "report-TtoB 1, line 14\nresponse-at-once 2, line 3\n7 of 66 situations seen\n", ""),
-    ("tltool cover <two_caches.trace | wc -l", 0, "68\n", ""),
+    ("tltool cover two_caches.trace | head -9 | tail -3 | cut -d: -f1", 0, "report-TtoB 1, line 14\nresponse-at-once 2, line 3\n7 of 79 situations seen\n", ""),
+    ("tltool cover <two_caches.trace | wc -l", 0, "81\n", ""),
     ("tltool cover wrong_report.trace", 1, "line 13 H12\n..", ""),
     ("tltool cover --json wrong_report.trace", 1, "{\"verdict\": \"line 13 H12\", \"seen\": ..", ""),
-    ("tltool cover </dev/null", 1, "line 1 F7\n0 of 66 situations seen\n", ""),
-    ("tltool cover --json </dev/null", 1, "{\"verdict\": \"line 1 F7\", \"seen\": 0, \"of\": 66, \"situations\": []}\n", ""),
+    ("tltool cover </dev/null", 1, "line 1 F7\n0 of 79 situations seen\n", ""),
+    ("tltool cover --json </dev/null", 1, "{\"verdict\": \"line 1 F7\", \"seen\": 0, \"of\": 79, \"situations\": [], \"bins\": [{\"name\": \"A-PutFullData-1\", \"counts\": []},\n..", ""),
+    ("tltool cover --json two_caches.trace wrong_report.trace | grep AcquireBlock-NtoB", 0, "  {\"name\": \"A-AcquireBlock-NtoB-64\", \"counts\": [1, 1]},\n", ""),
     ("tltool cover nope.trace", 3, "", "tltool: cannot open nope.trace\n"),
+    # the situations of several traces
+    ("tltool cover two_caches.trace wrong_report.trace | head -2", 0, "two_caches.trace: clean 29\nwrong_report.trace: line 13 H12\n", ""),
+    ("tltool cover wrong_report.trace two_caches.trace", 1, "wrong_report.trace: line 13 H12\ntwo_caches.trace: clean 29\n..", ""),
+    ("tltool cover two_caches.trace two_caches.trace | grep ^report-TtoB", 0, "report-TtoB 2, two_caches.trace:14: a ProbeAck with this report\n", ""),
+    ("tltool cover wrong_report.trace two_caches.trace | grep ^report-TtoB", 0, "report-TtoB 1, two_caches.trace:14: a ProbeAck with this report\n", ""),
+    ("tltool cover /dev/null two_caches.trace | sed -n '1,2p;/report-TtoB/p'", 0, "/dev/null: line 1 F7\ntwo_caches.trace: clean 29\nreport-TtoB 1, two_caches.trace:14: a ProbeAck with this report\n", ""),
+    ("tltool cover --json wrong_report.trace two_caches.trace", 1, "{\"verdicts\": [\"line 13 H12\", \"clean 29\"], \"seen\": ..", ""),
+    ("tltool cover --json wrong_report.trace two_caches.trace | grep -o '\"report-TtoB.*line\": [0-9]*'", 0, "\"report-TtoB\", \"count\": 1, \"trace\": 1, \"line\": 14\n", ""),
+    ("tltool cover --json two_caches.trace two_caches.trace | grep -o '\"report-TtoN.*line\": [a-z]*'", 0, "\"report-TtoN\", \"count\": 0, \"trace\": null, \"line\": null\n", ""),
+    ("tltool cover two_caches.trace nope.trace wrong_report.trace", 3, "", "tltool: cannot open nope.trace\n"),
+    ("tltool cover two_caches.trace rules", 3, "", "tltool: read failed\n"),
     ("tltool cover rules", 3, "", "tltool: read failed\n"),
     ("tltool cover two_caches.trace >/dev/full", 3, "", "tltool: write failed\n"),
     # files and devices

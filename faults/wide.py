@@ -1,0 +1,348 @@
+#!/usr/bin/env python3
+"""wide.py TOOL [SEEDS]: traces of random schedules, SEEDS of them (three hundred if none is said), are written wide: their beats
+joined to those of a bus of up to 64 bytes, their blocks named by addresses of 64 bits and their ids by numbers of 16, one to
+one; some with a line spoiled. TOOL must say of each what it says of the narrow trace that this program makes of it by the text of
+docs/FORMATS.md, at the line of the wide beat whose part is at fault, `monitor` and `coherent` each. Traces with names beyond
+a limit are F9. `decode --wide` must write of each what this program writes of its fields. Ends with 'wide: N passed, M failed'."""
+import concurrent.futures
+import os
+import pathlib
+import random
+import subprocess
+import sys
+
+CLIENTS = ["C:2,C:2,C:2,UH:1", "C:1,C:1", "C:8,C:1,UL:2", "C:2,UH:2,UL:2", "UL:1,UH:8", "C:3"]
+EVENTS = 120
+BLOCK = 64
+# The opcodes that carry data, by channel.
+DATA = {"A": "0123", "B": "0123", "C": "157", "D": "15", "E": ""}
+PUT_FULL, PUT_PARTIAL = "0", "1"
+# The names of opcodes, by channel, and of params, by opcode.
+PUTS = ["PutFullData", "PutPartialData", "ArithmeticData", "LogicalData", "Get", "Intent"]
+OPCODES = {
+    "A": [*PUTS, "AcquireBlock", "AcquirePerm"], "B": [*PUTS, "ProbeBlock", "ProbePerm"],
+    "C": ["AccessAck", "AccessAckData", "HintAck", None, "ProbeAck", "ProbeAckData", "Release", "ReleaseData"],
+    "D": ["AccessAck", "AccessAckData", "HintAck", None, "Grant", "GrantData", "ReleaseAck"],
+}
+GROW, CAP, PRUNE = ["NtoB", "NtoT", "BtoT"], ["toT", "toB", "toN"], ["TtoB", "TtoN", "BtoN"]
+PARAMS = {
+    "ArithmeticData": ["MIN", "MAX", "MINU", "MAXU", "ADD"], "LogicalData": ["XOR", "OR", "AND", "SWAP"],
+    "Intent": ["PrefetchRead", "PrefetchWrite"], "AcquireBlock": GROW, "AcquirePerm": GROW, "ProbeBlock": CAP, "ProbePerm": CAP,
+    "Grant": CAP, "GrantData": CAP, "Release": PRUNE, "ReleaseData": PRUNE,
+    **{it: [*PRUNE, "TtoT", "BtoB", "NtoN"] for it in ("ProbeAck", "ProbeAckData")},
+}
+
+
+class Beat:
+    """The fields of a beat as numbers; those that its channel hasn't are 0."""
+
+    def __init__(self, link, channel, opcode="", param="", size=0, source=0, address=0, mask=0, sink=0, denied="", data=None, corrupt=""):
+        self.link, self.channel, self.opcode, self.param, self.size = link, channel, opcode, param, size
+        self.source, self.address, self.mask, self.sink, self.denied = source, address, mask, sink, denied
+        self.data, self.corrupt = data, corrupt
+
+    def copy(self, **changed):
+        return Beat(**{**self.__dict__, **changed})
+
+    def carries(self):
+        return self.opcode != "" and self.opcode in DATA[self.channel]
+
+    def line(self, width, ids, address):
+        """Its line, with so many digits of ids and of the address."""
+        if self.channel == "E":
+            return f"{self.link} E {self.sink:0{ids}x}"
+        data = "-" if self.data is None else "".join(f"{it:02x}" for it in reversed(self.data))
+        head = f"{self.link} {self.channel} {self.opcode} {self.param} {self.size:x} {self.source:0{ids}x}"
+        if self.channel == "D":
+            return f"{head} {self.sink:0{ids}x} {self.denied} {data} {self.corrupt}"
+        mask = "" if self.channel == "C" else f" {self.mask:0{width // 4}x}"
+        return f"{head} {self.address:0{address}x}{mask} {data} {self.corrupt}"
+
+
+def words(line):
+    """A line of a wide beat in words."""
+    link, channel, *fields = line.split()
+    if channel == "E":
+        return f"{link} E GrantAck sink={fields[0]}"
+    opcode, param, *others = fields
+    name = OPCODES[channel][int(opcode, 16)]
+    names = dict(enumerate(PARAMS.get(name, [])))
+    labels = {"A": ["address", "mask"], "B": ["address", "mask"], "C": ["address"], "D": ["sink", "denied"]}[channel]
+    labelled = zip(["size", "source", *labels, "data", "corrupt"], others, strict=True)
+    return " ".join([link, channel, name, names.get(int(param, 16), param), *(f"{label}={it}" for label, it in labelled)])
+
+
+def beat_of(line):
+    fields = line.split()
+    link, channel = fields[:2]
+    if channel == "E":
+        return Beat(link, channel, sink=int(fields[2], 16))
+    opcode, param = fields[2:4]
+    size, source = (int(it, 16) for it in fields[4:6])
+    data = None if fields[-2] == "-" else [int(fields[-2][i:i + 2], 16) for i in range(len(fields[-2]) - 2, -1, -2)]
+    beat = Beat(link, channel, opcode, param, size, source, data=data, corrupt=fields[-1])
+    if channel == "D":
+        return beat.copy(sink=int(fields[6], 16), denied=fields[7])
+    return beat.copy(address=int(fields[6], 16), mask=0 if channel == "C" else int(fields[7], 16))
+
+
+# ---- what a wide trace means
+
+
+def lanes_of(width, size, address):
+    """The lanes of a bus of this width that carry a byte of a message."""
+    if 2**size >= width:
+        return range(width)
+    return [it for it in range(width) if address % width <= it < address % width + 2**size]
+
+
+def parts_of(beat, width, address):
+    """The beats of 16 bytes, or of `width` if that is less, that a wide beat becomes."""
+    part = min(width, 16)
+    reached = sorted({lane // part for lane in lanes_of(width, beat.size, address)})
+    masked = beat.channel in "AB"
+    stray = masked and any(beat.mask >> lane & 1 and lane // part not in reached for lane in range(64))
+    masks = [0 if stray else beat.mask >> part * it & 2**part - 1 for it in reached]
+    opcode = PUT_FULL if stray and beat.channel == "A" and beat.opcode == PUT_PARTIAL else beat.opcode
+    if not beat.carries():
+        common = 0 if stray else 2**part - 1
+        for mask in masks:
+            common &= mask
+        return [beat.copy(mask=common if masked else 0)]
+    return [
+        beat.copy(opcode=opcode, mask=mask if masked else 0, data=beat.data[part * it:part * it + part])
+        for it, mask in zip(reached, masks)
+    ]
+
+
+class Names:
+    """Numbers by first appearance."""
+
+    def __init__(self, first, limit):
+        self.numbers, self.limit = {it: place for place, it in enumerate(first)}, limit
+
+    def number(self, name):
+        return self.numbers.setdefault(name, len(self.numbers))
+
+    def is_full(self):
+        return len(self.numbers) > self.limit
+
+
+def narrowed(beats, width):
+    """The parts of each wide beat with their names numbered; None for the first beyond a limit, with which they end."""
+    blocks, sinks, sources, asked = Names([], 2**26), Names([0], 256), {}, {}
+    for beat in beats:
+        mine, key = sources.setdefault(beat.link, Names([0], 256)), (beat.link, beat.source)
+        address = beat.address
+        if beat.channel == "A":
+            asked[key] = beat.address
+        if beat.channel == "D":
+            address = asked.get(key, 0)
+        named = beat.copy()
+        if beat.channel in "ABC":
+            named.address = BLOCK * blocks.number(beat.address // BLOCK) + beat.address % BLOCK
+        if beat.channel in "ABCD":
+            named.source = mine.number(beat.source)
+        if beat.channel in "DE":
+            named.sink = sinks.number(beat.sink)
+        if blocks.is_full() or sinks.is_full() or mine.is_full():
+            yield None
+            return
+        yield parts_of(named, width, address)
+
+
+# ---- wide traces
+
+
+def joined(beats, narrow, width):
+    """Beats of `narrow` bytes as a bus of `width` bytes has them: those of one message side by side in one, at the last."""
+    if width == narrow:
+        return beats
+    wide, halves, asked = [], {}, {}
+    for beat in beats:
+        key = (beat.link, beat.channel)
+        if beat.channel == "A":
+            asked[beat.link, beat.source] = beat.address
+        place = asked.get((beat.link, beat.source), 0) if beat.channel == "D" else beat.address
+        begun = halves.pop(key, None)
+        if begun is None:
+            lane = place % width if 2**beat.size < width else 0
+            begun = (beat.copy(mask=0, data=None if beat.data is None else width * [0]), lane // narrow * narrow)
+        grown, lane = begun
+        if beat.data is not None:
+            grown.data[lane:lane + narrow] = beat.data
+            grown.mask |= beat.mask << lane
+            if beat.corrupt == "1":
+                grown.corrupt = "1"
+            last = width if 2**beat.size >= width else place % width // narrow * narrow + max(2**beat.size, narrow)
+            if lane + narrow < last:
+                halves[key] = (grown, lane + narrow)
+                continue
+        elif beat.channel in "AB":
+            grown.mask = sum(1 << it for it in lanes_of(width, beat.size, beat.address))
+        wide.append(grown)
+    return wide
+
+
+def renamed(beats, rng):
+    """The same with blocks and ids of other names, one to one; 0 stays the name of the first id."""
+    blocks, ids = {}, {}
+
+    def other(names, name, bits):
+        if name not in names:
+            new = rng.randrange(1, 2**bits)
+            while new in names.values():
+                new = rng.randrange(1, 2**bits)
+            names[name] = new
+        return names[name]
+
+    for beat in beats:
+        address = BLOCK * other(blocks, beat.address // BLOCK, 58) + beat.address % BLOCK
+        source = beat.source and other(ids.setdefault(beat.link, {}), beat.source, 16)
+        sink = beat.sink and other(ids.setdefault("sinks", {}), beat.sink, 16)
+        yield beat.copy(address=address if beat.channel in "ABC" else 0, source=source, sink=sink)
+
+
+def spoiled(beats, width, rng):
+    """The same with one beat left out, twice, exchanged with the next, or with another field."""
+    beats, place = list(beats), rng.randrange(len(beats))
+    kind = rng.choice(["drop", "twice", "turn", "size", "source", "address", "mask", "mask", "mask", "mask", "data", "sink", "param", "denied", "corrupt", "link"])
+    small = [it for it, beat in enumerate(beats) if beat.channel == "A" and 2**beat.size < width]
+    if kind == "mask" and small:
+        # most likely a lane that the message hasn't
+        place = rng.choice(small)
+    beat = beats[place]
+    if kind == "drop":
+        del beats[place]
+    elif kind == "twice":
+        beats.insert(place, beat)
+    elif kind == "turn" and place + 1 < len(beats):
+        beats[place:place + 2] = reversed(beats[place:place + 2])
+    elif kind == "size":
+        beats[place] = beat.copy(size=(beat.size + rng.choice([-1, 1, 2])) % 16)
+    elif kind == "source":
+        beats[place] = beat.copy(source=rng.choice([0, rng.randrange(2**16), rng.choice(beats).source]))
+    elif kind == "address" and beat.channel in "ABC":
+        beats[place] = beat.copy(address=rng.choice([beat.address ^ 1 << rng.randrange(6), rng.choice(beats).address, rng.randrange(2**64)]))
+    elif kind == "mask" and beat.channel in "AB":
+        beats[place] = beat.copy(mask=beat.mask ^ 1 << rng.randrange(width))
+    elif kind == "data" and beat.data is not None:
+        lane = rng.randrange(width)
+        beats[place] = beat.copy(data=[it ^ (lane == i) for i, it in enumerate(beat.data)])
+    elif kind == "sink":
+        beats[place] = beat.copy(sink=rng.choice([0, rng.randrange(2**16)]))
+    elif kind == "param" and beat.channel != "E":
+        beats[place] = beat.copy(param=str(rng.randrange(4)))
+    elif kind == "denied" and beat.channel == "D":
+        beats[place] = beat.copy(denied="10"[int(beat.denied)])
+    elif kind == "corrupt" and beat.channel != "E":
+        beats[place] = beat.copy(corrupt="10"[int(beat.corrupt)])
+    elif kind == "link":
+        beats[place] = beat.copy(link=rng.choice(beats).link)
+    return beats
+
+
+# ---- verdicts
+
+
+def of(tool, *words, text=None):
+    """The status of a command and what it writes."""
+    ran = subprocess.run([tool, *words], input=text, capture_output=True, text=True, timeout=60)
+    return ran.returncode, ran.stdout
+
+
+def wanted(tool, words, liberties, levels, beats, width):
+    """The verdict on a wide trace, by that on the narrow one."""
+    owners, lines, beyond = [], [f"tltrace 4 {min(width, 16)} {liberties} {levels}"], None
+    for number, parts in enumerate(narrowed(beats, width), 2):
+        if parts is None:
+            beyond = number
+            break
+        owners += len(parts) * [number]
+        lines += [it.line(min(width, 16), 2, 8) for it in parts]
+    status, verdict = of(tool, *words, text="\n".join(lines) + "\n")
+    if verdict.startswith("line "):
+        _, line, rule = verdict.split()
+        return status, f"line {owners[int(line) - 2]} {rule}\n"
+    if beyond:
+        return 1, f"line {beyond} F9\n"
+    return status, f"{verdict.split()[0]} {len(beats)}\n"
+
+
+def words_of(seed):
+    blocks = (1, 2, 5, 64)[seed % 4]
+    return ["--seed", str(seed), "--events", str(EVENTS), "--blocks", str(blocks), "--trackers", str((1, 2, 8)[seed % 3]),
+        "--clients", CLIENTS[seed % len(CLIENTS)], "--width", ("16", "16", "16", "4", "8")[seed % 5], "--contend", str(1 + seed % blocks)]
+
+
+def slips(tool, seed):
+    """What is wrong with a seed, and the verdict of `monitor`."""
+    rng = random.Random(seed)
+    _, schedule = of(tool, "random", *words_of(seed))
+    header, *lines = of(tool, "run", "--trace", text=schedule)[1].splitlines()
+    narrow = int(words_of(seed)[11])
+    levels = " ".join(it.split(":")[0] for it in CLIENTS[seed % len(CLIENTS)].split(","))
+    width = rng.choice([16, 32, 64]) if narrow == 16 else narrow
+    beats = list(renamed(joined([beat_of(it) for it in lines], narrow, width), rng))
+    right = seed % 3 == 0
+    if not right:
+        beats = spoiled(beats, width, rng)
+    liberties = rng.choice(["none", "none", "ids", "drops", "writer,drops"])
+    text = "\n".join([f"tltrace 5 {width} {liberties} {levels}", *(it.line(width, 4, 16) for it in beats)]) + "\n"
+    wrong = []
+    lines = text.splitlines()[1:]
+    said = of(tool, "decode", "--wide", "--width", str(width), text="".join(f"{it}\n" for it in lines))
+    if said != (0, "".join(f"{words(it)}\n" for it in lines)):
+        wrong.append("decode --wide says something else than its fields")
+    for command in ["monitor"], ["coherent"], ["monitor", "--allow", "standard"]:
+        says, ought = of(tool, *command, text=text), wanted(tool, command, liberties, levels, beats, width)
+        if says != ought:
+            wrong.append(f"{' '.join(command)} says {says}, and ought to say {ought}")
+        if right and width == narrow and ought[0]:
+            wrong.append(f"{' '.join(command)} finds a fault in a right trace: {ought[1]}")
+    return wrong, of(tool, "monitor", text=text)[1].split()[-1]
+
+
+GET, ANSWER = "00 A 4 0 4 {:04x} 0000000180000000 ffff - 0", "00 D 1 0 4 {:04x} 0000 0 " + 32 * "0" + " 0"
+# A block that is granted with a sink, and given back.
+GRANT = [
+    "00 A 7 1 6 0001 0000000180000000 ffff - 0", "00 D 4 0 6 0001 {:04x} 0 - 0", "00 E {:04x}",
+    "00 C 6 1 6 0001 0000000180000000 - 0", "00 D 6 0 6 0001 0000 0 - 0",
+]
+
+
+def beyond(tool):
+    """What is wrong with names beyond a limit, and with as many as there may be. 0 is always the first source, and the first sink."""
+    for level, lines, names, verdict in (
+        ("UH", [GET, ANSWER], range(1, 256), "clean 510\n"),
+        ("UH UH", [GET, ANSWER, "01" + GET[2:], "01" + ANSWER[2:]], range(1, 256), "clean 1020\n"),
+        ("UH", [GET, ANSWER], range(1, 257), "line 512 F9\n"),
+        ("C", GRANT, range(256), "clean 1280\n"),
+        ("C", GRANT, range(257), "line 1283 F9\n"),
+    ):
+        text = "\n".join([f"tltrace 5 16 none {level}", *(it.format(name) for name in names for it in lines)]) + "\n"
+        for command, word in ("monitor", "clean"), ("coherent", "coherent"):
+            ought = (int("F9" in verdict), verdict.replace("clean", word))
+            if of(tool, command, text=text) != ought:
+                yield f"{command} of {len(names)} names at {level} ought to say {verdict}"
+
+
+def main():
+    tool, seeds = pathlib.Path(sys.argv[1]).resolve(), int(sys.argv[2]) if len(sys.argv) > 2 else 300
+    with concurrent.futures.ThreadPoolExecutor(os.cpu_count()) as pool:
+        found = list(pool.map(lambda seed: slips(tool, seed), range(seeds)))
+    told = {}
+    for seed, (wrong, verdict) in enumerate(found):
+        told["clean" if verdict.isdigit() else verdict] = told.get("clean" if verdict.isdigit() else verdict, 0) + 1
+        for it in wrong:
+            print(f"seed {seed}: {it}")
+    print("verdicts:", ", ".join(f"{count} {name}" for name, count in sorted(told.items())))
+    slipped = list(beyond(tool))
+    for it in slipped:
+        print(it)
+    failed = sum(bool(wrong) for wrong, _ in found) + bool(slipped)
+    print(f"wide: {seeds + 1 - failed} passed, {failed} failed")
+    return 1 if failed else 0
+
+
+sys.exit(main())

@@ -68,15 +68,18 @@ def run(command, path="", quiet=False):
 PASSED, FAILED = [], []
 
 
-def want(what, holds):
+def want(what, holds, ran=None):
+    """Notes whether it holds; where it doesn't, shows all that the command wrote."""
     (PASSED if holds else FAILED).append(what)
     print(f"{'ok     ' if holds else 'FAILED '} {what}", flush=True)
+    if ran and not holds:
+        print(f"error: {' '.join(ran.args[-1:])}: status {ran.returncode}, and wrote:\n{ran.stdout}", flush=True)
 
 
 def writes(what, command, pattern, path=""):
     """That a command succeeds and writes a text with this pattern."""
-    written = run(command, path)
-    want(what, re.search(pattern, written, re.M) and not re.search(r"^status \d+$", written, re.M))
+    ran = ran_bare(command, path)
+    want(what, ran.returncode == 0 and re.search(pattern, ran.stdout, re.M), ran)
 
 
 def each(number, things, holds, lost):
@@ -170,8 +173,10 @@ def main():
     began = time.time()
     make_room("--fresh" in sys.argv[1:])
     print(f"the bare system is unpacked after {time.time() - began:.0f} s")
-    system = run("cat /etc/debian_version; command -v rt tltool; ls -d /opt/* /root/* 2>/dev/null; python3 -c 'import hefrudyl'")
-    want("the system has neither the toolchain nor Hefrudyl", not re.search(r"/rt$|/tltool$|/opt/", system, re.M) and "ModuleNotFound" in system)
+    on_host("df", "-h", ROOM)
+    there = "import importlib.util as it; print(it.find_spec(\"hefrudyl\"))"
+    system = run(f"cat /etc/debian_version; command -v rt tltool; ls -d /opt/* /root/* 2>/dev/null; python3 -c '{there}'")
+    want("the system has neither the toolchain nor Hefrudyl", re.search(r"^None$", system, re.M) and not re.search(r"/rt$|/tltool$|/opt/", system, re.M))
     for part in (tarball, packages, wheel):
         print(f"== {part.__name__}", flush=True)
         part()
@@ -179,7 +184,7 @@ def main():
     for file in (TARBALL, *DEBS, WHEEL):
         print(f"{file.stat().st_size:9} {file.name}")
     for what in FAILED:
-        print(f"FAILED  {what}")
+        print(f"error: FAILED  {what}")
     took = f"{time.time() - began:.0f} s, {sum(os.times()[:4]):.0f} s of processor time"
     print(f"{len(PASSED)} passed, {len(FAILED)} failed, {took}")
     return 1 if FAILED else 0

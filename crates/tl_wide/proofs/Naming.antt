@@ -3,7 +3,7 @@ use Rattle.std.proofs.Common.{◌≡◌, ℕ, suc, Bool, true, false, not, cond,
 use Rattle.std.proofs.Common.{◌<◌, ◌≤◌, ◌-◌, ◌^◌, List, [], ◌∷◌, ◌++◌, length}
 use Rattle.std.proofs.Common.{refl, sym, ap, ◌∙◌, arith}
 use Rattle.std.specs.Prelude.{◌+◌, ◌==◌, ◌&&◌, if◌then◌else◌, is_some, nat_lt, Option, Some, None}
-use Rattle.std.proofs.lemmas.Bool.{eq-eqb, eqb-true, le-ltb, ltb-true}
+use Rattle.std.proofs.lemmas.Bool.{eq-eqb, eqb-true, le-ltb, lt-ltb}
 use Rattle.std.proofs.lemmas.Bool.Decides.{nat_tests}
 use Rattle.std.proofs.lemmas.List.{length-append}
 use Rattle.tl_rules.specs.statement.Legality.{is_one_of}
@@ -60,13 +60,17 @@ places-more names n k new = rw (among-more names n k) (go (k == n) refl (is_one_
 
 -- ---- a table of them
 
+some_is : {A : Type 0} {x y : A} → Some x ≡ Some y → x ≡ y
+some_is e = cc
+
 -- of names of which 0 is the first
 pub zero-known : (numbers : Numbers) → numbers.places.entries ≡ [] → numbers.count ≡ 1 → numbers.has_zero ≡ true
-    → KnowsNumbers numbers (0 ∷ [])
+    → numbers.recent ≡ None → KnowsNumbers numbers (0 ∷ [])
 unfolding place_in
-zero-known numbers empty one zero_is = record {
+zero-known numbers empty one zero_is none = record {
   count_is = one;
   places_are = λ k. rw (empty, zero_is) (go (k == 0));
+  recent_is = λ k place is. absurd (let no : Some (k, place) ≡ None = sym is ∙ none in cc);
 }
   where
     some_zero : Option ℕ
@@ -81,13 +85,10 @@ pub found-place : (o : Option ℕ) (names : List ℕ) (name n : ℕ) → o ≡ p
     → (is_one_of name names ≡ true) × (n ≡ place_in names name)
 found-place o names name n is found = go (is_one_of name names) refl (sym found ∙ is)
   where
-    some_is : (a b : ℕ) → Some a ≡ Some b → a ≡ b
-    some_is a b e = cc
-
     go : (b : Bool) → is_one_of name names ≡ b
         → Some n ≡ (if b then Some (place_in names name) else None)
         → (is_one_of name names ≡ true) × (n ≡ place_in names name)
-    go true e f = (e, some_is n (place_in names name) f)
+    go true e f = (e, some_is f)
     go false e f = absurd cc
 
 pub found-none : (o : Option ℕ) (names : List ℕ) (name : ℕ) → o ≡ place_among names name → o ≡ None
@@ -117,56 +118,79 @@ found-more old new name none same changed k = rw same (go (old.has_zero && (k ==
     go true e false f = refl
     go false e own f = changed k ∙ ap (λ b. if b then Some old.count else place_found old.places.entries k) f
 
--- one more
+-- one more, which was asked for last
 pub one-known : (old new : Numbers) (names : List ℕ) (name : ℕ) → KnowsNumbers old names → is_one_of name names ≡ false
     → found_in old name ≡ None → new.has_zero ≡ old.has_zero → new.count ≡ old.count + 1
+    → new.recent ≡ Some (name, old.count)
     → ((k : ℕ) → place_found new.places.entries k
     ≡ (if k == name then Some old.count else place_found old.places.entries k))
     → KnowsNumbers new (names ++ name ∷ [])
-one-known old new names name knows fresh none same counted changed = record {
+one-known old new names name knows fresh none same counted recent changed = record {
   count_is = omega (arith, counted, knows.count_is, length-append names (name ∷ []));
   places_are = λ k. found-more old new name none same changed k
       ∙ rw (knows.count_is, knows.places_are k) (sym (places-more names name k fresh));
+  recent_is = λ k place is.
+      let both : (k, place) ≡ (name, old.count) = some_is (sym is ∙ recent) in
+      let named : k ≡ name = ap (λ p. p.0) both in
+      let placed : place ≡ old.count = ap (λ p. p.1) both in
+      rw (named, placed, knows.count_is, places-more names name name fresh, eq-eqb name name refl) refl;
+}
+
+-- a name is asked for last
+pub recent-known : (old new : Numbers) (names : List ℕ) (name place : ℕ) → KnowsNumbers old names
+    → found_in old name ≡ Some place → new.places ≡ old.places → new.count ≡ old.count
+    → new.has_zero ≡ old.has_zero → new.recent ≡ Some (name, place) → KnowsNumbers new names
+recent-known old new names name place knows found same counted zero_is recent = record {
+  count_is = counted ∙ knows.count_is;
+  places_are = λ k. rw (same, zero_is) (knows.places_are k);
+  recent_is = λ k n is.
+      let both : (k, n) ≡ (name, place) = some_is (sym is ∙ recent) in
+      let named : k ≡ name = ap (λ p. p.0) both in
+      let placed : n ≡ place = ap (λ p. p.1) both in
+      rw (named, placed) (sym (knows.places_are name) ∙ found);
 }
 
 -- what is found is as it was
 pub still-known : (old new : Numbers) (names : List ℕ) → KnowsNumbers old names
-    → ((k : ℕ) → found_in new k ≡ found_in old k) → new.count ≡ old.count → KnowsNumbers new names
-still-known old new names knows same counted = record {
+    → ((k : ℕ) → place_found new.places.entries k ≡ place_found old.places.entries k) → new.has_zero ≡ old.has_zero
+    → new.count ≡ old.count → new.recent ≡ old.recent → KnowsNumbers new names
+still-known old new names knows same zero_is counted recent = record {
   count_is = counted ∙ knows.count_is;
-  places_are = λ k. same k ∙ knows.places_are k;
+  places_are = λ k. rw (zero_is, same k) (knows.places_are k);
+  recent_is = λ k place is. knows.recent_is k place (sym recent ∙ is);
 }
+
+-- the newest name is gone
+pub without-newest : (old new : Numbers) (names : List ℕ) (name : ℕ) → KnowsNumbers old (names ++ name ∷ [])
+    → is_one_of name names ≡ false → (old.has_zero && (name == 0)) ≡ false → new.has_zero ≡ old.has_zero
+    → new.count ≡ length names → new.recent ≡ None
+    → ((k : ℕ) → place_found new.places.entries k ≡ (if k == name then None else place_found old.places.entries k))
+    → KnowsNumbers new names
+without-newest old new names name knows fresh no_zero zero_is counted none changed = record {
+  count_is = counted;
+  places_are = λ k. rw zero_is (go k (k == name) refl);
+  recent_is = λ k place is. absurd (let no : Some (k, place) ≡ None = sym is ∙ none in cc);
+}
+  where
+    go : (k : ℕ) (own : Bool) → (k == name) ≡ own
+        → (if old.has_zero && (k == 0) then Some 0 else place_found new.places.entries k) ≡ place_among names k
+    go k true e =
+        let is : k ≡ name = eqb-true k name e in
+        rw (is, no_zero, changed name, eq-eqb name name refl, fresh) refl
+    go k false e = rw (changed k, e) (knows.places_are k ∙ rw (places-more names name k fresh, e) refl)
 
 -- ---- limits
 
-abbrev pub is_within : Numbers → ℕ → ℕ → Bool
-is_within numbers limit name = nat_lt numbers.count limit || is_some (found_in numbers name)
+-- a new name has a number where fewer than so many have one
+pub within-limit : (limit name : ℕ) (names : List ℕ) → is_one_of name names ≡ false → length names < limit
+    → is_past limit names name ≡ false
+within-limit limit name names fresh few =
+    rw fresh (le-ltb limit (length (names ++ name ∷ [])) (omega (arith, few, length-append names (name ∷ []))))
 
-pub within-limit : (numbers : Numbers) (names : List ℕ) (limit name : ℕ) → KnowsNumbers numbers names
-    → length names ≤ limit → is_past limit names name ≡ not (is_within numbers limit name)
-within-limit numbers names limit name knows le =
-    rw (knows.count_is, knows.places_are name) (go (is_one_of name names))
-  where
-    or_true : (a : Bool) → (a || true) ≡ true
-    or_true true = refl
-    or_true false = refl
-
-    go : (b : Bool) → nat_lt limit (length (if b then names else names ++ name ∷ []))
-        ≡ not (nat_lt (length names) limit || is_some (if b then Some (place_in names name) else None))
-    go true = rw (or_true (nat_lt (length names) limit)) (le-ltb limit (length names) le)
-    go false = rw (length-append names (name ∷ [])) (grind (arith, nat_tests))
-
--- a name that gets a number where fewer than so many have one leaves room for it
-pub room-left : (numbers : Numbers) (names : List ℕ) (limit name : ℕ) → KnowsNumbers numbers names
-    → is_within numbers limit name ≡ true → limit < 2 ^ 32 → is_one_of name names ≡ false → length names < 2 ^ 32 - 1
-room-left numbers names limit name knows within lt fresh =
-    let none : found_in numbers name ≡ None = knows.places_are name ∙ rw fresh refl in
-    let few : (nat_lt (length names) limit || false) ≡ true = rw (knows.count_is, none) at within in
-    go (nat_lt (length names) limit) refl few
-  where
-    go : (b : Bool) → nat_lt (length names) limit ≡ b → (b || false) ≡ true → length names < 2 ^ 32 - 1
-    go true e f = let fewer : length names < limit = ltb-true (length names) limit e in omega arith
-    go false e f = absurd cc
+pub past-limit : (limit name : ℕ) (names : List ℕ) → is_one_of name names ≡ false → limit ≤ length names
+    → is_past limit names name ≡ true
+past-limit limit name names fresh many =
+    rw fresh (lt-ltb limit (length (names ++ name ∷ [])) (omega (arith, many, length-append names (name ∷ []))))
 
 -- a name that has a number is within its limit
 pub has-number : (numbers : Numbers) (names : List ℕ) (limit name place : ℕ) → KnowsNumbers numbers names
@@ -176,3 +200,19 @@ pub has-number : (numbers : Numbers) (names : List ℕ) (limit name place : ℕ)
 has-number numbers names limit name place knows le found =
     let old = found-place (found_in numbers name) names name place (knows.places_are name) found in
     rw old.0 (le-ltb limit (length names) le, old.1, knows)
+
+-- a name that had none has the newest number
+pub newest : (old new : Numbers) (names : List ℕ) (name place : ℕ) → KnowsNumbers old names
+    → found_in old name ≡ None → new.has_zero ≡ old.has_zero
+    → place ≡ place_in (with_number (Some name) names) name → KnowsNumbers new (with_number (Some name) names)
+    → KnowsNumbers new (names ++ name ∷ []) × (is_one_of name names ≡ false)
+    × ((new.has_zero && (name == 0)) ≡ false) × (place ≡ length names)
+newest old new names name place knows none zero_is placed more =
+    let fresh = found-none (found_in old name) names name (knows.places_are name) none in
+    let last : place ≡ place_in (names ++ name ∷ []) name = rw fresh at placed in
+    let known : KnowsNumbers new (names ++ name ∷ []) = rw fresh at more in
+    (known, fresh, rw zero_is (go (old.has_zero && (name == 0)) refl), last ∙ place-last names name fresh)
+  where
+    go : (b : Bool) → (old.has_zero && (name == 0)) ≡ b → (old.has_zero && (name == 0)) ≡ false
+    go true e = absurd (let some : found_in old name ≡ Some 0 = rw e refl in cc)
+    go false e = e

@@ -1,44 +1,47 @@
 //! Numbers of names, by their first appearance.
 
-ghost use Rattle.std.specs.Prelude.{ℕ, List, Option, [], ◌∷◌, ◌≡◌, ◌≤◌, ◌<◌, ◌==◌, ◌&&◌, ◌||◌, ◌-◌, ◌^◌};
-ghost use Rattle.std.specs.Prelude.{true, false, if◌then◌else◌, is_some, length, nat_lt, Some, IfSome, OnOk, OnErr};
+ghost use Rattle.std.specs.Prelude.{ℕ, List, Option, [], ◌∷◌, ◌++◌, ◌≡◌, ◌≤◌, ◌==◌, ◌&&◌};
+ghost use Rattle.std.specs.Prelude.{false, if◌then◌else◌, length, Some, None, IfSome, OnOk, OnErr};
 ghost use Rattle.tl_wide.specs.statement.Numbers.{IsNumbered, KnowsNumbers, found_in, place_found};
-ghost use Rattle.tl_wide.specs.code.Numbers.{AreNumbered, HasRoom};
-ghost use Rattle.tl_wide.specs.code.Numbers.{room_found};
+ghost use Rattle.tl_wide.specs.code.Numbers.{AreNumbered};
 ghost use Rattle.tl_rules.specs.statement.Legality.{is_one_of};
-ghost use Rattle.tl_wide.specs.statement.Naming.{place_in, with_number};
+ghost use Rattle.tl_wide.specs.statement.Naming.{place_in};
 
 use std::alloc::{AllocError, Global};
 use std::collections::BTreeMap;
 
-/// Makes an entry for a name that has none yet.
-fn insert_room(places: &mut BTreeMap<u64, Option<u32>>, name: u64) -> Result<(), AllocError>
-    requires { room_found places.old.entries name ≡ false }
-    ensures same { (k : ℕ) → place_found places.new.entries k ≡ place_found places.old.entries k }
-    ensures room { OnOk result (room_found places.new.entries name ≡ true) }
+/// Keeps the number of a name. The error means that there is no memory left; then no number changes.
+fn insert_place(
+    places: &mut BTreeMap<u64, u32>,
+    name: u64,
+    place: u32,
+) -> Result<(), AllocError>
+    ensures same { OnErr result ((k : ℕ) → place_found places.new.entries k ≡ place_found places.old.entries k) }
+    ensures more { OnOk result ((k : ℕ) → place_found places.new.entries k
+        ≡ (if k == name then Some place else place_found places.old.entries k)) }
 {
-    match places.insert(name, None) {
+    match places.insert(name, place) {
         Ok(_) => Ok(()),
         Err(_) => Err(AllocError),
     }
 }
 
-/// Keeps the number of a name that has an entry.
-fn set_place(places: &mut BTreeMap<u64, Option<u32>>, name: u64, place: u32)
-    requires { room_found places.old.entries name ≡ true }
+/// Forgets the number of a name.
+fn remove_place(places: &mut BTreeMap<u64, u32>, name: u64)
     ensures { (k : ℕ) → place_found places.new.entries k
-        ≡ (if k == name then Some place else place_found places.old.entries k) }
+        ≡ (if k == name then None else place_found places.old.entries k) }
 {
-    let _ = places.insert(name, Some(place));
+    let _ = places.remove(&name);
 }
 
-/// Numbers of names by their first appearance: 0, 1, 2 and so on. A name may have an entry in the table before it has a
-/// number.
+/// Numbers of names by their first appearance: 0, 1, 2 and so on. The name that was asked for last is kept beside the
+/// table, since the next beat often has it too.
 #[derive(Drop)]
 pub struct Numbers {
-    places: BTreeMap<u64, Option<u32>>,
+    places: BTreeMap<u64, u32>,
     count: u32,
     has_zero: bool,
+    recent: Option<(u64, u32)>,
 }
 
 impl Numbers {
@@ -50,6 +53,7 @@ impl Numbers {
             places: BTreeMap::new(alloc),
             count: 0,
             has_zero: false,
+            recent: None,
         }
     }
 
@@ -61,11 +65,20 @@ impl Numbers {
             places: BTreeMap::new(alloc),
             count: 1,
             has_zero: true,
+            recent: None,
         }
     }
 
-    /// The number of a name, if it has one.
-    fn place(&self, name: u64) -> Option<u32>
+    /// The number of a name, if it is the one that was asked for last.
+    fn recent_place(&self, name: u64) -> Option<u32>
+        ensures { IfSome result (λ place. self.now.recent ≡ Some (name, place)) }
+    {
+        let (recent, place) = self.recent?;
+        if recent == name { Some(place) } else { None }
+    }
+
+    /// The number of a name in the table, if it has one.
+    fn kept_place(&self, name: u64) -> Option<u32>
         ensures { result ≡ found_in self.now name }
     {
         if self.has_zero && name == 0 {
@@ -73,44 +86,49 @@ impl Numbers {
         }
         match self.places.get(&name) {
             None => None,
-            Some(place) => *place,
+            Some(place) => Some(*place),
         }
     }
 
-    /// Whether a name has a number or fewer than `limit` names have one.
-    fn is_within(&self, name: u64, limit: u32) -> bool
-        ensures { result ≡ (nat_lt self.now.count limit || is_some (found_in self.now name)) }
-    {
-        self.count < limit || self.place(name).is_some()
-    }
-
-    /// Makes an entry for a name. The numbers stay as they were. The error means that there is no memory left.
-    fn make_room(&mut self, name: u64) -> Result<(), AllocError>
-        ensures same { (k : ℕ) → found_in self.new k ≡ found_in self.old k }
-        ensures count { self.new.count ≡ self.old.count }
-        ensures room { OnOk result (HasRoom self.new name) }
-    {
-        if (self.has_zero && name == 0) || self.places.contains_key(&name) {
-            return Ok(());
-        }
-        insert_room(&mut self.places, name)
-    }
-
-    /// The number of a name that has an entry: its own, or the next.
-    fn give(&mut self, name: u64) -> u32
-        requires { HasRoom self.old name }
+    /// The number of a name, if it has one.
+    fn place(&mut self, name: u64) -> Option<u32>
         ensures { (names : List ℕ) → KnowsNumbers self.old names →
-            (is_one_of name names ≡ false → length names < 2 ^ 32 - 1) →
-            (result ≡ place_in (with_number (Some name) names) name)
-            × KnowsNumbers self.new (with_number (Some name) names) }
+            KnowsNumbers self.new names × (result ≡ found_in self.new name)
+            × (found_in self.new name ≡ found_in self.old name) }
     {
-        if let Some(place) = self.place(name) {
-            return place;
+        if let Some(place) = self.recent_place(name) {
+            return Some(place);
+        }
+        let place = self.kept_place(name)?;
+        self.recent = Some((name, place));
+        Some(place)
+    }
+
+    /// Gives the next number to a name that has none, if fewer than `limit` names have one, and otherwise answers `None`.
+    /// The error means that there is no memory left; then no number changes.
+    fn add(&mut self, name: u64, limit: u32) -> Result<Option<u32>, AllocError>
+        ensures zero { self.new.has_zero ≡ self.old.has_zero }
+        ensures numbered { (names : List ℕ) → KnowsNumbers self.old names → found_in self.old name ≡ None →
+            length names ≤ limit → IsNumbered limit names name result self.new }
+    {
+        if self.count >= limit {
+            return Ok(None);
         }
         let place = self.count;
-        set_place(&mut self.places, name, place);
+        insert_place(&mut self.places, name, place)?;
         self.count = place.wrapping_add(1);
-        place
+        self.recent = Some((name, place));
+        Ok(Some(place))
+    }
+
+    /// Takes the newest number back from its name.
+    fn take_back(&mut self, name: u64, number: u32)
+        ensures { (names : List ℕ) → KnowsNumbers self.old (names ++ name ∷ []) → is_one_of name names ≡ false →
+            (self.old.has_zero && (name == 0)) ≡ false → number ≡ length names → KnowsNumbers self.new names }
+    {
+        remove_place(&mut self.places, name);
+        self.count = number;
+        self.recent = None;
     }
 
     /// The number of a name. One that has none yet gets the next, if fewer than `limit` names have one, and otherwise
@@ -119,22 +137,42 @@ impl Numbers {
         ensures { (names : List ℕ) → KnowsNumbers self.old names → length names ≤ limit →
             IsNumbered limit names name result self.new }
     {
-        if !self.is_within(name, limit) {
-            return Ok(None);
+        match self.place(name) {
+            Some(place) => Ok(Some(place)),
+            None => self.add(name, limit),
         }
-        self.make_room(name)?;
-        Ok(Some(self.give(name)))
     }
 }
 
-/// The numbers of two names in two tables, if both have one.
-fn known_both(first: &Numbers, name: u64, second: &Numbers, second_name: u64) -> Option<(u32, u32)>
-    ensures { IfSome result (λ known. (found_in first.now name ≡ Some known.0)
-        × (found_in second.now second_name ≡ Some known.1)) }
+/// Gives numbers to two names in two tables that have none. `None` if too many names have one. The error means that
+/// there is no memory left. In both cases no number changes.
+fn add_both(
+    first: &mut Numbers,
+    name: u64,
+    limit: u32,
+    second: &mut Numbers,
+    second_name: u64,
+    second_limit: u32,
+) -> Result<Option<(u32, u32)>, AllocError>
+    ensures { (names others : List ℕ) → KnowsNumbers first.old names → KnowsNumbers second.old others →
+        found_in first.old name ≡ None → found_in second.old second_name ≡ None →
+        length names ≤ limit → length others ≤ second_limit →
+        AreNumbered limit names name second_limit others second_name result first.new second.new }
 {
-    let place = first.place(name)?;
-    let other = second.place(second_name)?;
-    Some((place, other))
+    let Some(place) = first.add(name, limit)? else {
+        return Ok(None);
+    };
+    match second.add(second_name, second_limit) {
+        Ok(Some(other)) => Ok(Some((place, other))),
+        Ok(None) => {
+            first.take_back(name, place);
+            Ok(None)
+        }
+        Err(error) => {
+            first.take_back(name, place);
+            Err(error)
+        }
+    }
 }
 
 /// The numbers of two names in two tables. `None` if one of them has none and too many names have one. The error means
@@ -151,13 +189,16 @@ pub(crate) fn number_both(
         length names ≤ limit → length others ≤ second_limit →
         AreNumbered limit names name second_limit others second_name result first.new second.new }
 {
-    if let Some(known) = known_both(first, name, second, second_name) {
-        return Ok(Some(known));
+    match (first.place(name), second.place(second_name)) {
+        (Some(place), Some(other)) => Ok(Some((place, other))),
+        (Some(place), None) => match second.add(second_name, second_limit)? {
+            Some(other) => Ok(Some((place, other))),
+            None => Ok(None),
+        },
+        (None, Some(other)) => match first.add(name, limit)? {
+            Some(place) => Ok(Some((place, other))),
+            None => Ok(None),
+        },
+        (None, None) => add_both(first, name, limit, second, second_name, second_limit),
     }
-    if !first.is_within(name, limit) || !second.is_within(second_name, second_limit) {
-        return Ok(None);
-    }
-    first.make_room(name)?;
-    second.make_room(second_name)?;
-    Ok(Some((first.give(name), second.give(second_name))))
 }

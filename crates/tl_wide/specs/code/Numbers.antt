@@ -1,4 +1,4 @@
--- Which names a table of numbers has room for, and what two tables answer.
+-- What two tables of numbers answer.
 use Rattle.std.specs.Prelude.{ℕ, ◌≡◌, ◌==◌, ◌&&◌, ◌||◌, ◌⊎◌, Bool, true, false}
 use Rattle.std.specs.Prelude.{List, Option, Some}
 use Rattle.std.specs.Prelude.{None, Result, Ok, Err, is_some}
@@ -9,14 +9,7 @@ use Rattle.tl_wide.specs.declared.numbers.Numbers.{Numbers}
 use Rattle.tl_wide.specs.statement.Naming.{place_in, with_number}
 use Rattle.tl_wide.specs.statement.Numbers.{KnowsNumbers, is_past}
 
--- a name has room
-abbrev pub room_found : List (ℕ × Option ℕ) → ℕ → Bool
-room_found entries k = is_some (lookup (is_at (nat_cmp k)) entries)
-
-abbrev pub HasRoom : Numbers → ℕ → Type 0
-HasRoom numbers k = ((numbers.has_zero && (k == 0)) ≡ true) ⊎ (room_found numbers.places.entries k ≡ true)
-
--- the same of two names in two tables
+-- The answer to two names in two tables, and the tables then, as that to one name in one.
 abbrev pub AreNumbered : {E : Type 0} → ℕ → List ℕ → ℕ → ℕ → List ℕ → ℕ → Result (Option (ℕ × ℕ)) E → Numbers
     → Numbers → Type 0
 AreNumbered limit names name more others other (Ok (Some (n, m))) after also =

@@ -8,14 +8,9 @@ use Rattle.tl_rules.specs.statement.Legality.{is_one_of}
 use Rattle.tl_wide.specs.declared.numbers.Numbers.{Numbers}
 use Rattle.tl_wide.specs.statement.Naming.{place_in, with_number}
 
--- the number under a name that has an entry, if one is set
-abbrev pub stored : Option (Option ℕ) → Option ℕ
-stored None = None
-stored (Some place) = place
-
 -- the number under a name in these entries
-abbrev pub place_found : List (ℕ × Option ℕ) → ℕ → Option ℕ
-place_found entries k = stored (lookup (is_at (nat_cmp k)) entries)
+abbrev pub place_found : List (ℕ × ℕ) → ℕ → Option ℕ
+place_found entries k = lookup (is_at (nat_cmp k)) entries
 
 -- the number of a name in the table
 abbrev pub found_in : Numbers → ℕ → Option ℕ
@@ -29,6 +24,7 @@ place_among names k = if is_one_of k names then Some (place_in names k) else Non
 pub record KnowsNumbers (numbers : Numbers) (names : List ℕ) : Type 0 where
   pub count_is : numbers.count ≡ length names
   pub places_are : (k : ℕ) → found_in numbers k ≡ place_among names k
+  pub recent_is : (k place : ℕ) → numbers.recent ≡ Some (k, place) → place_among names k ≡ Some place
 
 -- more names than the limit, with this one among them
 abbrev pub is_past : ℕ → List ℕ → ℕ → Bool

@@ -1,7 +1,7 @@
 //! The beats that the beats of a wide trace become, one after another.
 
 ghost use Rattle.std.specs.Prelude.{ℕ, List, Some, None, [], ◌∷◌, ◌≡◌, ◌<◌, ◌/◌, ◌^◌, ◌==◌, true, if◌then◌else◌};
-ghost use Rattle.std.specs.Prelude.{◌≤◌, ◌≢◌, length, slice_index_or, IfOk, OnOk, OnErr};
+ghost use Rattle.std.specs.Prelude.{false, ◌≤◌, ◌≢◌, length, slice_index_or, IfOk, OnOk, OnErr};
 ghost use Rattle.tl_wide.specs.statement.Numbers.{KnowsNumbers};
 ghost use Rattle.tl_wide.specs.code.Numbers.{AreNumbered};
 ghost use Rattle.tl_wide.specs.declared.numbers.Numbers.{Numbers};
@@ -197,17 +197,30 @@ fn asked_at(asked: &BTreeMap<u32, u64>, key: u32) -> u64
     }
 }
 
-/// Makes an entry for a key. The addresses stay as they were.
-fn make_room(asked: &mut BTreeMap<u32, u64>, key: u32) -> Result<(), AllocError>
+/// Makes an entry for a key that has none.
+fn insert_room(asked: &mut BTreeMap<u32, u64>, key: u32) -> Result<(), AllocError>
+    requires { asked_room asked.old.entries key ≡ false }
     ensures same { (k : ℕ) → asked_found asked.new.entries k ≡ asked_found asked.old.entries k }
     ensures room { OnOk result (asked_room asked.new.entries key ≡ true) }
 {
-    if asked.contains_key(&key) {
-        return Ok(());
-    }
     match asked.insert(key, 0) {
         Ok(_) => Ok(()),
         Err(_) => Err(AllocError),
+    }
+}
+
+/// Makes an entry for a key, and returns the address under it, 0 if there was none. The addresses stay as they were.
+fn make_room(asked: &mut BTreeMap<u32, u64>, key: u32) -> Result<u64, AllocError>
+    ensures same { (k : ℕ) → asked_found asked.new.entries k ≡ asked_found asked.old.entries k }
+    ensures room { OnOk result (asked_room asked.new.entries key ≡ true) }
+    ensures value { IfOk result (λ address. address ≡ asked_found asked.new.entries key) }
+{
+    match asked.get(&key) {
+        Some(address) => Ok(*address),
+        None => {
+            insert_room(asked, key)?;
+            Ok(0)
+        }
     }
 }
 
@@ -218,6 +231,18 @@ fn keep(asked: &mut BTreeMap<u32, u64>, key: u32, address: u64)
         ≡ (if k == key then address else asked_found asked.old.entries k) }
 {
     let _ = asked.insert(key, address);
+}
+
+/// Keeps an address under a key that has this one.
+fn keep_changed(asked: &mut BTreeMap<u32, u64>, key: u32, before: u64, address: u64)
+    requires room { asked_room asked.old.entries key ≡ true }
+    requires before { before ≡ asked_found asked.old.entries key }
+    ensures { (k : ℕ) → asked_found asked.new.entries k
+        ≡ (if k == key then address else asked_found asked.old.entries k) }
+{
+    if before != address {
+        keep(asked, key, address);
+    }
 }
 
 /// The names of a wide trace so far. With them each next beat becomes beats of at most 16 bytes.
@@ -251,11 +276,11 @@ impl Narrower {
         ensures { (t : WideTrace W) → Follows self.old t → IsNumberedBeat link (wide.A beat.now) t result self.new }
     {
         let key = key_of(link, beat.source);
-        make_room(&mut self.asked, key)?;
+        let before = make_room(&mut self.asked, key)?;
         let Some(named) = self.names.message(link, beat.address, beat.source)? else {
             return Ok(None);
         };
-        keep(&mut self.asked, key, beat.address);
+        keep_changed(&mut self.asked, key, before, beat.address);
         Ok(Some(named))
     }
 

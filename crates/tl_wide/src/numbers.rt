@@ -11,11 +11,7 @@ use std::alloc::{AllocError, Global};
 use std::collections::BTreeMap;
 
 /// Keeps the number of a name. The error means that there is no memory left; then no number changes.
-fn insert_place(
-    places: &mut BTreeMap<u64, u32>,
-    name: u64,
-    place: u32,
-) -> Result<(), AllocError>
+fn insert_place(places: &mut BTreeMap<u64, u32>, name: u64, place: u32) -> Result<(), AllocError>
     ensures same { OnErr result ((k : ℕ) → place_found places.new.entries k ≡ place_found places.old.entries k) }
     ensures more { OnOk result ((k : ℕ) → place_found places.new.entries k
         ≡ (if k == name then Some place else place_found places.old.entries k)) }

@@ -1,10 +1,7 @@
 -- What two tables of numbers answer.
-use Rattle.std.specs.Prelude.{ℕ, ◌≡◌, ◌==◌, ◌&&◌, ◌||◌, ◌⊎◌, Bool, true, false}
+use Rattle.std.specs.Prelude.{ℕ, ◌≡◌, ◌||◌, true, false}
 use Rattle.std.specs.Prelude.{List, Option, Some}
-use Rattle.std.specs.Prelude.{None, Result, Ok, Err, is_some}
-use Rattle.std.specs.BTreeMap.{is_at}
-use Rattle.std.specs.Map.{lookup}
-use Rattle.std.specs.Ordering.{nat_cmp}
+use Rattle.std.specs.Prelude.{None, Result, Ok, Err}
 use Rattle.tl_wide.specs.declared.numbers.Numbers.{Numbers}
 use Rattle.tl_wide.specs.statement.Naming.{place_in, with_number}
 use Rattle.tl_wide.specs.statement.Numbers.{KnowsNumbers, is_past}

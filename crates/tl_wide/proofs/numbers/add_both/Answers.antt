@@ -1,4 +1,4 @@
-use Rattle.std.proofs.Common.{refl, rules}
+use Rattle.std.proofs.Common.{refl}
 use Rattle.tl_wide.proofs.Naming.{newest}
 use Rattle.tl_wide.proofs.Numbering.{one-given, one-refused}
 use Rattle.tl_wide.proofs.numbers.add_both.Goals as goal

@@ -1,6 +1,5 @@
-use Rattle.std.proofs.Common.{◌≡◌, ◌∙◌, Some, rules, sym}
+use Rattle.std.proofs.Common.{◌∙◌, sym}
 use Rattle.tl_wide.proofs.Naming.{has-number}
-use Rattle.tl_wide.specs.statement.Numbers.{found_in}
 use Rattle.tl_wide.proofs.numbers.number_both.Goals as goal
 
 pub returns-in-Some-Some : goal.returns-in-Some-Some

@@ -30,8 +30,8 @@ returns g c = λ t f.
       message-a c.args.link c.args.beat.now _ c.in-Some.named h.1.0 h.1.1,
       (
         h.2,
-        asks-more c.args.link c.args.beat.now t c.make_room.new.asked.entries c.keep.new.asked.entries fits
+        asks-more c.args.link c.args.beat.now t c.make_room.new.asked.entries c.keep_changed.new.asked.entries fits
             (λ link source lt. c.make_room.ensures.same _ ∙ f.1 link source lt)
-            (rw c.key_of-key.ensures at c.keep.ensures),
+            (rw c.key_of-key.ensures at c.keep_changed.ensures),
       ),
     )

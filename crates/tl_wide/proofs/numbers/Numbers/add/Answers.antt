@@ -1,4 +1,4 @@
-use Rattle.std.proofs.Common.{◌≡◌, ◌∙◌, ◌+◌, ◌^◌, ◌<◌, arith, false, length, refl, rules, sym}
+use Rattle.std.proofs.Common.{◌≡◌, ◌∙◌, ◌+◌, ◌^◌, ◌<◌, arith, false, length, refl, sym}
 use Rattle.std.proofs.lemmas.Grind.{common_steps}
 use Rattle.std.proofs.Math.Nat.{mod-eq_of_lt}
 use Rattle.tl_rules.specs.statement.Legality.{is_one_of}
@@ -11,10 +11,16 @@ returns-clause-numbered c = λ names knows none le.
     let fresh : is_one_of c.args.name names ≡ false = found-none (found_in c.args.self.now c.args.name) names c.args.name
     (knows.places_are c.args.name) none in
     let few : length names < c.args.limit =
-    first_of (omega (arith, c.if-self-limit.false, knows.count_is), grind (arith, common_steps, c.if-self-limit.false,
-    knows.count_is)) in
-    let fits : c.args.self.now.count + 1 < 2 ^ 32 = omega (arith, few, knows.count_is, c.ranges.limit.fits) in
-    (
+    first_of (
+      omega (arith, c.if-self-limit.false, knows.count_is),
+      grind (
+        arith,
+        common_steps,
+        c.if-self-limit.false,
+        knows.count_is,
+      ),
+    ) in
+    let fits : c.args.self.now.count + 1 < 2 ^ 32 = omega (arith, few, knows.count_is, c.ranges.limit.fits) in (
       within-limit c.args.limit c.args.name names fresh few,
       rw fresh (knows.count_is ∙ sym (place-last names c.args.name fresh)),
       rw fresh (one-known c.args.self.now _ names c.args.name knows fresh none refl (mod-eq_of_lt fits) refl

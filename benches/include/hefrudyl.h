@@ -194,6 +194,17 @@ typedef struct tl_tally {
 /* Situations have numbers from 0 on, in the order in which `tltool cover` writes them. */
 enum { TL_SITUATIONS = 79 };
 
+/* How often a bin came on a link, and in which line of a trace first, as in tl_tally. `possible` is 0 where messages of
+   the link can't be in the bin, by its level and its liberties, and none was; else 1. */
+typedef struct tl_bin_tally {
+  uint64_t count;
+  uint64_t line;
+  uint8_t possible;
+} tl_bin_tally;
+
+/* Bins have numbers from 0 on, in the order in which `tltool cover --json` writes them. */
+enum { TL_BINS = 161 };
+
 /* Makes a cover of 1 to 16 links of these levels (enum tl_level), of beats of 4, 8 or 16 bytes, that have these
    liberties (the sum of enum tl_liberty), behind a handle that holds nothing. */
 tl_answer tl_cover_new(tl_cover *cover, const uint8_t *levels, size_t links, uint8_t width, uint8_t liberties);
@@ -205,6 +216,10 @@ tl_answer tl_cover_push(tl_cover *cover, uint8_t link, const tl_beat *beat);
 
 /* Tells how often the situation of a number came. A number that is none's is TL_BAD_ARGUMENT. */
 tl_answer tl_cover_count(tl_cover *cover, uint8_t situation, tl_tally *tally);
+
+/* Tells how often the bin of a number came on a link. A link that the cover hasn't, or a number that is none's, is
+   TL_BAD_ARGUMENT. */
+tl_answer tl_cover_bin(tl_cover *cover, uint8_t link, uint8_t bin, tl_bin_tally *tally);
 
 /* Frees what the handle holds. It holds nothing then. */
 void tl_cover_free(tl_cover *cover);
@@ -361,6 +376,12 @@ size_t tl_situation_name(uint8_t situation, uint8_t *into, size_t room);
 /* Writes as much of the sentence of a situation as there is room for, and returns how many bytes that is: 0 if there
    is no such situation. 128 are enough for each. */
 size_t tl_situation_text(uint8_t situation, uint8_t *into, size_t room);
+
+/* The same of the name of a bin, as "A-AcquireBlock-NtoB-64". 32 are enough for each. */
+size_t tl_bin_name(uint8_t bin, uint8_t *into, size_t room);
+
+/* The same of the sentence of a bin. 128 are enough for each. */
+size_t tl_bin_text(uint8_t bin, uint8_t *into, size_t room);
 
 #ifdef __cplusplus
 }

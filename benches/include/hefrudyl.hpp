@@ -97,7 +97,13 @@ inline std::string situation_name(std::uint8_t situation) { return text_of<32>(t
 /// The sentence of a situation; empty for none.
 inline std::string situation_text(std::uint8_t situation) { return text_of<128>(tl_situation_text, situation); }
 
-/// What counts the situations of links.
+/// The name of a bin, as "A-AcquireBlock-NtoB-64"; empty for none.
+inline std::string bin_name(std::uint8_t bin) { return text_of<32>(tl_bin_name, bin); }
+
+/// The sentence of a bin; empty for none.
+inline std::string bin_text(std::uint8_t bin) { return text_of<128>(tl_bin_text, bin); }
+
+/// What counts the situations of links, and the bins of each link.
 class Cover : public Handle<tl_cover, tl_cover_free> {
 public:
   explicit Cover(const std::vector<std::uint8_t> &levels, std::uint8_t width = 8, std::uint8_t liberties = 0) {
@@ -112,6 +118,13 @@ public:
   tl_tally count(std::uint8_t situation) {
     tl_tally tally = {};
     require_made(tl_cover_count(&handle, situation, &tally), "hefrudyl: situation");
+    return tally;
+  }
+
+  /// How often the bin of a number below TL_BINS came on a link, in which line of a trace first, and whether it can come.
+  tl_bin_tally bin(std::uint8_t link, std::uint8_t number) {
+    tl_bin_tally tally = {};
+    require_made(tl_cover_bin(&handle, link, number, &tally), "hefrudyl: link or bin");
     return tally;
   }
 };

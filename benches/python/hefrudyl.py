@@ -217,6 +217,10 @@ class _Tally(ctypes.Structure):
     _fields_ = [("count", ctypes.c_uint64), ("line", ctypes.c_uint64)]
 
 
+class _BinTally(ctypes.Structure):
+    _fields_ = [("count", ctypes.c_uint64), ("line", ctypes.c_uint64), ("possible", ctypes.c_uint8)]
+
+
 class _Operation(ctypes.Structure):
     _fields_ = [
         ("bytes", ctypes.c_uint8 * 64),
@@ -288,6 +292,7 @@ def _load():
         ("new", [ctypes.c_char_p, ctypes.c_size_t, ctypes.c_uint8, ctypes.c_uint8]),
         ("push", [ctypes.c_uint8, ctypes.POINTER(_Beat)]),
         ("count", [ctypes.c_uint8, ctypes.POINTER(_Tally)]),
+        ("bin", [ctypes.c_uint8, ctypes.c_uint8, ctypes.POINTER(_BinTally)]),
     ):
         call = getattr(library, f"tl_cover_{ending}")
         call.restype, call.argtypes = _Answer, [cover, *arguments]
@@ -326,7 +331,8 @@ def _load():
     under.argtypes = [*library.tl_manager_new.argtypes, ctypes.c_char_p, ctypes.c_size_t]
     library.tl_manager_free.restype = None
     library.tl_manager_free.argtypes = [manager]
-    for call in (library.tl_rule_name, library.tl_error_text, library.tl_situation_name, library.tl_situation_text):
+    for name in ("rule_name", "error_text", "situation_name", "situation_text", "bin_name", "bin_text"):
+        call = getattr(library, "tl_" + name)
         call.restype, call.argtypes = ctypes.c_size_t, [ctypes.c_uint8, ctypes.c_char_p, ctypes.c_size_t]
     return library
 
@@ -504,9 +510,21 @@ class Situation:
     line: "int | None"
 
 
+@dataclasses.dataclass(frozen=True)
+class Bin:
+    """How often messages of a link began in a bin, and in which line of a trace first: None where none did. It isn't
+    possible where they can't, by the link's level and its liberties."""
+
+    name: str
+    text: str
+    count: int
+    line: "int | None"
+    possible: bool
+
+
 class Cover(_Agent):
-    """Counts how often messages of 1 to 16 links of these levels, of beats of `width` bytes, begin in each situation, where
-    the links have these liberties."""
+    """Counts how often messages of 1 to 16 links of these levels, of beats of `width` bytes, begin in each situation, and on
+    each link in each bin, where the links have these liberties."""
 
     def __init__(self, levels, width=8, liberties=0):
         super().__init__(_Cover(), _library.tl_cover_free, width)
@@ -525,6 +543,14 @@ class Cover(_Agent):
         while name := _written(_library.tl_situation_name, len(found)):
             _taken(_library.tl_cover_count(self._handle, len(found), tally), "a situation")
             found.append(Situation(name, _written(_library.tl_situation_text, len(found)), tally.count, tally.line or None))
+        return found
+
+    def bins(self, link):
+        """All bins of a link, in the order in which `tltool cover --json` writes them."""
+        found, tally = [], _BinTally()
+        while name := _written(_library.tl_bin_name, len(found)):
+            _taken(_library.tl_cover_bin(self._handle, _field(link, "link", 256), len(found), tally), "a link")
+            found.append(Bin(name, _written(_library.tl_bin_text, len(found)), tally.count, tally.line or None, tally.possible == 1))
         return found
 
 

@@ -64,7 +64,7 @@ def the_headers_structs_are_pythons():
     module = python_module()
     structs = [("tl_" + name.lower(), getattr(module, "_" + name))
                for name in ("Beat", "Answer", "Monitor", "Judge", "Client", "Operation", "Outcome", "Reception", "Manager", "Cover", "Tally")]
-    structs += [("tl_link_config", module._LinkConfig), ("tl_wide_beat", module._WideBeat)]
+    structs += [("tl_link_config", module._LinkConfig), ("tl_wide_beat", module._WideBeat), ("tl_bin_tally", module._BinTally)]
     source = path("layout.c")
     with open(source, "w") as text:
         text.write('#include <hefrudyl.h>\n#include <stdio.h>\nint main(void) {\n')
@@ -184,7 +184,7 @@ def python_judges_wide_beats_as_the_command_does():
 
 @test
 def python_counts_situations_as_the_command_does():
-    """Every example trace of the situations: names, sentences, counts and first lines."""
+    """Every example trace of the situations: names, sentences, counts and first lines, and the bins of each link."""
     module = python_module()
     folder = os.path.join(ROOT, "crates/tl_examples/data/situations")
     names = sorted(os.listdir(folder))
@@ -195,8 +195,11 @@ def python_counts_situations_as_the_command_does():
             for line in lines:
                 want(cover.push(*beat_of(module, line)), f"{name}: {line}")
             told = [dataclasses.asdict(it) for it in cover.situations()]
-        wanted = json.loads(run([TLTOOL, "cover", "--json", name]))["situations"]
-        want(told == wanted, f"{name}: {told}, and cover says {wanted}")
+            bins = [cover.bins(link) for link in range(len(levels))]
+        wanted = json.loads(run([TLTOOL, "cover", "--json", name]))
+        want(told == wanted["situations"], f"{name}: {told}, and cover says {wanted['situations']}")
+        counts = [{"name": of_all[0].name, "counts": [it.count if it.possible else None for it in of_all]} for of_all in zip(*bins)]
+        want(counts == wanted["bins"], f"{name}: {counts}, and cover says {wanted['bins']}")
 
 
 @test

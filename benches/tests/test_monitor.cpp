@@ -79,6 +79,16 @@ int main() {
     bool came = hefrudyl::situation_name(i) == "acquire-NtoT";
     right = right && cover.count(i).count == came && cover.count(i).line == (came ? 2u : 0u) && !hefrudyl::situation_text(i).empty();
   }
+  for (std::uint8_t i = 0; i < TL_BINS; i++) {
+    bool came = hefrudyl::bin_name(i) == "A-AcquirePerm-NtoT-64";
+    right = right && cover.bin(0, i).count == came && cover.bin(0, i).line == (came ? 2u : 0u) && !hefrudyl::bin_text(i).empty();
+    right = right && (!came || cover.bin(0, i).possible == 1);
+  }
+  try {
+    cover.bin(1, 0);
+    right = false;
+  } catch (const std::invalid_argument &) {
+  }
   std::printf("%d failures\n", right ? 0 : 1);
   return right ? 0 : 1;
 }

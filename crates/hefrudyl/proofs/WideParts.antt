@@ -1,17 +1,19 @@
 -- The parts of a wide beat, judged one after another.
 use Rattle.std.proofs.Common.{◌≡◌, ◌∙◌, ℕ, Bool, List, [], ◌∷◌, ap, refl, subst, sym, inl, inr}
-use Rattle.std.specs.Prelude.{true, false, option_map, Option, Some, None}
+use Rattle.std.specs.Prelude.{true, false, option_map, Option, Some, None, Err}
 use Rattle.tl_beat.specs.declared.beat.Beat.{Beat}
 use Rattle.tl_beat.specs.declared.beat.Link.{Link}
 use Rattle.tl_beat.specs.statement.Width.{IsWidth}
 use Rattle.tl_params.specs.declared.level.Level.{Level}
 use Rattle.tl_params.specs.declared.liberties.Liberties.{Liberties}
 use Rattle.tl_params.specs.declared.rule.Rule.{Rule}
+use Rattle.tl_monitor.specs.declared.fault.MonitorFault.{MonitorFault}
 use Rattle.tl_monitor.specs.declared.fault.MonitorFault.TheVariants as monitor
 use Rattle.tl_monitor.specs.declared.monitor.Monitor.{Monitor}
 use Rattle.tl_monitor.specs.statement.Knows as alone
 use Rattle.tl_monitor.specs.statement.Knows.{KnowsUnder, fault_under}
-use Rattle.tl_rules.specs.statement.Conformance.{Trace}
+use Rattle.tl_monitor.specs.statement.Numbers.{IsMoreUnder}
+use Rattle.tl_rules.specs.statement.Conformance.{Trace, on_link}
 use Rattle.tl_rules.specs.statement.Liberties.{broken_on_link_under}
 use Rattle.tl_together.specs.declared.breach.Breach.TheVariants.{OfLink}
 use Rattle.tl_together.specs.declared.fault.JudgeFault.TheVariants as judge
@@ -21,10 +23,10 @@ use Rattle.tl_together.specs.statement.Knows as together
 use Rattle.tl_together.specs.declared.breach.Breach.{Breach}
 use Rattle.tl_wide.proofs.Reached.{by_width}
 use Rattle.tl_wide.specs.statement.Width.{IsWideWidth, part_width}
-use Rattle.hefrudyl.specs.code.WideJudging.{PartsLeft}
+use Rattle.hefrudyl.specs.code.WideJudging.{PartsLeft, PartsStop}
 use Rattle.hefrudyl.specs.declared.part_judge.PartJudge.{PartJudge}
 use Rattle.hefrudyl.specs.declared.part_judge.PartJudge.TheVariants.{OfLinks, OfAll}
-use Rattle.hefrudyl.specs.statement.Wide.{KnowsParts, after_parts, breach_of, or_breach, part_breach}
+use Rattle.hefrudyl.specs.statement.Wide.{KnowsParts, RunsOutAt, after_parts, breach_of, or_breach, part_breach}
 
 -- the parts of a wide beat have a width
 pub part-width : (w p : ℕ) → IsWideWidth w → p ≡ part_width w → IsWidth p
@@ -74,13 +76,35 @@ alone-bad x old rule answer false levels l t known =
     some-of (broken_on_link_under l levels x t) rule (answer levels l t known)
 alone-bad x old rule answer true levels l t known = absurd known
 
-pub alone-kept : {p : ℕ} (old new : Monitor p)
+-- memory runs out at a part, which breaks no rule then
+no-rule : (o : Option Rule) (fault : MonitorFault) → alone.Answers (alone.broken o) (Err fault)
+    → ((rule : Rule) → fault ≡ monitor.Broken rule → ⊥) → (fault ≡ monitor.Memory) × (o ≡ None)
+no-rule None monitor.Levels answer other = absurd cc
+no-rule None (monitor.Broken found) answer other = absurd (other found refl)
+no-rule None monitor.Memory answer other = (refl, refl)
+no-rule None monitor.Closed answer other = absurd cc
+no-rule (Some rule) monitor.Levels answer other = absurd cc
+no-rule (Some rule) (monitor.Broken found) answer other = absurd (other found refl)
+no-rule (Some rule) monitor.Memory answer other = absurd cc
+no-rule (Some rule) monitor.Closed answer other = absurd cc
+
+pub alone-kept : {p : ℕ} (x : Link × Beat p) (old new : Monitor p) (fault : MonitorFault)
+    → ((rule : Rule) → fault ≡ monitor.Broken rule → ⊥)
+    → ((levels : List Level) (l : Liberties) (t : Trace p) → KnowsUnder old levels l t false
+    → alone.Answers (fault_under levels l t false x) (Err fault))
     → ((levels : List Level) (l : Liberties) (t : Trace p) → KnowsUnder old levels l t false
     → KnowsUnder new levels l t false)
+    → ((levels : List Level) (l : Liberties) (t : Trace p) → KnowsUnder old levels l t false
+    → IsMoreUnder l (on_link x.0.0 t) x.1 (Err fault))
     → (together : Bool) (levels : List Level) (l : Liberties) (t : Trace p)
-    → KnowsParts together (OfLinks old) levels l t → KnowsParts together (OfLinks new) levels l t
-alone-kept old new knows false levels l t known = knows levels l t known
-alone-kept old new knows true levels l t known = absurd known
+    → KnowsParts together (OfLinks old) levels l t
+    → KnowsParts together (OfLinks new) levels l t × RunsOutAt together levels l x.0 (x.1 ∷ []) t
+alone-kept x old new fault other answer knows more false levels l t known =
+    let (memory, none) = no-rule (broken_on_link_under l levels x t) fault (answer levels l t known) other in (
+      knows levels l t known,
+      (ap (option_map OfLink) none, rw memory at (more levels l t known)),
+    )
+alone-kept x old new fault other answer knows more true levels l t known = absurd known
 
 module _ {p : ℕ} (x : Link × Beat p) (old new : Judge p) where
   pub together-good : ((levels : List Level) (l : Liberties) (t : Trace p) → together.Knows old levels l t false
@@ -104,13 +128,13 @@ together-bad x old breach answer true levels l t known =
     some-of-all (broken_together levels l x t) breach (answer levels l t known)
 together-bad x old breach answer false levels l t known = absurd known
 
-pub together-kept : {p : ℕ} (old new : Judge p)
+pub together-kept : {p : ℕ} (x : Link × Beat p) (old new : Judge p)
     → ((levels : List Level) (l : Liberties) (t : Trace p) → together.Knows old levels l t false
     → together.Knows new levels l t false)
     → (all : Bool) (levels : List Level) (l : Liberties) (t : Trace p) → KnowsParts all (OfAll old) levels l t
-    → KnowsParts all (OfAll new) levels l t
-together-kept old new knows true levels l t known = knows levels l t known
-together-kept old new knows false levels l t known = absurd known
+    → KnowsParts all (OfAll new) levels l t × RunsOutAt all levels l x.0 (x.1 ∷ []) t
+together-kept x old new knows true levels l t known = (knows levels l t known, tt)
+together-kept x old new knows false levels l t known = absurd known
 
 -- ---- parts in turn
 
@@ -143,6 +167,27 @@ module _ {p : ℕ} (old now : PartJudge p) (link : Link) (parts : List (Beat p))
       let (u, knows, same, taken) = (rw is at so_far) together levels l t known in
       same ∙ ap (λ (o : Option Breach). or_breach o (part_breach together levels l link more ((link, x) ∷ u)))
       (judged together levels l u knows)
+
+  -- memory runs out at a part
+  pub part_refused : (new : PartJudge p) (x : Beat p) (left more : List (Beat p)) → left ≡ x ∷ more
+      → PartsLeft old now link parts left
+      → ((together : Bool) (levels : List Level) (l : Liberties) (t : Trace p) → KnowsParts together now levels l t
+      → KnowsParts together new levels l t × RunsOutAt together levels l link (x ∷ []) t)
+      → PartsStop old new link parts left
+  part_refused new x left more is so_far judged = λ together levels l t known.
+      let (u, knows, same, taken) = so_far together levels l t known in
+      let (kept, stops) = judged together levels l u knows in (
+        u,
+        kept,
+        same,
+        taken,
+        subst (λ (ps : List (Beat p)). RunsOutAt together levels l link ps u) (sym is) (first-alone together levels l u stops),
+      )
+    where
+      first-alone : (together : Bool) (levels : List Level) (l : Liberties) (u : Trace p)
+          → RunsOutAt together levels l link (x ∷ []) u → RunsOutAt together levels l link (x ∷ more) u
+      first-alone true levels l u stops = tt
+      first-alone false levels l u stops = stops
 
   -- no part is left
   pub parts_good : (left : List (Beat p)) → left ≡ [] → PartsLeft old now link parts left

@@ -30,7 +30,7 @@ use Rattle.hefrudyl.specs.declared.part_judge.Verdict.{Verdict}
 use Rattle.hefrudyl.specs.declared.part_judge.Verdict.TheVariants.{Taken, Broken, OutOfMemory}
 use Rattle.hefrudyl.specs.declared.wide.Begun.{Begun}
 use Rattle.hefrudyl.specs.declared.wide.WideJudge.{WideJudge}
-use Rattle.hefrudyl.specs.statement.Wide.{AnswersFault, AnswersWide, HasLeft, IsOf, KnowsOpen, KnowsParts, KnowsWide}
+use Rattle.hefrudyl.specs.statement.Wide.{AnswersFault, AnswersWide, HasLeft, IsOf, KnowsOpen, KnowsParts, KnowsWide, StopsAtPart}
 use Rattle.hefrudyl.specs.statement.Wide.{MayPush, Pushed, RunsOut, ToldOfWideBeat, ToldWide, after_parts, part_breach}
 use Rattle.hefrudyl.specs.statement.Wide.{parts_taken, wide_fault}
 
@@ -126,9 +126,9 @@ module _ {w : ℕ} (together : Bool) (levels : List Level) (l : Liberties) (t : 
     left-known : (more : Parts) → new.begun ≡ Some (record { link = pushed.0; picture = pushed.1; parts = more })
         → new.closed ≡ between.closed → Some x.0 ≡ link_at pushed.0 → Some x.1 ≡ shown_wide w pushed.1
         → TakesParts between.judge new.judge x.0 x.1 (left_of x.1 parts) (OutOfMemory more)
-        → KnowsWide new together levels l t (Some pushed) false
+        → StopsAtPart new together levels l t pushed
     left-known more kept going link_is beat_is judged =
-        let (u, knows, fault_is, trace_is) = judged together levels l left.taken left.knows in (
+        let (u, knows, fault_is, trace_is, stops) = judged together levels l left.taken left.knows in (
           going ∙ was_open,
           record {
             begun = record { link = pushed.0; picture = pushed.1; parts = more };
@@ -146,6 +146,7 @@ module _ {w : ℕ} (together : Bool) (levels : List Level) (l : Liberties) (t : 
               trace_is = left.trace_is ∙ trace_is;
             };
           },
+          stops,
         )
 
     left-judged : (verdict : Verdict) → MayPush begun pushed → Some x.0 ≡ link_at pushed.0
@@ -162,7 +163,12 @@ module _ {w : ℕ} (together : Bool) (levels : List Level) (l : Liberties) (t : 
         let bad = judged together levels l left.taken left.knows in
         inr (may, rw (fault-by (Some breach) left.within (left.fault_is ∙ bad)) (answer_is, closed))
     left-judged (OutOfMemory more) may link_is beat_is judged (answer_is, kept, going) =
-        inl (may, answer_is, inr (left-known more kept going link_is beat_is judged))
+        inl (may, answer_is, runs-out begun (left-known more kept going link_is beat_is judged))
+      where
+        runs-out : (begun : Option Pushed) → StopsAtPart new together levels l t pushed
+            → RunsOut new together levels l t begun pushed
+        runs-out None stops = inr stops
+        runs-out (Some y) stops = stops
 
 module _ {w : ℕ} (old new : WideJudge (part_width w)) (pushed : Pushed) (x : Link × WideBeat w) (answer : Answer)
     (link_is : Some x.0 ≡ link_at pushed.0) (beat_is : Some x.1 ≡ shown_wide w pushed.1) (together : Bool)
@@ -241,8 +247,9 @@ module _ {w : ℕ} (old new : WideJudge (part_width w)) (pushed : Pushed) (x : L
         ),
         bad,
       )
-  refused begun going known (inr (inl (memory, still))) =
-      let (may, knows) = stays still going begun known in inr (inl (may, memory, inl knows))
+  refused None going known (inr (inl (memory, still))) =
+      let (may, knows) = stays still going None known in inr (inl (may, memory, inl knows))
+  refused (Some y) going has (inr (inl (memory, still))) = not-both _ (sym still.0 ∙ has.kept)
   refused None going known (inr (inr (many, still, beyond))) =
       let (may, knows) = stays still going None known in
       inr (inr (may, rw (fault-beyond together levels l t pushed x (beyond t known.1)) (many, knows)))

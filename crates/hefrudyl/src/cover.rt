@@ -2,10 +2,11 @@
 
 ghost use Rattle.std.specs.Prelude.{◌≡◌};
 ghost use Rattle.tl_beat.specs.statement.Width.{IsWidth};
-ghost use Rattle.hefrudyl.specs.statement.Covering.{CountsOf, TallyOf, tally_of};
+ghost use Rattle.hefrudyl.specs.statement.Covering.{BinOf, CountsOf, TallyOf, bin_tally_of, tally_of};
 
+use tl_beat::beat::Link;
 use tl_cover::covering::Covering;
-use tl_cover::row::Row;
+use tl_cover::row::{LinkBin, Row};
 use tl_pictures::answer::Answer;
 use tl_pictures::codes::link_at;
 use tl_pictures::picture::Picture;
@@ -37,6 +38,28 @@ impl Tally {
     }
 }
 
+/// The count of a bin on a link, the line of a trace in which it first came, 0 if it never came, and 1 if the link can
+/// have it by its level and its liberties, otherwise 0.
+#[repr(C)]
+#[derive(Clone, Copy, Debug, PartialEq, Eq)]
+pub struct BinTally {
+    pub count: u64,
+    pub line: u64,
+    pub possible: u8,
+}
+
+impl BinTally {
+    fn of(bin: &LinkBin) -> BinTally
+        ensures { result ≡ bin_tally_of bin.now }
+    {
+        BinTally {
+            count: bin.row.count,
+            line: bin.row.first.unwrap_or(0),
+            possible: u8::from(bin.possible),
+        }
+    }
+}
+
 /// Judges a beat of a link, and counts the situations of the message that begins with it.
 pub fn push<const W: usize>(covering: &mut Covering<W>, link: u8, picture: &Picture) -> Answer
     requires { IsWidth W }
@@ -59,6 +82,25 @@ pub fn tell<const W: usize>(covering: &Covering<W>, situation: u8, tally: &mut T
         None => Answer::BAD,
         Some(row) => {
             *tally = Tally::of(row);
+            Answer::OK
+        }
+    }
+}
+
+/// The tally of the bin with this number on a link.
+pub fn tell_bin<const W: usize>(
+    covering: &Covering<W>,
+    link: u8,
+    bin: u8,
+    tally: &mut BinTally,
+) -> Answer
+    requires { IsWidth W }
+    ensures { BinOf covering.now link bin tally.old tally.new result }
+{
+    match covering.bin(Link(link), usize::from(bin)) {
+        None => Answer::BAD,
+        Some(bin) => {
+            *tally = BinTally::of(&bin);
             Answer::OK
         }
     }

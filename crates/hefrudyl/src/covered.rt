@@ -1,9 +1,9 @@
 //! The calls on a session with a covering. A session without one is bad input.
 
-ghost use Rattle.hefrudyl.specs.statement.Covering.{OpensCovering, CountsSession, TallySession};
+ghost use Rattle.hefrudyl.specs.statement.Covering.{BinSession, CountsSession, OpensCovering, TallySession};
 ghost use Rattle.hefrudyl.specs.statement.Opened.{ok_of, answer_in};
 
-use crate::cover::{self, AnyCovering, Tally};
+use crate::cover::{self, AnyCovering, BinTally, Tally};
 use crate::opening::{make_covering, may_open_under};
 use crate::session::Session;
 use std::alloc::Global;
@@ -46,6 +46,18 @@ pub fn tell(session: &Session, situation: u8, tally: &mut Tally) -> Answer
         Session::Covering(AnyCovering::Four(held)) => cover::tell(held, situation, tally),
         Session::Covering(AnyCovering::Eight(held)) => cover::tell(held, situation, tally),
         Session::Covering(AnyCovering::Sixteen(held)) => cover::tell(held, situation, tally),
+        _ => Answer::BAD,
+    }
+}
+
+/// The tally of the bin with this number on a link.
+pub fn tell_bin(session: &Session, link: u8, bin: u8, tally: &mut BinTally) -> Answer
+    ensures { BinSession link bin tally.old tally.new result session.now }
+{
+    match session {
+        Session::Covering(AnyCovering::Four(held)) => cover::tell_bin(held, link, bin, tally),
+        Session::Covering(AnyCovering::Eight(held)) => cover::tell_bin(held, link, bin, tally),
+        Session::Covering(AnyCovering::Sixteen(held)) => cover::tell_bin(held, link, bin, tally),
         _ => Answer::BAD,
     }
 }

@@ -49,8 +49,10 @@ impl<const P: usize> PartJudge<P> {
         match self {
             PartJudge::OfLinks(monitor) => match monitor.try_push(link, part) {
                 Ok(()) => Ok(None),
-                Err(MonitorFault::Broken(rule)) => Ok(Some(Breach::OfLink(rule))),
-                Err(_) => Err(AllocError),
+                Err(fault) => match fault {
+                    MonitorFault::Broken(rule) => Ok(Some(Breach::OfLink(rule))),
+                    _ => Err(AllocError),
+                },
             },
             PartJudge::OfAll(judge) => match judge.try_push(link, part) {
                 Ok(()) => Ok(None),

@@ -1,15 +1,16 @@
 -- What a covering knows after its monitor's answer.
-use Rattle.std.proofs.Common.{◌≡◌, ◌≤◌, ℕ, Bool, true, false, List, length, refl, sym, ap, ◌∙◌, ◌<◌, ◌+◌, arith, subst}
+use Rattle.std.proofs.Common.{◌≡◌, ◌≤◌, ℕ, Bool, true, false, List, length, refl, sym, ap, ap₂, ◌∙◌, ◌<◌, ◌+◌, arith, subst}
 use Rattle.std.specs.List.{flat_map}
-use Rattle.std.specs.Prelude.{Some, None, Result, Ok, Err, ⊤, map, slice_get}
-use Rattle.std.proofs.lemmas.Option.{get_or_from_slice_get, slice_get_past}
+use Rattle.std.specs.Prelude.{Option, Some, None, Result, Ok, Err, ⊤, map, option_map, slice_get}
+use Rattle.std.proofs.lemmas.Option.{get_or_from_slice_get, slice_get_past, slice_get_within, slice_get-map}
 use Rattle.tl_beat.specs.declared.beat.Beat.{Beat}
 use Rattle.tl_beat.specs.declared.beat.Link.{Link}
 use Rattle.tl_cover.specs.declared.covering.Covering.{Covering}
 use Rattle.tl_cover.proofs.Links.{cells_are}
 use Rattle.tl_cover.specs.declared.past.LinkPast.{LinkPast}
-use Rattle.tl_cover.specs.statement.Covered.{cells, table}
-use Rattle.tl_cover.specs.statement.Covers.{Covers, CoversAfter, Follows, cells_in, cells_of}
+use Rattle.tl_cover.specs.declared.row.Row.{Row}
+use Rattle.tl_cover.specs.statement.Covered.{bin_at, bin_on, cells, link_bin, table}
+use Rattle.tl_cover.specs.statement.Covers.{Covers, CoversAfter, Follows, bin_from, bin_in, cells_in, cells_of}
 use Rattle.tl_monitor.specs.declared.fault.MonitorFault.{MonitorFault}
 use Rattle.tl_monitor.specs.declared.fault.MonitorFault.TheVariants as monitor
 use Rattle.tl_monitor.specs.declared.monitor.Monitor.{Monitor}
@@ -96,3 +97,23 @@ table_covered c levels l t closed i p had is within =
     let short : i < length c.pasts.items = omega (arith, within, had.follows.many) in
     subst (λ (q : LinkPast). q.rows.items ≡ table l (length levels) i t)
     (get_or_from_slice_get c.pasts.items i p p is) (had.follows.pasts_are i p short).rows_are
+
+-- so is each bin of a link
+pub bin_covered : {w : ℕ} (c : Covering w) (levels : List Level) (l : Liberties) (t : Trace w) (closed : Bool)
+    (i number : ℕ) → Covers c levels l t closed → bin_in c i number ≡ bin_on l levels i t number
+bin_covered {w = w} c levels l t closed i number had = go (slice_get c.pasts.items i) refl
+  where
+    level_of : (found : Option LinkPast) → slice_get c.pasts.items i ≡ found
+        → slice_get levels i ≡ option_map (λ (p : LinkPast). p.level) found
+    level_of found is = ap (λ (all : List Level). slice_get all i) (sym had.levels_are)
+        ∙ slice_get-map (λ (p : LinkPast). p.level) c.pasts.items i ∙ ap (option_map (λ (p : LinkPast). p.level)) is
+
+    go : (found : Option LinkPast) → slice_get c.pasts.items i ≡ found
+        → bin_from w c.liberties number found ≡ bin_on l levels i t number
+    go None is = ap (bin_at l (length levels) i t number) (sym (level_of None is))
+    go (Some p) is =
+        let within : i < length levels =
+        omega (arith, slice_get_within c.pasts.items i p is, had.follows.many) in
+        ap₂ (λ (may : Liberties) (rows : List Row). option_map (link_bin w may p.level) (slice_get rows number))
+        had.liberties_are (table_covered c levels l t closed i p had is within)
+        ∙ ap (bin_at l (length levels) i t number) (sym (level_of (Some p) is))

@@ -5,7 +5,7 @@ ghost use Rattle.std.specs.Prelude.{◌++◌, ℕ, Bool, false, List, [], ◌≡
 ghost use Rattle.tl_beat.specs.declared.beat.Beat.{Beat};
 ghost use Rattle.tl_beat.specs.statement.Width.{IsWidth};
 ghost use Rattle.tl_cover.specs.code.Covering.{AreUnused, KnowsLink, opening_of};
-ghost use Rattle.tl_cover.specs.statement.Covered.{cells, covered, table};
+ghost use Rattle.tl_cover.specs.statement.Covered.{bin_on, cells, covered, table};
 ghost use Rattle.tl_cover.specs.statement.Covers.{cells_of};
 ghost use Rattle.tl_cover.specs.statement.Scene as scenes;
 ghost use Rattle.tl_params.specs.declared.level.Level.{Level};
@@ -17,7 +17,7 @@ use crate::asked::found;
 use crate::blocks::has;
 use crate::counts::{new_rows, note_all};
 use crate::past::LinkPast;
-use crate::row::{Row, one_more};
+use crate::row::{LinkBin, Row, one_more};
 use crate::scene::{NOTHING, Scene, Standing, is_same};
 use crate::situation::Situation;
 use std::alloc::{AllocError, Global};
@@ -70,7 +70,7 @@ fn append_tables<const W: usize>(
 }
 
 impl<const W: usize> Covering<W> {
-    ghost use Rattle.tl_cover.specs.statement.Covers.{Covers, CoversAfter, Follows, IsNewCovering, cells_in, rows_in, table_in};
+    ghost use Rattle.tl_cover.specs.statement.Covers.{Covers, CoversAfter, Follows, IsNewCovering, bin_in, cells_in, rows_in, table_in};
     ghost use Rattle.tl_monitor.specs.statement.Knows.{Answers, KnowsUnder, fault_under};
 
     /// A covering of links of these levels and liberties, which has judged no beat. The error is `Levels` if there
@@ -115,6 +115,19 @@ impl<const W: usize> Covering<W> {
         match self.pasts.get(usize::from(link.0)) {
             None => &[],
             Some(past) => &past.rows,
+        }
+    }
+
+    /// The bin with this number on a link; None if there is no such link or no such bin.
+    pub fn bin(&self, link: Link, number: usize) -> Option<LinkBin>
+        requires { IsWidth W }
+        ensures value { result ≡ bin_in self.now link.0 number }
+        ensures counted { (levels : List Level) (l : Liberties) (t : Trace W) (closed : Bool) →
+            Covers self.now levels l t closed → result ≡ bin_on l levels link.0 t number }
+    {
+        match self.pasts.get(usize::from(link.0)) {
+            None => None,
+            Some(past) => past.bin::<W>(self.liberties, number),
         }
     }
 

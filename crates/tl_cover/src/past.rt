@@ -10,7 +10,7 @@ ghost use Rattle.tl_cover.specs.code.Past.{is_of, released_next, request_next};
 ghost use Rattle.tl_cover.specs.code.Covering.{Taken, unseen};
 ghost use Rattle.tl_cover.specs.statement.Bins.{all_bins};
 ghost use Rattle.tl_cover.specs.statement.Covered.{cell};
-ghost use Rattle.tl_cover.specs.statement.Covers.{cells_of};
+ghost use Rattle.tl_cover.specs.statement.Covers.{bin_of, cells_of};
 ghost use Rattle.tl_cover.specs.statement.Scene as scenes;
 ghost use Rattle.tl_monitor.specs.code.Count.{at};
 ghost use Rattle.tl_params.specs.declared.key.Key.TheVariants.{AcquireOf, ReleaseOf};
@@ -23,7 +23,7 @@ use crate::bins::BINS;
 use crate::blocks::turn;
 use crate::counts::{new_rows, note_all};
 use crate::possible::is_possible;
-use crate::row::Row;
+use crate::row::{LinkBin, Row};
 use crate::scene::{ProbeAt, Scene};
 use crate::under_way::{UnderWay, is_of_grant};
 use std::alloc::{AllocError, Global};
@@ -290,6 +290,18 @@ impl LinkPast {
         ensures { OnOk result (cells.new.items ≡ cells.old.items ++ cells_of W liberties self.now) }
     {
         append_counts::<W>(liberties, self.level, &self.rows, cells)
+    }
+
+    /// The bin with this number, by the link's level and these liberties; None if there is no such bin.
+    pub fn bin<const W: usize>(&self, liberties: Liberties, number: usize) -> Option<LinkBin>
+        requires { IsWidth W }
+        ensures { result ≡ bin_of W liberties number self.now }
+    {
+        let row = self.rows.get(number)?;
+        Some(LinkBin {
+            row: *row,
+            possible: cell_of::<W>(liberties, self.level, row).is_some(),
+        })
     }
 
     /// Takes a beat in a line of the trace: with the facts about the message that it begins, if it begins one, and `last`

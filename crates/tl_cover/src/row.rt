@@ -14,6 +14,14 @@ pub struct Row {
     pub first: Option<u64>,
 }
 
+/// A bin on a link: its row, and whether the link can have it by its level and its liberties. A bin that came is always
+/// possible.
+#[derive(Clone, Copy, Debug, PartialEq, Eq)]
+pub struct LinkBin {
+    pub row: Row,
+    pub possible: bool,
+}
+
 /// One more. An error above 2^64 - 1.
 pub fn one_more(number: u64) -> Result<u64, AllocError>
     ensures { IfOk result (λ more. more ≡ number + 1) }

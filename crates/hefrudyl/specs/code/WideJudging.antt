@@ -27,17 +27,18 @@ use Rattle.hefrudyl.specs.declared.part_judge.Verdict.TheVariants.{Taken, Broken
 use Rattle.hefrudyl.specs.declared.wide.Begun.{Begun}
 use Rattle.hefrudyl.specs.declared.wide.WideJudge.{WideJudge}
 use Rattle.hefrudyl.specs.statement.Opened.{IsRefusal}
-use Rattle.hefrudyl.specs.statement.Wide.{IsOf, KnowsParts, after_parts, breach_of, part_breach}
+use Rattle.hefrudyl.specs.statement.Wide.{IsOf, KnowsParts, RunsOutAt, after_parts, breach_of, part_breach}
 
 -- ---- parts
 
--- a part is taken, or it breaks this rule, or there is no memory; in both of these the trace stays
+-- a part is taken, or it breaks this rule, or memory runs out at it; in both of these the trace stays
 abbrev pub TakesPart : {p : ℕ} {E : Type 0} → Bool → PartJudge p → List Level → Liberties → Trace p → Link × Beat p
     → Result (Option Breach) E → Type 0
 TakesPart together new levels l t x (Ok None) =
     (breach_of together levels l x t ≡ None) × KnowsParts together new levels l (x ∷ t)
 TakesPart together new levels l t x (Ok (Some breach)) = breach_of together levels l x t ≡ Some breach
-TakesPart together new levels l t x (Err e) = KnowsParts together new levels l t
+TakesPart together new levels l t x (Err e) =
+    KnowsParts together new levels l t × RunsOutAt together levels l x.0 (x.1 ∷ []) t
 
 -- parts that are left of these have the fault that these have, after what was taken
 abbrev pub PartsLeft : {p : ℕ} → PartJudge p → PartJudge p → Link → List (Beat p) → List (Beat p) → Type 0
@@ -47,6 +48,14 @@ PartsLeft {p} old now link parts left =
     × (part_breach together levels l link parts t ≡ part_breach together levels l link left u)
     × (after_parts link parts t ≡ after_parts link left u)
 
+-- the same, and memory ran out at the first that is left
+abbrev pub PartsStop : {p : ℕ} → PartJudge p → PartJudge p → Link → List (Beat p) → List (Beat p) → Type 0
+PartsStop {p} old now link parts left =
+    (together : Bool) (levels : List Level) (l : Liberties) (t : Trace p) → KnowsParts together old levels l t
+    → (u : Trace p) × KnowsParts together now levels l u
+    × (part_breach together levels l link parts t ≡ part_breach together levels l link left u)
+    × (after_parts link parts t ≡ after_parts link left u) × RunsOutAt together levels l link left u
+
 -- all of these parts are taken, or one breaks this rule, or there was no memory for the first that is left
 abbrev pub TakesParts : {w p : ℕ} → PartJudge p → PartJudge p → Link → WideBeat w → List (Beat p) → Verdict → Type 0
 TakesParts {w} {p} old new link x parts Taken =
@@ -55,7 +64,7 @@ TakesParts {w} {p} old new link x parts Taken =
 TakesParts {w} {p} old new link x parts (Broken breach) =
     (together : Bool) (levels : List Level) (l : Liberties) (t : Trace p) → KnowsParts together old levels l t
     → part_breach together levels l link parts t ≡ Some breach
-TakesParts {w} {p} old new link x parts (OutOfMemory left) = PartsLeft old new link parts (left_of x left)
+TakesParts {w} {p} old new link x parts (OutOfMemory left) = PartsStop old new link parts (left_of x left)
 
 -- ---- a beat
 

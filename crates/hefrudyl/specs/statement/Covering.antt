@@ -4,10 +4,11 @@ use Rattle.std.specs.Prelude.{Option, Some, None, Result, Ok, Err}
 use Rattle.tl_beat.specs.declared.beat.Beat.{Beat}
 use Rattle.tl_beat.specs.declared.beat.Link.{Link}
 use Rattle.tl_cover.specs.declared.covering.Covering.{Covering}
+use Rattle.tl_cover.specs.declared.row.LinkBin.{LinkBin}
 use Rattle.tl_cover.specs.declared.row.Row.{Row}
 use Rattle.tl_cover.specs.declared.situation.Situation.{Situation}
-use Rattle.tl_cover.specs.statement.Covered.{all_situations}
-use Rattle.tl_cover.specs.statement.Covers.{Covers, CoversAfter, rows_in}
+use Rattle.tl_cover.specs.statement.Covered.{bin_on}
+use Rattle.tl_cover.specs.statement.Covers.{Covers, CoversAfter, bin_in, rows_in}
 use Rattle.tl_cover.specs.statement.Names.{name, sentence}
 use Rattle.tl_monitor.specs.declared.fault.MonitorFault.{MonitorFault}
 use Rattle.tl_monitor.specs.statement.Knows.{Answers, fault_under}
@@ -18,10 +19,12 @@ use Rattle.tl_pictures.specs.declared.answer.Answer.{Answer}
 use Rattle.tl_pictures.specs.declared.picture.Picture.{Picture}
 use Rattle.tl_pictures.specs.statement.Answer.{answer_of, bad, ok, IsBad}
 use Rattle.tl_pictures.specs.statement.Codes.{level_at, liberties_at, link_at}
+use Rattle.tl_pictures.specs.statement.Depicted.{flag}
 use Rattle.tl_pictures.specs.statement.Picture.{shown}
 use Rattle.tl_pictures.specs.statement.Written.{IsWritten}
 use Rattle.tl_rules.specs.statement.Conformance.{Trace}
 use Rattle.hefrudyl.specs.declared.cover.AnyCovering.TheVariants as covering
+use Rattle.hefrudyl.specs.declared.cover.BinTally.{BinTally}
 use Rattle.hefrudyl.specs.declared.cover.Tally.{Tally}
 use Rattle.hefrudyl.specs.declared.session.Session.{Session}
 use Rattle.hefrudyl.specs.declared.session.Session.TheVariants as session
@@ -89,6 +92,24 @@ TallyIn (Some r) was tally answer = (answer ≡ ok) × (tally ≡ tally_of r)
 abbrev pub TallyOf : {w : ℕ} → Covering w → ℕ → Tally → Tally → Answer → Type 0
 TallyOf c number was tally answer = TallyIn (slice_get (rows_in c) number) was tally answer
 
+-- ---- the bins of a link's table
+
+-- the tally of a bin on a link; the line is 0 if it never came, and `possible` is 1 if the link can have it, or had it
+abbrev pub bin_tally_of : LinkBin → BinTally
+bin_tally_of b = record { count = b.row.count; line = unwrap_or b.row.first 0; possible = flag b.possible }
+
+-- the tally is that of the bin; None is bad input
+abbrev pub BinIn : Option LinkBin → BinTally → BinTally → Answer → Type 0
+BinIn None was tally answer = IsBad answer was tally
+BinIn (Some b) was tally answer = (answer ≡ ok) × (tally ≡ bin_tally_of b)
+
+-- The tally of the bin with this number on this link. It is that of the bin in the link's table, for every trace that
+-- the covering covers. Bins are numbered from 0, in the order of the table.
+pub record BinOf {w : ℕ} (c : Covering w) (link number : ℕ) (was tally : BinTally) (answer : Answer) : Type 0 where
+  pub told : BinIn (bin_in c link number) was tally answer
+  pub counted : (levels : List Level) (l : Liberties) (t : Trace w) (closed : Bool) → Covers c levels l t closed
+      → BinIn (bin_on l levels link t number) was tally answer
+
 -- ---- sessions
 
 -- P is true of the covering before and after, of the same width. A session without a covering is refused, and stays.
@@ -113,6 +134,11 @@ abbrev pub TallySession : ℕ → Tally → Tally → Answer → Session → Typ
 TallySession number was tally answer s =
     OnCovering (λ w c d. TallyOf c number was tally answer) (IsBad answer was tally) s s
 
+-- the tally of the bin with this number on this link, from the session's covering
+abbrev pub BinSession : ℕ → ℕ → BinTally → BinTally → Answer → Session → Type 0
+BinSession link number was tally answer s =
+    OnCovering (λ w c d. BinOf c link number was tally answer) (IsBad answer was tally) s s
+
 -- ---- names
 
 -- the sentence of a situation; empty if there is none
@@ -120,17 +146,19 @@ abbrev pub sentence_of : Option Situation → List ℕ
 sentence_of None = []
 sentence_of (Some s) = sentence s
 
--- the sentence of the situation with this number; empty if there is none
-abbrev pub sentence_at : ℕ → List ℕ
-sentence_at number = sentence_of (slice_get all_situations number)
+-- the sentence of the situation with this number in a list; empty if there is none
+abbrev pub sentence_at : List Situation → ℕ → List ℕ
+sentence_at all number = sentence_of (slice_get all number)
 
 -- the name of a situation; empty if there is none
 abbrev pub name_of : Option Situation → List ℕ
 name_of None = []
 name_of (Some s) = name s
 
--- the name of the situation with this number is written, or nothing for want of memory; the name is empty if there is
--- no such situation
-abbrev pub IsNamed : ℕ → List ℕ → List ℕ → ℕ → Type 0
-IsNamed number old new count =
-    IsWritten (name_of (slice_get all_situations number)) old new count ⊎ ((count ≡ 0) × (new ≡ old))
+-- the name is written, or nothing for want of memory
+abbrev pub IsNameWritten : Option Situation → List ℕ → List ℕ → ℕ → Type 0
+IsNameWritten found old new count = IsWritten (name_of found) old new count ⊎ ((count ≡ 0) × (new ≡ old))
+
+-- the same of the situation with this number in a list; the name is empty if there is no such situation
+abbrev pub IsNamed : List Situation → ℕ → List ℕ → List ℕ → ℕ → Type 0
+IsNamed all number old new count = IsNameWritten (slice_get all number) old new count

@@ -7,10 +7,11 @@ use Rattle.tl_pictures.specs.declared.outcome.Outcome.{Outcome}
 use Rattle.tl_pictures.specs.declared.outcome.Reception.{Reception}
 use Rattle.tl_pictures.specs.declared.picture.Picture.{Picture}
 use Rattle.tl_pictures.specs.declared.wide.WidePicture.{WidePicture}
+use Rattle.hefrudyl.specs.declared.cover.BinTally.{BinTally}
 use Rattle.hefrudyl.specs.declared.cover.Tally.{Tally}
 use Rattle.hefrudyl.specs.declared.session.Session.{Session}
 use Rattle.tl_pictures.specs.statement.Answer.{bad, IsBad}
-use Rattle.hefrudyl.specs.statement.Covering.{CountsSession, OpensCovering, TallySession}
+use Rattle.hefrudyl.specs.statement.Covering.{BinSession, CountsSession, OpensCovering, TallySession}
 use Rattle.hefrudyl.specs.statement.Opened.{OpensTo, OpensUnder}
 use Rattle.hefrudyl.specs.statement.Sessions
 use Rattle.hefrudyl.specs.statement.WideOpened.{JudgesWide, MonitorsWide, OpensWide}
@@ -129,6 +130,11 @@ CountTold link x answer old new = OnHandle (CountsSession link x answer) (answer
 -- C asks for the tally of a situation, and the covering stays as it was
 abbrev pub TallyTold : ℕ → Tally → Tally → Answer → Option Session → Option Session → Type 0
 TallyTold situation was tally answer old new = OnHandle (λ s u. TallySession situation was tally answer s × (u ≡ s))
+    (IsBad answer was tally) old new
+
+-- C asks for the tally of a bin on a link, and the covering stays as it was
+abbrev pub BinTold : ℕ → ℕ → BinTally → BinTally → Answer → Option Session → Option Session → Type 0
+BinTold link bin was tally answer old new = OnHandle (λ s u. BinSession link bin was tally answer s × (u ≡ s))
     (IsBad answer was tally) old new
 
 -- ---- clients

@@ -4,9 +4,10 @@ use Rattle.std.specs.Prelude.{if◌then◌else◌}
 use Rattle.tl_beat.specs.declared.beat.Beat.{Beat}
 use Rattle.tl_beat.specs.declared.beat.Link.{Link}
 use Rattle.tl_monitor.specs.statement.Knows.{KnowsUnder}
+use Rattle.tl_monitor.specs.statement.Numbers.{AnyMore, numbers_under}
 use Rattle.tl_params.specs.declared.level.Level.{Level}
 use Rattle.tl_params.specs.declared.liberties.Liberties.{Liberties}
-use Rattle.tl_rules.specs.statement.Conformance.{Trace}
+use Rattle.tl_rules.specs.statement.Conformance.{Trace, on_link}
 use Rattle.tl_rules.specs.statement.Liberties.{broken_on_link_under}
 use Rattle.tl_together.specs.declared.breach.Breach.{Breach}
 use Rattle.tl_together.specs.declared.breach.Breach.TheVariants.{OfLink}
@@ -130,11 +131,30 @@ abbrev pub IsOther : Option Pushed → Pushed → Type 0
 IsOther None x = ⊥
 IsOther (Some begun) x = ¬ (begun ≡ x)
 
--- Without memory the beat isn't taken. It may have been begun, or have been begun before.
+-- Memory ran out at the next of these parts, after a trace. Of links that are judged each by itself, the part breaks no
+-- rule, and makes a number of pending keys, or that of held blocks, grow. Of links that are judged together nothing is
+-- said.
+abbrev pub RunsOutAt : {p : ℕ} → Bool → List Level → Liberties → Link → List (Beat p) → Trace p → Type 0
+RunsOutAt true levels l link parts t = ⊤
+RunsOutAt false levels l link [] t = ⊥
+RunsOutAt false levels l link (x ∷ parts) t =
+    (breach_of false levels l (link, x) t ≡ None)
+    × AnyMore (numbers_under l (on_link link.0 t)) (numbers_under l (x ∷ on_link link.0 t))
+
+-- the beat was begun, and memory ran out at the next part of it
+abbrev pub StopsAtPart : {w : ℕ} → WideJudge (part_width w) → Bool → List Level → Liberties → WideTrace w → Pushed
+    → Type 0
+StopsAtPart new together levels l t x =
+    (new.closed ≡ false) × (has : HasBegun new together levels l t x)
+    × RunsOutAt together levels l has.beat.0 (left_of has.beat.1 has.begun.parts) has.left.taken
+
+-- Without memory the beat isn't taken. If it wasn't begun, there may be no memory for its names, and then it isn't
+-- begun either. Otherwise memory ran out at its next part.
 abbrev pub RunsOut : {w : ℕ} → WideJudge (part_width w) → Bool → List Level → Liberties → WideTrace w → Option Pushed
     → Pushed → Type 0
-RunsOut new together levels l t begun x =
-    KnowsWide new together levels l t begun false ⊎ KnowsWide new together levels l t (Some x) false
+RunsOut new together levels l t None x =
+    KnowsWide new together levels l t None false ⊎ StopsAtPart new together levels l t x
+RunsOut new together levels l t (Some begun) x = StopsAtPart new together levels l t x
 
 -- the answer to a beat that has this fault, or none
 abbrev pub AnswersFault : {w : ℕ} → WideJudge (part_width w) → Bool → List Level → Liberties → WideTrace w

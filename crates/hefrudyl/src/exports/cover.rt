@@ -1,9 +1,9 @@
 //! The calls of C on a cover.
 
 ghost use Rattle.std.specs.Prelude.{◌≡◌, None};
-ghost use Rattle.hefrudyl.specs.statement.Handled.{CoverOpenTold, CountTold, TallyTold};
+ghost use Rattle.hefrudyl.specs.statement.Handled.{BinTold, CoverOpenTold, CountTold, TallyTold};
 
-use crate::cover::Tally;
+use crate::cover::{BinTally, Tally};
 use crate::covered;
 use crate::handle::Handle;
 use std::alloc::Global;
@@ -49,6 +49,21 @@ pub extern "C" fn tl_cover_count(
     ensures { TallyTold situation tally.old tally.new result cover.old.place.value cover.new.place.value }
 {
     answered!(alloc, cover, session => covered::tell(&session, situation, tally))
+}
+
+/// Reports the count of the bin with this number on a link, the line of a trace in which it first came, and whether the
+/// link can have it by its level and its liberties.
+#[unsafe(no_mangle)]
+pub extern "C" fn tl_cover_bin(
+    alloc: Global,
+    cover: &mut Handle,
+    link: u8,
+    bin: u8,
+    tally: &mut BinTally,
+) -> Answer
+    ensures { BinTold link bin tally.old tally.new result cover.old.place.value cover.new.place.value }
+{
+    answered!(alloc, cover, session => covered::tell_bin(&session, link, bin, tally))
 }
 
 /// Frees the contents of a handle, and leaves it empty.

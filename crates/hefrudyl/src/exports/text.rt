@@ -1,12 +1,14 @@
 //! Texts for C.
 
 ghost use Rattle.std.specs.Prelude.{◌≡◌, ◌++◌, OnOk, slice_get};
-ghost use Rattle.hefrudyl.specs.statement.Covering.{IsNamed, name_of, sentence_at, sentence_of};
+ghost use Rattle.hefrudyl.specs.statement.Covering.{IsNameWritten, IsNamed, name_of, sentence_at, sentence_of};
+ghost use Rattle.tl_cover.specs.statement.Bins.{all_bins};
 ghost use Rattle.tl_cover.specs.statement.Covered.{all_situations};
 ghost use Rattle.tl_pictures.specs.statement.Named.{name_with};
 ghost use Rattle.tl_pictures.specs.statement.Written.{IsWritten, code_text};
 
 use std::alloc::{AllocError, Global};
+use tl_cover::bins::BINS;
 use tl_cover::situation::Situation;
 use tl_pictures::rule::name_of;
 use tl_pictures::text::{text_of, write_text};
@@ -27,18 +29,25 @@ pub extern "C" fn tl_error_text(code: u8, into: &mut [u8]) -> usize
     write_text(text_of(code).as_bytes(), into)
 }
 
-/// The situation with this number in the list, if there is one.
-fn numbered(all: &[Situation], number: u8) -> Option<Situation>
+/// The situation with this number in the list, from 0 on, if there is one.
+fn situation_in(all: &[Situation], number: u8) -> Option<Situation>
     ensures { result ≡ slice_get all.now number }
 {
     all.get(usize::from(number)).copied()
 }
 
-/// The situation with this number, from 0 on, if there is one.
+/// The situation with this number in the report, if there is one.
 fn situation_at(number: u8) -> Option<Situation>
     ensures { result ≡ slice_get all_situations number }
 {
-    numbered(&Situation::ALL, number)
+    situation_in(&Situation::ALL, number)
+}
+
+/// The bin with this number in the table of a link, if there is one.
+fn bin_at(number: u8) -> Option<Situation>
+    ensures { result ≡ slice_get all_bins number }
+{
+    situation_in(&BINS, number)
 }
 
 /// Appends a situation's name, if there is one.
@@ -48,6 +57,18 @@ fn append_name(situation: Option<Situation>, out: &mut Vec<u8>) -> Result<(), Al
     match situation {
         None => Ok(()),
         Some(situation) => situation.append_name(out),
+    }
+}
+
+/// Writes as much of a situation's name as fits, and returns the number of bytes written. It returns 0 if there is no
+/// situation, or no memory.
+fn write_name(alloc: Global, situation: Option<Situation>, into: &mut [u8]) -> usize
+    ensures { IsNameWritten situation into.old into.new result }
+{
+    let mut name = Vec::new(alloc);
+    match append_name(situation, &mut name) {
+        Err(_) => 0,
+        Ok(()) => write_text(name.as_slice(), into),
     }
 }
 
@@ -65,19 +86,32 @@ fn sentence_of(situation: Option<Situation>) -> &'static str
 /// such situation, or no memory.
 #[unsafe(no_mangle)]
 pub extern "C" fn tl_situation_name(alloc: Global, situation: u8, into: &mut [u8]) -> usize
-    ensures { IsNamed situation into.old into.new result }
+    ensures { IsNamed all_situations situation into.old into.new result }
 {
-    let mut name = Vec::new(alloc);
-    match append_name(situation_at(situation), &mut name) {
-        Err(_) => 0,
-        Ok(()) => write_text(name.as_slice(), into),
-    }
+    write_name(alloc, situation_at(situation), into)
 }
 
 /// Writes as much of a situation's sentence as fits, and returns the number of bytes written.
 #[unsafe(no_mangle)]
 pub extern "C" fn tl_situation_text(situation: u8, into: &mut [u8]) -> usize
-    ensures { IsWritten (sentence_at situation) into.old into.new result }
+    ensures { IsWritten (sentence_at all_situations situation) into.old into.new result }
 {
     write_text(sentence_of(situation_at(situation)).as_bytes(), into)
+}
+
+/// Writes as much of a bin's name as fits, and returns the number of bytes written. It returns 0 if there is no such
+/// bin, or no memory.
+#[unsafe(no_mangle)]
+pub extern "C" fn tl_bin_name(alloc: Global, bin: u8, into: &mut [u8]) -> usize
+    ensures { IsNamed all_bins bin into.old into.new result }
+{
+    write_name(alloc, bin_at(bin), into)
+}
+
+/// Writes as much of a bin's sentence as fits, and returns the number of bytes written.
+#[unsafe(no_mangle)]
+pub extern "C" fn tl_bin_text(bin: u8, into: &mut [u8]) -> usize
+    ensures { IsWritten (sentence_at all_bins bin) into.old into.new result }
+{
+    write_text(sentence_of(bin_at(bin)).as_bytes(), into)
 }

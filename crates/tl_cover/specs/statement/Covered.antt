@@ -1,8 +1,9 @@
 -- The count of each situation in the messages of a trace, and its first line.
-use Rattle.std.specs.Prelude.{◌||◌, nat_lt, Option, Some, None}
+use Rattle.std.specs.Prelude.{◌||◌, nat_lt, Option, Some, None, is_some, option_map}
 use Rattle.std.specs.Prelude.{ℕ, Bool, ◌+◌, ◌++◌, ◌==◌, ◌&&◌, List, [], ◌∷◌, length, map, if◌then◌else◌, slice_get}
 use Rattle.tl_beat.specs.declared.beat.Beat.{Beat}
 use Rattle.tl_beat.specs.declared.beat.Link.{Link}
+use Rattle.tl_cover.specs.declared.row.LinkBin.{LinkBin}
 use Rattle.tl_cover.specs.declared.row.Row.{Row}
 use Rattle.tl_cover.specs.declared.situation.Bytes.TheVariants as bytes
 use Rattle.tl_cover.specs.declared.situation.Lanes.TheVariants as lanes
@@ -139,6 +140,19 @@ table l n i t = map (row_on l n i t) all_bins
 -- the count of a bin on a link of this level with these liberties; None if such a link can't have it, and it didn't come
 abbrev pub cell : ℕ → Liberties → Level → Row → Option ℕ
 cell w l level r = if is_possible w l level r.situation || nat_lt 0 r.count then Some r.count else None
+
+-- a bin on a link of this level with these liberties: its row, and whether such a link can have it, or it came
+abbrev pub link_bin : ℕ → Liberties → Level → Row → LinkBin
+link_bin w l level r = record { row = r; possible = is_some (cell w l level r) }
+
+-- the bin with this number on link i, one of n links, that has this level; None if there is no level or no such bin
+abbrev pub bin_at : {w : ℕ} → Liberties → ℕ → ℕ → Trace w → ℕ → Option Level → Option LinkBin
+bin_at l n i t number None = None
+bin_at {w} l n i t number (Some level) = option_map (link_bin w l level) (slice_get (table l n i t) number)
+
+-- the bin with this number on link i of links of these levels; None if there is no such link or no such bin
+abbrev pub bin_on : {w : ℕ} → Liberties → List Level → ℕ → Trace w → ℕ → Option LinkBin
+bin_on l levels i t number = bin_at l (length levels) i t number (slice_get levels i)
 
 -- the counts of all bins on links of these levels, the first of which is link i
 unfoldable pub cells_from : {w : ℕ} → Liberties → ℕ → ℕ → List Level → Trace w → List (Option ℕ)

@@ -1,14 +1,15 @@
 -- The knowledge of a covering about the trace of the beats that it took.
 use Rattle.std.specs.Prelude.{ℕ, Bool, true, false, ◌≡◌, ◌+◌, List, [], ◌∷◌, length, Result, Ok, Err, ⊤}
-use Rattle.std.specs.Prelude.{Option, Some, None, map, slice_get}
+use Rattle.std.specs.Prelude.{Option, Some, None, map, option_map, slice_get}
 use Rattle.std.specs.List.{flat_map}
 use Rattle.tl_beat.specs.declared.beat.Beat.{Beat}
 use Rattle.tl_beat.specs.declared.beat.Link.{Link}
 use Rattle.tl_cover.specs.code.Covering.{KnowPasts}
 use Rattle.tl_cover.specs.declared.covering.Covering.{Covering}
 use Rattle.tl_cover.specs.declared.past.LinkPast.{LinkPast}
+use Rattle.tl_cover.specs.declared.row.LinkBin.{LinkBin}
 use Rattle.tl_cover.specs.declared.row.Row.{Row}
-use Rattle.tl_cover.specs.statement.Covered.{cell, covered}
+use Rattle.tl_cover.specs.statement.Covered.{cell, covered, link_bin}
 use Rattle.tl_monitor.specs.declared.fault.MonitorFault.{MonitorFault}
 use Rattle.tl_monitor.specs.declared.fault.MonitorFault.TheVariants as monitor
 use Rattle.tl_monitor.specs.statement.Knows.{KnowsUnder}
@@ -28,6 +29,17 @@ rows_of (Some p) = p.rows.items
 
 abbrev pub table_in : {w : ℕ} → Covering w → ℕ → List Row
 table_in c i = rows_of (slice_get c.pasts.items i)
+
+-- the bin with this number in a past, and of a link in a covering; None if there is no such link or no such bin
+abbrev pub bin_of : ℕ → Liberties → ℕ → LinkPast → Option LinkBin
+bin_of w l number p = option_map (link_bin w l p.level) (slice_get p.rows.items number)
+
+abbrev pub bin_from : ℕ → Liberties → ℕ → Option LinkPast → Option LinkBin
+bin_from w l number None = None
+bin_from w l number (Some p) = bin_of w l number p
+
+abbrev pub bin_in : {w : ℕ} → Covering w → ℕ → ℕ → Option LinkBin
+bin_in {w} c i number = bin_from w c.liberties number (slice_get c.pasts.items i)
 
 -- the counts of all bins of a link in a past, and of all links in a covering
 abbrev pub cells_of : ℕ → Liberties → LinkPast → List (Option ℕ)

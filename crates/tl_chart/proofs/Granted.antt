@@ -11,7 +11,7 @@ use Rattle.tl_chart.specs.declared.blocks.LinkBlocks.{LinkBlocks}
 use Rattle.tl_chart.specs.statement.Messages.{block_granted, message_block}
 use Rattle.tl_explain.proofs.follows.Links.{blocks_taken}
 use Rattle.tl_explain.specs.code.Recorded.{asked_next, block_asked, block_released, released_next}
-use Rattle.tl_monitor.specs.code.Count.{at}
+use Rattle.tl_monitor.specs.statement.Count.{at}
 use Rattle.tl_rules.specs.statement.History.{begins, is_release_ack, release_of, request_of}
 
 pub granted_none : (w s : ℕ) → block_granted {w = w} s [] ≡ None

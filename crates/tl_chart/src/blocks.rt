@@ -4,7 +4,7 @@ ghost use Rattle.std.specs.Prelude.{ℕ, ◌≡◌, ◌∷◌, []};
 ghost use Rattle.tl_burst.specs.statement.Messages.{History};
 ghost use Rattle.tl_chart.specs.code.Gathered.{KnowsBlocks, granted_next};
 ghost use Rattle.tl_chart.specs.statement.Messages.{message_block};
-ghost use Rattle.tl_monitor.specs.code.Count.{at};
+ghost use Rattle.tl_monitor.specs.statement.Count.{at};
 ghost use Rattle.tl_rules.specs.statement.History.{begins};
 
 use tl_beat::beat::Beat;

@@ -1,7 +1,7 @@
 -- Counts of links, one link after another.
 use Rattle.std.proofs.Common.{◌≡◌, ◌≤◌, ℕ, ◌+◌, Bool, true, false, refl, ap, ◌∙◌, arith, add-one}
 use mir.Val.{bool_byte}
-use Rattle.tl_monitor.specs.code.Count.{count_below, one_if, sum_below}
+use Rattle.tl_monitor.specs.statement.Count.{count_below, one_if, sum_below}
 
 one_is : (b : Bool) → bool_byte b ≡ one_if b
 one_is true = refl

@@ -11,7 +11,7 @@ use Rattle.tl_cover.specs.code.Past.{KnowsUnderWay, no_messages, turned, under_w
 use Rattle.tl_cover.specs.declared.under_way.UnderWay.{UnderWay}
 use Rattle.tl_cover.specs.statement.Scene.{under_way}
 use Rattle.tl_cover.specs.declared.past.LinkPast.{LinkPast}
-use Rattle.tl_monitor.specs.code.Count.{at}
+use Rattle.tl_monitor.specs.statement.Count.{at}
 use Rattle.tl_params.specs.declared.key.Key.{Key}
 use Rattle.tl_params.specs.declared.key.Key.TheVariants.{AcquireOf, ReleaseOf, GrantSink, GrantAckOf}
 use Rattle.tl_rules.proofs.Tables.{neither, sink-next}

@@ -7,7 +7,7 @@ use Rattle.tl_cover.specs.declared.scene.Scene.{Scene}
 use Rattle.tl_cover.specs.declared.scene.Standing.{Standing}
 use Rattle.tl_cover.specs.statement.Scene.{acquiring, answered, asked_of, block_named, granting, holders, is_between, newest}
 use Rattle.tl_cover.specs.statement.Scene.{request_named, scene, standing_of}
-use Rattle.tl_monitor.specs.code.Count.{count_below}
+use Rattle.tl_monitor.specs.statement.Count.{count_below}
 use Rattle.tl_params.specs.declared.key.Key.TheVariants.{AcquireOf, ReleaseOf, GrantSink, GrantAckOf, ProbeOf}
 use Rattle.tl_params.specs.declared.liberties.Liberties.{Liberties}
 use Rattle.tl_params.specs.declared.perm.Perm.TheVariants as perm

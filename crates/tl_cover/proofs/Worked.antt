@@ -19,7 +19,7 @@ use Rattle.tl_cover.specs.statement.Bins.{all_bins}
 use Rattle.tl_cover.specs.statement.Covered.{lines, occurs_on}
 use Rattle.tl_cover.specs.statement.Possible.{is_possible}
 use Rattle.tl_cover.specs.statement.Scene.{probe_at, under_way}
-use Rattle.tl_monitor.specs.code.Count.{sum_below}
+use Rattle.tl_monitor.specs.statement.Count.{sum_below}
 use Rattle.tl_params.specs.declared.level.Level.TheVariants as level
 use Rattle.tl_params.specs.declared.param.Cap.TheVariants as cap
 use Rattle.tl_params.specs.declared.param.Grow.TheVariants as grow

@@ -12,7 +12,7 @@ ghost use Rattle.tl_cover.specs.statement.Bins.{all_bins};
 ghost use Rattle.tl_cover.specs.statement.Covered.{cell};
 ghost use Rattle.tl_cover.specs.statement.Covers.{bin_of, cells_of};
 ghost use Rattle.tl_cover.specs.statement.Scene as scenes;
-ghost use Rattle.tl_monitor.specs.code.Count.{at};
+ghost use Rattle.tl_monitor.specs.statement.Count.{at};
 ghost use Rattle.tl_params.specs.declared.key.Key.TheVariants.{AcquireOf, ReleaseOf};
 ghost use Rattle.tl_rules.specs.code.Tables.{sink_next};
 ghost use Rattle.tl_rules.specs.statement.History.{begins, ends, closes, opens, grants};

@@ -3,7 +3,7 @@
 ghost use Rattle.std.specs.Prelude.{ℕ, ◌≡◌, []};
 ghost use Rattle.tl_burst.specs.statement.Messages.{History};
 ghost use Rattle.tl_explain.specs.code.Recorded.{AreBlocks, asked_next, block_of, released_next};
-ghost use Rattle.tl_monitor.specs.code.Count.{at};
+ghost use Rattle.tl_monitor.specs.statement.Count.{at};
 
 use tl_beat::beat::Beat;
 use tl_monitor::byte_table::ByteTable;

@@ -19,7 +19,7 @@ use Rattle.tl_rules.specs.statement.Conformance.{admits, answers, comes_in_reque
 use Rattle.tl_rules.specs.statement.Liberties.{broken_in_order_under, broken_order_under}
 use Rattle.tl_rules.specs.code.Open.{open_request_under, request_fields}
 use Rattle.tl_rules.proofs.Open.{answered}
-use Rattle.tl_monitor.specs.code.Count.{at}
+use Rattle.tl_monitor.specs.statement.Count.{at}
 use Rattle.tl_monitor.specs.code.LinkState.{is_access, is_first}
 use Rattle.tl_monitor.specs.code.Keeps.{Keeps}
 use Rattle.tl_monitor.specs.declared.link_state.LinkState.{LinkState}

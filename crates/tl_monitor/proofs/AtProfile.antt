@@ -11,14 +11,12 @@ use Rattle.tl_rules.specs.statement.Conformance.{Trace, broken_after, on_link}
 use Rattle.tl_rules.specs.statement.History.{held}
 use Rattle.tl_rules.specs.statement.Liberties.{held_under}
 use Rattle.tl_rules.proofs.Profiles.{after-of, held-of, on_link-of}
-use Rattle.tl_monitor.specs.code.Blocks.{is_held}
-use Rattle.tl_monitor.specs.code.Count.{count_below, one_if}
+use Rattle.tl_monitor.specs.statement.Numbers.{is_held, entry_count, entry_count_under, IsMoreUnder, IsMoreWhereRefused}
+use Rattle.tl_monitor.specs.statement.Count.{count_below, one_if}
 use Rattle.tl_monitor.specs.statement.Knows.{Answers, IsNew, IsNewUnder, broken, fault_of, fault_under, held_on}
 use Rattle.tl_monitor.specs.statement.Knows.{held_on_under}
 use Rattle.tl_monitor.specs.declared.monitor.Monitor.{Monitor}
 use Rattle.tl_monitor.proofs.Knowing.{to-profile}
-use Rattle.tl_monitor.specs.statement.Numbers.{entry_count, entry_count_under}
-use Rattle.tl_monitor.specs.statement.Numbers.{IsMoreUnder, IsMoreWhereRefused}
 use Rattle.tl_monitor.specs.declared.fault.MonitorFault.{MonitorFault}
 use Rattle.tl_monitor.specs.declared.fault.MonitorFault.TheVariants as monitor
 use Rattle.tl_monitor.proofs.Counts.{sum-same}

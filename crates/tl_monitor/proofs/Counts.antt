@@ -6,7 +6,7 @@ use Rattle.std.specs.Prelude.{slice_index_or}
 use mir.Val.{bool_byte}
 use Rattle.std.proofs.lemmas.Bool.{cases_eq, eq-eqb, ne_eqb}
 use Rattle.std.proofs.lemmas.List.{get_or_default, get_or-set_same, get_or-set_other}
-use Rattle.tl_monitor.specs.code.Count.{sum_below, count_below, one_if, at}
+use Rattle.tl_monitor.specs.statement.Count.{sum_below, count_below, one_if, at}
 
 pub sum-same : (n : ℕ) (f g : ℕ → ℕ) → ((i : ℕ) → i < n → f i ≡ g i) → sum_below n f ≡ sum_below n g
 unfolding sum_below

@@ -15,7 +15,7 @@ use Rattle.tl_rules.specs.statement.History.{asks_for, capped, is_grant, pending
 use Rattle.tl_rules.specs.statement.Liberties.{held_under}
 use Rattle.tl_monitor.specs.code.Bursts.{IsOf}
 use Rattle.tl_monitor.specs.code.Coming.{coming_by, coming_in, given_by_control, is_for}
-use Rattle.tl_monitor.specs.code.Count.{at}
+use Rattle.tl_monitor.specs.statement.Count.{at}
 use Rattle.tl_monitor.specs.code.Keeps.{Keeps}
 use Rattle.tl_monitor.specs.declared.bursts.Unfinished.{Unfinished}
 use Rattle.tl_monitor.specs.declared.link_state.LinkState.{LinkState}

@@ -25,7 +25,7 @@ use Rattle.tl_rules.specs.statement.Liberties.{broken_after_under}
 use Rattle.tl_rules.specs.code.Open.{request_fields}
 use Rattle.tl_rules.specs.code.Tables.{kept_request, kept_release, kept_grant, kept_block, release_fields, block_next}
 use Rattle.tl_rules.specs.code.Tables.{bears_on, held_with}
-use Rattle.tl_monitor.specs.code.Count.{at}
+use Rattle.tl_monitor.specs.statement.Count.{at}
 use Rattle.tl_monitor.specs.code.Bursts.{burst_on}
 use Rattle.tl_monitor.specs.code.LinkState.{is_first, touched, is_block, block_of_request, block_of_release}
 use Rattle.tl_monitor.specs.code.LinkState as link_state

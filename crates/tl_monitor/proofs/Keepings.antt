@@ -25,7 +25,7 @@ use Rattle.tl_rules.specs.statement.Liberties.{broken_after_under, given_by_gran
 use Rattle.tl_rules.specs.code.Tables.{kept_request, kept_release, kept_block, request_next, release_next, sink_next}
 use Rattle.tl_rules.specs.code.Tables.{block_next, bears_on, came, came_early}
 use Rattle.tl_rules.proofs.Tables.{request-next, release-next, sink-next, block-next}
-use Rattle.tl_monitor.specs.code.Count.{at}
+use Rattle.tl_monitor.specs.statement.Count.{at}
 use Rattle.tl_monitor.specs.code.KnownBlocks.{known_in}
 use Rattle.tl_monitor.specs.code.Bursts.{burst_on, IsOf}
 use Rattle.tl_monitor.specs.code.LinkState.{IsEmpty, is_first, touched, is_block, sink_with, block_of_request, IsNext}

@@ -24,7 +24,8 @@ use Rattle.tl_monitor.proofs.OnLink.{other_link, own_link}
 use Rattle.tl_monitor.specs.declared.monitor.Monitor.{Monitor}
 use Rattle.tl_monitor.specs.declared.monitor.MonitoredLink.{MonitoredLink}
 use Rattle.tl_params.specs.statement.Config.{IsCount}
-use Rattle.tl_monitor.specs.statement.Knows.{Knows, KnowsUnder, AreEmpty, levels_of, Answers}
+use Rattle.tl_monitor.specs.statement.Knows.{Knows, KnowsUnder, levels_of, Answers}
+use Rattle.tl_monitor.specs.code.Fresh.{AreEmpty}
 use Rattle.tl_monitor.specs.statement.Knows.{AnswersTraceUnder, fault_under, broken, trace_fault_of}
 use Rattle.tl_monitor.specs.declared.fault.MonitorFault.{MonitorFault}
 use Rattle.tl_monitor.specs.declared.fault.MonitorFault.TheVariants as monitor

@@ -4,7 +4,7 @@ use Rattle.std.specs.Prelude.{if◌then◌else◌, ◌==◌, List, Result, Ok, E
 use Rattle.std.proofs.lemmas.Bool.{cases_eq, eq-eqb, ne_eqb}
 use Rattle.tl_rules.specs.declared.table.Block.{Block}
 use Rattle.tl_rules.specs.code.Tables.{empty_block}
-use Rattle.tl_monitor.specs.code.Count.{sum_below}
+use Rattle.tl_monitor.specs.statement.Count.{sum_below}
 use Rattle.tl_monitor.specs.code.Blocks.{block_in, open_of}
 use Rattle.tl_monitor.specs.code.KnownBlocks.{Known, known_in}
 use Rattle.tl_monitor.proofs.Counts.{sum-changed, sum-le}

@@ -6,7 +6,7 @@ use Rattle.tl_params.specs.declared.key.Key.TheVariants.{RequestSource, ReleaseS
 use Rattle.tl_params.specs.declared.liberties.Liberties.{Liberties}
 use Rattle.tl_rules.specs.statement.History.{pending}
 use Rattle.tl_rules.proofs.Tables.{pending-request, pending-release, pending-probe, pending-grant}
-use Rattle.tl_monitor.specs.code.Count.{at}
+use Rattle.tl_monitor.specs.statement.Count.{at}
 use Rattle.tl_monitor.specs.code.KnownBlocks.{known_in}
 use Rattle.tl_monitor.specs.code.Keeps.{Keeps}
 use Rattle.tl_monitor.specs.declared.link_state.LinkState.{LinkState}

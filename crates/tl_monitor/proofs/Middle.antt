@@ -26,7 +26,7 @@ use Rattle.tl_monitor.specs.code.Lawful.{IsLawful, AreLawful}
 use Rattle.tl_monitor.specs.declared.bursts.Unfinished.{Unfinished}
 use Rattle.tl_monitor.specs.declared.link_state.LinkState.{LinkState}
 use Rattle.tl_monitor.specs.declared.monitor.MonitoredLink.{MonitoredLink}
-use Rattle.tl_monitor.specs.statement.Knows.{AreEmpty}
+use Rattle.tl_monitor.specs.code.Fresh.{AreEmpty}
 
 -- a beat that goes on with a response that breaks no rule by itself breaks none by itself
 lawful_later : {w : ℕ} (lib : Liberties) (l : Level) (x y : BeatD w) → illegal_under lib l channel.D (beat.D y) ≡ None

@@ -18,13 +18,13 @@ use Rattle.tl_rules.specs.statement.Conformance.{Trace, on_link}
 use Rattle.tl_rules.specs.statement.Liberties.{broken_after_under, held_under}
 use Rattle.tl_rules.specs.code.Tables.{kept_block, block_next, bears_on, empty_block}
 use Rattle.tl_rules.proofs.Tables.{block-next, pending-probe, pending-grant}
-use Rattle.tl_monitor.specs.code.Count.{sum_below, count_below, one_if, at}
-use Rattle.tl_monitor.specs.code.Blocks.{is_held, open_of}
+use Rattle.tl_monitor.specs.statement.Count.{sum_below, count_below, one_if, at}
+use Rattle.tl_monitor.specs.code.Blocks.{open_of}
+use Rattle.tl_monitor.specs.statement.Numbers.{is_held, AnyMore, entry_count_under, numbers_under}
 use Rattle.tl_monitor.specs.code.KnownBlocks.{known_in}
 use Rattle.tl_monitor.specs.code.LinkState.{came_in, is_first, touched, is_block, entries_in, OpensBlock}
 use Rattle.tl_monitor.specs.code.LinkState as link_state
 use Rattle.tl_monitor.specs.code.Keeps.{Keeps}
-use Rattle.tl_monitor.specs.statement.Numbers.{AnyMore, entry_count_under, numbers_under}
 use Rattle.tl_monitor.specs.declared.link_state.LinkState.{LinkState}
 use Rattle.tl_monitor.proofs.Counts.{sum-same, sum-changed, sum-both}
 use Rattle.tl_monitor.proofs.Keeping.{begins-is, ends-is, same_touched}

@@ -16,10 +16,11 @@ use Rattle.tl_params.specs.declared.perm.Perm.TheVariants as perm
 use Rattle.tl_rules.specs.declared.table.PendingProbe.{PendingProbe}
 use Rattle.tl_rules.specs.declared.table.Block.{Block}
 use Rattle.tl_rules.specs.code.Tables.{empty_block}
-use Rattle.tl_monitor.specs.code.Count.{sum_below, one_if}
+use Rattle.tl_monitor.specs.statement.Count.{sum_below, one_if}
 use Rattle.tl_monitor.specs.code.Blocks.{value_found, value_in, with_value, IsValue, AllOpen, entries_of, tree_of}
 use Rattle.tl_monitor.specs.code.Blocks.{tree_in, block_found, block_or_empty, block_in}
-use Rattle.tl_monitor.specs.code.Blocks.{is_held, open_of, with_seen, AreOpen, IsSeen}
+use Rattle.tl_monitor.specs.code.Blocks.{open_of, with_seen, AreOpen, IsSeen}
+use Rattle.tl_monitor.specs.statement.Numbers.{is_held}
 use Rattle.tl_monitor.proofs.Counts.{sum-changed, sum-none, sum-le, byte-one, one-le}
 
 pub open-empty : open_of empty_block ≡ 0

@@ -1,7 +1,7 @@
 pub mod Blocks
 pub mod Bursts
 pub mod Coming
-pub mod Count
+pub mod Fresh
 pub mod Keeps
 pub mod KnownBlocks
 pub mod LinkState

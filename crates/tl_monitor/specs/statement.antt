@@ -1,3 +1,4 @@
+pub mod Count
 pub mod Granting
 pub mod Knows
 pub mod Numbers

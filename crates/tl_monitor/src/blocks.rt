@@ -5,8 +5,9 @@ ghost use Rattle.std.specs.Prelude.{OnErr, if◌then◌else◌, ◌==◌, ◌≡
 ghost use Rattle.std.specs.Option.{option_copied};
 ghost use Rattle.tl_rules.specs.declared.table.Block.{Block};
 ghost use Rattle.tl_rules.specs.code.Tables.{empty_block};
-ghost use Rattle.tl_monitor.specs.code.Count.{sum_below};
-ghost use Rattle.tl_monitor.specs.code.Blocks.{block_or_empty, block_in, entries_of, is_held, open_of, tree_of};
+ghost use Rattle.tl_monitor.specs.statement.Count.{sum_below};
+ghost use Rattle.tl_monitor.specs.code.Blocks.{block_or_empty, block_in, entries_of, open_of, tree_of};
+ghost use Rattle.tl_monitor.specs.statement.Numbers.{is_held};
 ghost use Rattle.tl_monitor.specs.code.Blocks.{value_found, value_in, with_seen, with_value, AllOpen, AreOpen, IsSeen, IsValue};
 
 use std::alloc::{AllocError, Global};

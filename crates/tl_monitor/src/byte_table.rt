@@ -1,7 +1,7 @@
 //! A table whose keys are bytes.
 
 ghost use Rattle.std.specs.Prelude.{ℕ, List, Option, None, is_some, if◌then◌else◌, ◌==◌, ◌≡◌, ◌≤◌};
-ghost use Rattle.tl_monitor.specs.code.Count.{at, count_below};
+ghost use Rattle.tl_monitor.specs.statement.Count.{at, count_below};
 
 use std::marker::Model;
 

@@ -2,7 +2,7 @@
 
 ghost use Rattle.std.specs.Prelude.{ℕ, OnOk, OnErr, if◌then◌else◌, ◌==◌, ◌≡◌, ◌≢◌, ◌<◌, ◌≤◌, ◌^◌, ◌*◌};
 ghost use Rattle.tl_rules.specs.code.Tables.{block_next, empty_block};
-ghost use Rattle.tl_monitor.specs.code.Count.{sum_below};
+ghost use Rattle.tl_monitor.specs.statement.Count.{sum_below};
 ghost use Rattle.tl_monitor.specs.code.Blocks.{block_in, open_of};
 ghost use Rattle.tl_monitor.specs.code.KnownBlocks.{Known, known_in};
 

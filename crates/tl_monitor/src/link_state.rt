@@ -8,7 +8,7 @@ ghost use Rattle.tl_beat.specs.declared.beat.Beat.TheVariants as beat;
 ghost use Rattle.tl_rules.specs.code.Open.{request_fields};
 ghost use Rattle.tl_rules.specs.statement.History.{is_grant, is_release_ack};
 ghost use Rattle.tl_rules.specs.code.Tables.{empty_block, request_next, release_next, release_fields};
-ghost use Rattle.tl_monitor.specs.code.Count.{at};
+ghost use Rattle.tl_monitor.specs.statement.Count.{at};
 ghost use Rattle.tl_monitor.specs.code.Blocks.{open_of};
 ghost use Rattle.tl_monitor.specs.code.KnownBlocks.{known_in};
 ghost use Rattle.tl_monitor.specs.code.LinkState.{is_access, is_block, is_first, completes, sink_with, touched};

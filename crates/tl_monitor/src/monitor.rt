@@ -44,7 +44,8 @@ impl<const W: usize> Monitor<W> {
     ghost use Rattle.tl_monitor.specs.statement.Numbers.{IsMoreUnder, IsMoreWhereRefused, entry_count, entry_count_under};
     ghost use Rattle.tl_monitor.specs.statement.Knows.{Knows, KnowsUnder, IsNew, IsNewUnder, Answers};
     ghost use Rattle.tl_monitor.specs.statement.Knows.{fault_of, fault_under, recorded_after, closed_after, held_on_under};
-    ghost use Rattle.tl_monitor.specs.statement.Knows.{request_on, probe_on, held_on, begins_on, AreEmpty};
+    ghost use Rattle.tl_monitor.specs.statement.Knows.{request_on, probe_on, held_on, begins_on};
+    ghost use Rattle.tl_monitor.specs.code.Fresh.{AreEmpty};
 
     /// Links of these levels that have carried nothing.
     fn empty_links(alloc: Global, levels: &[Level]) -> Result<Vec<MonitoredLink>, AllocError>

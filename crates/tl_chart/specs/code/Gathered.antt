@@ -11,7 +11,7 @@ use Rattle.tl_chart.specs.declared.mark.Mark.{Mark}
 use Rattle.tl_chart.specs.statement.Drawn.{Drawn, Holding, drawn}
 use Rattle.tl_chart.specs.statement.Messages.{block_granted}
 use Rattle.tl_explain.specs.code.Recorded.{AreBlocks}
-use Rattle.tl_monitor.specs.code.Count.{at}
+use Rattle.tl_monitor.specs.statement.Count.{at}
 use Rattle.tl_params.specs.declared.perm.Perm.{Perm}
 use Rattle.tl_rules.specs.statement.Conformance.{Trace, on_link}
 use Rattle.tl_rules.specs.statement.History.{is_grant}

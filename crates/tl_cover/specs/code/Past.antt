@@ -16,7 +16,7 @@ use Rattle.tl_cover.specs.declared.past.LinkPast.{LinkPast}
 use Rattle.tl_cover.specs.declared.scene.ProbeAt.{ProbeAt}
 use Rattle.tl_cover.specs.declared.under_way.UnderWay.{UnderWay}
 use Rattle.tl_cover.specs.statement.Scene.{cap_param, newest, under_way}
-use Rattle.tl_monitor.specs.code.Count.{at}
+use Rattle.tl_monitor.specs.statement.Count.{at}
 use Rattle.tl_params.specs.declared.key.Key.TheVariants.{AcquireOf, ReleaseOf, GrantSink, GrantAckOf}
 use Rattle.tl_rules.specs.code.Open.{request_fields}
 use Rattle.tl_rules.specs.declared.past.Request.{Request}

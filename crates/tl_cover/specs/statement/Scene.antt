@@ -12,12 +12,12 @@ use Rattle.tl_burst.specs.statement.Messages.{History, on}
 use Rattle.tl_cover.specs.declared.scene.ProbeAt.{ProbeAt}
 use Rattle.tl_cover.specs.declared.scene.Scene.{Scene}
 use Rattle.tl_cover.specs.declared.scene.Standing.{Standing}
-use Rattle.tl_monitor.specs.code.Count.{count_below}
+use Rattle.tl_monitor.specs.statement.Count.{count_below}
 use Rattle.tl_params.specs.declared.key.Key.TheVariants.{AcquireOf, ReleaseOf, GrantSink, GrantAckOf, ProbeOf}
 use Rattle.tl_params.specs.declared.liberties.Liberties.{Liberties}
 use Rattle.tl_params.specs.declared.perm.Perm.{Perm}
 use Rattle.tl_params.specs.declared.perm.Perm.TheVariants as perm
-use Rattle.tl_rules.specs.code.Open.{request_fields}
+use Rattle.tl_rules.specs.statement.OpenMessages.{request_fields}
 use Rattle.tl_rules.specs.declared.past.Request.{Request}
 use Rattle.tl_rules.specs.statement.Conformance.{Trace, on_link, same_perm}
 use Rattle.tl_rules.specs.statement.History.{begins, block_at, closes, ends, is_grant, is_release_ack, opens, pending}

@@ -24,7 +24,7 @@ use Rattle.tl_explain.specs.declared.blocks.Blocks.{Blocks}
 use Rattle.tl_monitor.specs.declared.bursts.Bursts.{Bursts}
 use Rattle.tl_beat.specs.declared.channel.Channel.{Channel}
 use Rattle.tl_beat.specs.declared.channel.Channel.TheVariants as channel
-use Rattle.tl_monitor.specs.code.Count.{at}
+use Rattle.tl_monitor.specs.statement.Count.{at}
 use Rattle.tl_explain.specs.statement.Evidence.{last_opening, last_where, mention_of, told}
 use Rattle.tl_explain.specs.code.Recorded.{AreBlocks, IsBegun, IsMoment, IsTurn}
 use Rattle.tl_explain.specs.code.Recorded.{begun_by}

@@ -24,7 +24,7 @@ use Rattle.tl_explain.specs.declared.bursts.Begun.{Begun}
 use Rattle.tl_explain.specs.declared.recorder.Recorder.{Recorder}
 use Rattle.tl_beat.specs.declared.channel.Channel.{Channel}
 use Rattle.tl_beat.specs.declared.channel.Channel.TheVariants as channel
-use Rattle.tl_monitor.specs.code.Count.{at}
+use Rattle.tl_monitor.specs.statement.Count.{at}
 use Rattle.tl_explain.specs.statement.Evidence.{last_where, burst_opening, told}
 use Rattle.tl_explain.specs.code.Recorded.{AreBlocks, AreTurns, IsBegun, IsHeld, IsMoment, IsRecordUnder, IsTurn}
 use Rattle.tl_explain.specs.code.Recorded.{asked_next}

@@ -16,7 +16,7 @@ use Rattle.tl_rules.specs.statement.History.{is_release, request_of, release_of}
 use Rattle.tl_rules.specs.statement.Liberties.{held_under}
 use Rattle.tl_params.specs.declared.liberties.Liberties.{Liberties}
 use Rattle.tl_params.specs.statement.Liberties.{no_liberties}
-use Rattle.tl_monitor.specs.code.Count.{at}
+use Rattle.tl_monitor.specs.statement.Count.{at}
 use Rattle.tl_explain.specs.declared.told.Told.{Told}
 use Rattle.tl_beat.specs.statement.Control.{control_of}
 use Rattle.tl_beat.specs.declared.control.Control.{Control}

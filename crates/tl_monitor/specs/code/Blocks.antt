@@ -1,14 +1,13 @@
 -- What a table of blocks says of each.
-use Rattle.std.specs.Prelude.{ℕ, ◌+◌, ◌%◌, ◌<◌, ◌≡◌, Bool, true, false, List, [], map, Option, Some, None, is_some}
+use Rattle.std.specs.Prelude.{ℕ, ◌+◌, ◌%◌, ◌<◌, ◌≡◌, true, List, [], map, Option, Some, None, is_some}
 use Rattle.std.specs.Prelude.{slice_index_or, slice_set}
 use Rattle.std.specs.BTreeMap.{BTreeMap, is_at}
 use Rattle.std.specs.Map.{lookup, set_value}
 use Rattle.std.specs.Ordering.{nat_cmp}
-use Rattle.tl_params.specs.declared.perm.Perm.{Perm}
-use Rattle.tl_params.specs.declared.perm.Perm.TheVariants as perm
 use Rattle.tl_rules.specs.declared.table.Block.{Block}
 use Rattle.tl_rules.specs.code.Tables.{empty_block}
-use Rattle.tl_monitor.specs.code.Count.{one_if}
+use Rattle.tl_monitor.specs.statement.Count.{one_if}
+use Rattle.tl_monitor.specs.statement.Numbers.{is_held}
 
 -- ---- one tree of blocks
 
@@ -27,11 +26,6 @@ value_in entries k = block_or_empty (value_found entries k)
 abbrev pub with_value : List (ℕ × Block) → ℕ → Option Block → List (ℕ × Block)
 with_value entries k None = entries
 with_value entries k (Some b) = set_value (is_at (nat_cmp k)) entries b
-
-abbrev pub is_held : Perm → Bool
-is_held perm.None = false
-is_held perm.Branch = true
-is_held perm.Trunk = true
 
 -- how many keys of a block are pending, and one more if it is held
 unfoldable pub open_of : Block → ℕ

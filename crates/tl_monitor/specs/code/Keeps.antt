@@ -10,7 +10,7 @@ use Rattle.tl_params.specs.declared.key.Key.TheVariants.{GrantSink}
 use Rattle.tl_params.specs.declared.liberties.Liberties.{Liberties}
 use Rattle.tl_rules.specs.statement.History.{pending, is_release_ack}
 use Rattle.tl_rules.specs.code.Tables.{kept_request, kept_release, kept_grant, kept_block}
-use Rattle.tl_monitor.specs.code.Count.{at}
+use Rattle.tl_monitor.specs.statement.Count.{at}
 use Rattle.tl_monitor.specs.code.KnownBlocks.{known_in}
 use Rattle.tl_monitor.specs.code.Bursts.{burst_on, IsOf}
 use Rattle.tl_monitor.specs.code.LinkState.{IsNext, OpensBlock}

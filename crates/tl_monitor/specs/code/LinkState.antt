@@ -15,7 +15,7 @@ use Rattle.tl_rules.specs.declared.past.Request.{Request}
 use Rattle.tl_rules.specs.declared.table.Release.{Release}
 use Rattle.tl_rules.specs.statement.History.{block_at, capped, is_acquire, is_grant, is_probe, is_release, is_release_ack, reported}
 use Rattle.tl_rules.specs.code.Tables.{request_next, release_next, block_next, empty_block}
-use Rattle.tl_monitor.specs.code.Count.{at, count_below, sum_below}
+use Rattle.tl_monitor.specs.statement.Count.{at, count_below, sum_below}
 use Rattle.tl_monitor.specs.code.Blocks.{open_of}
 use Rattle.tl_monitor.specs.code.KnownBlocks.{known_in}
 use Rattle.tl_monitor.specs.code.Bursts.{burst_on, burst_with, is_last}

@@ -14,10 +14,9 @@ use Rattle.tl_params.specs.statement.Liberties.{liberties_of}
 use Rattle.tl_rules.specs.statement.Liberties.{broken_on_link_under, first_fault_under, held_under}
 use Rattle.tl_rules.specs.statement.Conformance.{Trace, on_link, broken_on_link, first_fault}
 use Rattle.tl_rules.specs.statement.History.{begins, held}
-use Rattle.tl_rules.specs.code.Open.{open_probe, open_request}
+use Rattle.tl_rules.specs.statement.OpenMessages.{open_probe, open_request}
 use Rattle.tl_rules.specs.declared.past.Probe.{Probe}
 use Rattle.tl_rules.specs.declared.past.Request.{Request}
-use Rattle.tl_monitor.specs.code.LinkState.{IsEmpty}
 use Rattle.tl_monitor.specs.code.Keeps.{Keeps}
 use Rattle.tl_monitor.specs.declared.monitor.Monitor.{Monitor}
 use Rattle.tl_monitor.specs.declared.monitor.MonitoredLink.{MonitoredLink}
@@ -64,11 +63,6 @@ held_on_under l levels link block t =
 -- the beat begins a message on its link; it doesn't on a link without a level
 abbrev pub begins_on : {w : ℕ} → List Level → Link → Beat w → Trace w → Bool
 begins_on levels link x t = if nat_lt link.0 (length levels) then begins x (on_link link.0 t) else false
-
--- links of these levels that have carried nothing
-pub record AreEmpty (levels : List Level) (links : List MonitoredLink) : Type 0 where
-  pub levels_are : levels_of links ≡ levels
-  pub all_empty : (n : ℕ) (d : MonitoredLink) → n < length levels → IsEmpty (slice_index_or links n d).state
 
 -- a new monitor with these liberties, or the reason why there is none
 abbrev pub IsNewUnder : {w : ℕ} → List Level → Liberties → Result (Monitor w) MonitorFault → Type 0

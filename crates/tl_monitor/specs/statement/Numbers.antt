@@ -1,5 +1,5 @@
 -- The numbers of pending keys and of blocks held on a link.
-use Rattle.std.specs.Prelude.{ℕ, List, [], ◌∷◌, ◌<◌, ◌⊎◌, ◌^◌, if◌then◌else◌, length, nat_lt, Result, Err, ⊤}
+use Rattle.std.specs.Prelude.{ℕ, Bool, true, false, List, [], ◌∷◌, ◌<◌, ◌⊎◌, ◌^◌, if◌then◌else◌, length, nat_lt, Result, Err, ⊤}
 use Rattle.std.specs.List.{sum}
 use Rattle.tl_beat.specs.declared.beat.Beat.{Beat}
 use Rattle.tl_beat.specs.declared.beat.Link.{Link}
@@ -8,13 +8,20 @@ use Rattle.tl_params.specs.declared.key.Key.TheVariants.{RequestSource, ReleaseS
 use Rattle.tl_params.specs.declared.key.Key.TheVariants.{GrantAckOf, ProbeOf}
 use Rattle.tl_params.specs.declared.level.Level.{Level}
 use Rattle.tl_params.specs.declared.liberties.Liberties.{Liberties}
+use Rattle.tl_params.specs.declared.perm.Perm.{Perm}
+use Rattle.tl_params.specs.declared.perm.Perm.TheVariants as perm
 use Rattle.tl_rules.specs.statement.Conformance.{Trace, on_link}
 use Rattle.tl_rules.specs.statement.History.{pending, held}
 use Rattle.tl_rules.specs.statement.Liberties.{held_under}
-use Rattle.tl_monitor.specs.code.Count.{count_below}
-use Rattle.tl_monitor.specs.code.Blocks.{is_held}
+use Rattle.tl_monitor.specs.statement.Count.{count_below}
 use Rattle.tl_monitor.specs.declared.fault.MonitorFault.{MonitorFault}
 use Rattle.tl_monitor.specs.declared.fault.MonitorFault.TheVariants as monitor
+
+-- a permission to read or to write
+abbrev pub is_held : Perm → Bool
+is_held perm.None = false
+is_held perm.Branch = true
+is_held perm.Trunk = true
 
 -- The number of pending keys of each kind, and of blocks not held as None, under liberties. Sources and sinks are
 -- bytes, and block numbers have 32 bits.

@@ -18,7 +18,7 @@ use Rattle.tl_together.specs.code.Following.{Follows}
 use Rattle.tl_monitor.specs.code.LinkState.{is_block}
 use Rattle.tl_burst.specs.statement.Messages.{History}
 use Rattle.tl_rules.specs.statement.History.{ends}
-use Rattle.tl_monitor.specs.code.Count.{at}
+use Rattle.tl_monitor.specs.statement.Count.{at}
 use Rattle.tl_monitor.specs.declared.fault.MonitorFault.{MonitorFault}
 use Rattle.tl_monitor.specs.declared.fault.MonitorFault.TheVariants as monitor
 use Rattle.tl_together.specs.declared.breach.Breach.TheVariants.{OfLink}

@@ -1,5 +1,5 @@
 use Rattle.std.proofs.Common.{◌≡◌, ◌<◌, ℕ, arith, ap, ◌∙◌, length}
-use Rattle.tl_monitor.specs.code.Count.{count_below}
+use Rattle.tl_monitor.specs.statement.Count.{count_below}
 use Rattle.tl_cover.specs.statement.Scene.{acquires_beside}
 use Rattle.tl_cover.proofs.Counted.{count_next, count_none, few_next}
 use Rattle.tl_cover.proofs.covering.Covering.acquiring.Goals as goal

@@ -5,7 +5,7 @@ use Rattle.tl_cover.proofs.Scenes.{opening_none, opening_some}
 use Rattle.tl_monitor.proofs.Within.{begins_within}
 use Rattle.tl_cover.specs.statement.Scene.{asked_of, standing_of}
 use Rattle.tl_monitor.proofs.Counts.{sum-same}
-use Rattle.tl_monitor.specs.code.Count.{one_if}
+use Rattle.tl_monitor.specs.statement.Count.{one_if}
 use Rattle.tl_rules.specs.statement.Conformance.{on_link}
 use Rattle.tl_cover.proofs.covering.Covering.opening.Goals as goal
 

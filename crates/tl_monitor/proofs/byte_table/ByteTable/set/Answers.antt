@@ -1,5 +1,5 @@
 use Rattle.std.proofs.Common.{arith, ◌∙◌, ap, ◌≡◌}
-use Rattle.tl_monitor.specs.code.Count.{one_if}
+use Rattle.tl_monitor.specs.statement.Count.{one_if}
 use Rattle.std.specs.Prelude.{is_some}
 use Rattle.tl_monitor.proofs.Counts.{counted-before, counted-set, counted-le, one-read, byte-one, byte-le}
 use Rattle.tl_monitor.proofs.byte_table.ByteTable.set.Goals as goal

@@ -11,7 +11,7 @@ use Rattle.tl_params.specs.declared.config.NewFault.{NewFault}
 use Rattle.tl_params.specs.declared.config.NewFault.TheVariants.{Memory}
 use Rattle.tl_params.specs.declared.level.Level.{Level}
 use Rattle.tl_params.specs.declared.level.Level.TheVariants as level
-use Rattle.tl_client.specs.code.KnowsAny.{IsFaultAt}
+use Rattle.tl_client.specs.statement.Fault.{IsFaultAt}
 use Rattle.tl_params.specs.statement.Config.{config_fault, client_fault, blocks_fit, trackers_fit, all_sources_fit}
 use Rattle.tl_params.specs.statement.Range.{is_from_to}
 use Rattle.tl_params.specs.statement.Refusal.{ok_unless}

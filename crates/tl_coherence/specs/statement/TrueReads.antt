@@ -8,7 +8,7 @@ use Rattle.tl_beat.specs.declared.opcode.OpD.TheVariants as d
 use Rattle.tl_burst.specs.statement.Burst.{lanes_at}
 use Rattle.tl_burst.specs.statement.Messages.{unfinished}
 use Rattle.tl_params.specs.declared.config.Config.{Config}
-use Rattle.tl_rules.specs.code.Open.{open_request}
+use Rattle.tl_rules.specs.statement.OpenMessages.{open_request}
 use Rattle.tl_rules.specs.statement.Conformance.{on_link}
 use Rattle.tl_rules.specs.statement.Effect.{Memory, as_payload, bytes_from}
 use Rattle.tl_rules.specs.statement.History.{block_at, request_of}

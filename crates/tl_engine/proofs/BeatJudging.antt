@@ -21,7 +21,8 @@ use Rattle.tl_engine.specs.declared.beat_judge.BeatJudge.{BeatJudge}
 use Rattle.tl_engine.specs.declared.beat_judge.BeatJudge.TheVariants.{OfAll, OfLinks}
 use Rattle.tl_engine.specs.declared.fault.Fault.TheVariants.{Rule as Breaks}
 use Rattle.tl_engine.specs.statement.Coherent.{fault_of_breach}
-use Rattle.tl_engine.specs.code.Watching.{JudgesBeat, KnowsBeats, faults_by}
+use Rattle.tl_engine.specs.code.Watching.{JudgesBeat, KnowsBeats}
+use Rattle.tl_engine.specs.statement.JudgedSo.{faults_by}
 
 pub whole : (o : Option Breach) → of_all.broken o ≡ None → o ≡ None
 whole None e = refl

@@ -35,9 +35,9 @@ use Rattle.tl_monitor.specs.statement.Knows.{KnowsUnder, begins_on, fault_under}
 use Rattle.tl_engine.specs.code.Charting.{EndsChart, EndsCharting, EndsJudge, IsBegun, KnowsChart, KnowsCharting}
 use Rattle.tl_engine.specs.code.Charting.{GathersLine, KnowsJudge, fault_of_chart, gatherer_in}
 use Rattle.tl_engine.specs.code.Judging.{Ends, Finishes, Judges, Stops}
-use Rattle.tl_engine.specs.code.Lines.{IsOpen, lines_of}
+use Rattle.tl_engine.specs.statement.Lines.{IsOpen, lines_of}
 use Rattle.tl_engine.specs.code.Progress.{HasAll}
-use Rattle.tl_engine.specs.code.Run.{EndsAs}
+use Rattle.tl_engine.specs.statement.Run.{EndsAs}
 use Rattle.tl_engine.specs.code.LinkWatching.{KnowsTrace}
 use Rattle.tl_engine.specs.code.TraceJudging.{KnowsBeats}
 use Rattle.tl_engine.specs.code.Watching.{end_by}

@@ -19,7 +19,7 @@ use Rattle.tl_beat.proofs.Faults.{reading-fault}
 use Rattle.tl_beat.proofs.ReadLines.{reading-spells}
 use Rattle.tl_beat.specs.statement.First.{first_if}
 use Rattle.std.specs.Result.{result_err}
-use Rattle.tl_engine.specs.code.Lines.{IsOpen}
+use Rattle.tl_engine.specs.statement.Lines.{IsOpen}
 use Rattle.tl_engine.specs.statement.Fault.{fault_text}
 use Rattle.tl_explain.specs.statement.Text.{text_of}
 

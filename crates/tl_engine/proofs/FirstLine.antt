@@ -8,7 +8,7 @@ use Rattle.std.proofs.lemmas.Simd.{run_in_chunk_fails, run_in_chunk_stops}
 use Rattle.std.specs.List.{prefix_len}
 use Rattle.std.specs.Prelude.{◌==◌, not}
 use Rattle.memchr.specs.Find.{NoneBefore, Passes, is_byte}
-use Rattle.tl_engine.specs.code.Lines.{LacksLf, IsLine}
+use Rattle.tl_engine.specs.statement.Lines.{LacksLf, IsLine}
 
 not_true : (b : Bool) → (b ≡ true → ⊥) → b ≡ false
 not_true true apart = absurd (apart refl)

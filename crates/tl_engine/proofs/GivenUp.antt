@@ -11,11 +11,12 @@ use Rattle.tl_engine.specs.declared.status.Status.{Status}
 use Rattle.tl_engine.specs.declared.status.Status.TheVariants.{Clean, Broken}
 use Rattle.tl_engine.specs.declared.status.ToolFault.{ToolFault}
 use Rattle.tl_engine.specs.declared.status.ToolFault.TheVariants.{Memory, Read, Write}
-use Rattle.tl_engine.specs.code.GivenUp.{GivesUpFor, GivesUpPiece, IsKnown, lines_ended}
+use Rattle.tl_engine.specs.code.GivenUp.{GivesUpPiece, IsKnown}
+use Rattle.tl_engine.specs.statement.Run.{GivesUpFor}
+use Rattle.tl_engine.specs.statement.Lines.{lines_ended, lines_of, ended_lines}
 use Rattle.tl_engine.specs.code.Judging.{KnowsFor}
-use Rattle.tl_engine.specs.code.Lines.{lines_of}
-use Rattle.tl_engine.specs.code.Parts.{AppendsShort}
-use Rattle.tl_engine.specs.code.Progress.{Feeds, FinishesInput, GivesUp, GivesUpWithin, Progress, ended_lines}
+use Rattle.tl_engine.specs.statement.Parts.{AppendsShort}
+use Rattle.tl_engine.specs.code.Progress.{Feeds, FinishesInput, GivesUp, GivesUpWithin, Progress}
 use Rattle.tl_engine.specs.code.Progress.{lines_judged}
 use Rattle.tl_engine.proofs.InputLines.{ended_lines-append}
 use Rattle.tl_engine.proofs.Progress.{all_lines}

@@ -6,8 +6,7 @@ use Rattle.std.proofs.lemmas.List.{append-nil}
 use Rattle.std.proofs.lemmas.List.Elements.{All-head, All-tail}
 use Rattle.std.proofs.lemmas.List.Sums.{sum_by-append}
 use Rattle.std.specs.Io.BufRead.{ends_with_byte}
-use Rattle.tl_engine.specs.code.Lines.{lines_of, before_first, LacksLf, IsLine, IsOpen}
-use Rattle.tl_engine.specs.code.Progress.{ended_lines}
+use Rattle.tl_engine.specs.statement.Lines.{lines_of, before_first, LacksLf, IsLine, IsOpen, ended_lines}
 
 head_is : (b : ℕ) (bs : List ℕ) → LacksLf (b ∷ bs) → (b == 10) ≡ false
 head_is b bs lacks = All-head (λ b. (b == 10) ≡ false) b bs lacks

@@ -27,10 +27,11 @@ use Rattle.tl_engine.specs.statement.Decoded.{is_width}
 use Rattle.tl_engine.specs.statement.Fault.{fault_text}
 use Rattle.tl_engine.specs.statement.Judged.{clean_text}
 use Rattle.tl_engine.specs.code.Judging.{IsTotal, Judges, Stops, Finishes}
-use Rattle.tl_engine.specs.code.Lines.{IsOpen}
+use Rattle.tl_engine.specs.statement.Lines.{IsOpen}
 use Rattle.tl_engine.specs.statement.Trace.{levels_text, header_line, trace_word, SpellsHeader}
-use Rattle.tl_engine.specs.code.Watching.{JudgedSo, JudgesBeat, KnowsBeats, KnowsLines, KnowsTrace, Watches}
-use Rattle.tl_engine.specs.code.Watching.{end_by, faults_by, is_together, said_by}
+use Rattle.tl_engine.specs.code.Watching.{JudgesBeat, KnowsBeats, KnowsLines, KnowsTrace, Watches}
+use Rattle.tl_engine.specs.statement.JudgedSo.{JudgedSo, faults_by, said_by}
+use Rattle.tl_engine.specs.code.Watching.{end_by, is_together}
 use Rattle.tl_engine.proofs.Decoded.{open_fault}
 use Rattle.tl_engine.proofs.Headers.{header_or_none}
 use Rattle.tl_engine.proofs.JudgedTraces.{all_judged, bad_line, good_beat, header_unread, header_unseen, judged_behind}

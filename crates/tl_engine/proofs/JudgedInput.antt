@@ -8,9 +8,10 @@ use Rattle.tl_engine.specs.declared.lines.Lines.{Lines}
 use Rattle.tl_engine.specs.declared.status.Status.{Status}
 use Rattle.tl_engine.specs.declared.status.Status.TheVariants.{Clean, Broken}
 use Rattle.tl_engine.specs.declared.status.ToolFault.{ToolFault}
-use Rattle.tl_engine.specs.code.Lines.{lines_of}
+use Rattle.tl_engine.specs.statement.Lines.{lines_of}
 use Rattle.tl_engine.specs.code.Progress.{EndsWithin, Feeds, FinishesInput, HasAll, Progress}
-use Rattle.tl_engine.specs.code.Run.{EndsAs, Stands}
+use Rattle.tl_engine.specs.code.Run.{Stands}
+use Rattle.tl_engine.specs.statement.Run.{EndsAs}
 
 module _ {H : Type 0} (knows : H → List (List ℕ) → List ℕ → Type 0) (tells : List (List ℕ) → List ℕ → Status → Type 0)
   where

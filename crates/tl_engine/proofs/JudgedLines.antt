@@ -14,8 +14,9 @@ use Rattle.tl_engine.proofs.JudgedTraces.{all_judged, bad_line, good_beat, heade
 use Rattle.tl_engine.proofs.JudgedTraces.{judged_behind, judged_whole}
 use Rattle.tl_engine.specs.code.GivenUp.{IsKnown}
 use Rattle.tl_engine.specs.code.Judging.{Finishes, IsTotal, Judges, KnowsFor, Stops}
-use Rattle.tl_engine.specs.code.Lines.{IsOpen}
-use Rattle.tl_engine.specs.code.Watching.{end_by, said_by}
+use Rattle.tl_engine.specs.statement.Lines.{IsOpen}
+use Rattle.tl_engine.specs.code.Watching.{end_by}
+use Rattle.tl_engine.specs.statement.JudgedSo.{said_by}
 use Rattle.tl_engine.specs.declared.status.Status.{Status}
 use Rattle.tl_engine.specs.declared.status.Status.TheVariants.{Clean, Broken}
 use Rattle.tl_engine.specs.declared.fault.Fault.{Fault}

@@ -10,7 +10,7 @@ use Rattle.tl_command.specs.statement.LibertyWords.{LacksComma, SpellsLiberties}
 use Rattle.tl_engine.proofs.Headers.{header_again, header_or_none, levels_again, levels_taken}
 use Rattle.tl_engine.proofs.Judged.{levels-short, open_line}
 use Rattle.tl_engine.proofs.JudgedTraces.{IsReadable}
-use Rattle.tl_engine.specs.code.Lines.{IsOpen}
+use Rattle.tl_engine.specs.statement.Lines.{IsOpen}
 use Rattle.tl_engine.specs.code.TraceReading.{header_at, levels_at}
 use Rattle.tl_engine.specs.declared.header.Header.{Header}
 use Rattle.tl_engine.specs.statement.Trace.{IsHeader, SpellsHeader, SpellsLevels, levels_text}

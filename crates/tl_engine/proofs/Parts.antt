@@ -5,7 +5,7 @@ use Rattle.std.proofs.lemmas.List.{take-append-drop}
 use Rattle.std.proofs.KnownBytes.{Appends-trans}
 use Rattle.std.specs.Io.KnownBytes.{Appends}
 use Rattle.std.specs.Prelude.{Option}
-use Rattle.tl_engine.specs.code.Parts.{AppendsPart, AppendsShort}
+use Rattle.tl_engine.specs.statement.Parts.{AppendsPart, AppendsShort}
 
 pub part_of : (a b : Option (List ℕ)) (n : ℕ) (bytes : List ℕ) → Appends a b (take n bytes) → AppendsPart a b bytes
 part_of a b n bytes p = (take n bytes, drop n bytes, take-append-drop n bytes, p)

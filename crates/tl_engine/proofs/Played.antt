@@ -23,7 +23,7 @@ use Rattle.tl_schedule.specs.statement.EventLine.{SpellsEvent}
 use Rattle.tl_schedule.specs.statement.OutcomeLine.{drained_line}
 use Rattle.tl_engine.specs.statement.Played.{delivery_text, deliveries_text, event_text, number_text, outcome_after}
 use Rattle.tl_engine.specs.code.Playing.{Drains, Happens, PlaysLine, PlaysOn}
-use Rattle.tl_engine.specs.code.PlayableWorld.{Contained, HasHappened}
+use Rattle.tl_engine.specs.statement.PlayableWorld.{Contained, HasHappened}
 
 -- ---- deliveries
 

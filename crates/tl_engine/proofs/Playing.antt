@@ -33,11 +33,11 @@ use Rattle.tl_engine.specs.declared.status.Status.{Status}
 use Rattle.tl_engine.specs.declared.status.Status.TheVariants.{Clean, Broken}
 use Rattle.tl_engine.specs.statement.Fault.{fault_text}
 use Rattle.tl_engine.specs.code.Judging.{Finishes, IsTotal, Judges, Stops}
-use Rattle.tl_engine.specs.code.Lines.{IsOpen}
+use Rattle.tl_engine.specs.statement.Lines.{IsOpen}
 use Rattle.tl_engine.specs.statement.Played.{HeadsSchedule, Played, PlayedAfter, Plays, deliveries_text, event_text}
 use Rattle.tl_engine.specs.statement.Played.{header_text, number_text, outcome_after}
 use Rattle.tl_engine.specs.code.Playing.{KnowsPlay, KnowsSchedule, Opens, PlaysLine, is_trace}
-use Rattle.tl_engine.specs.code.PlayableWorld.{Contained, HasHappened}
+use Rattle.tl_engine.specs.statement.PlayableWorld.{Contained, HasHappened}
 use Rattle.tl_engine.specs.statement.Width.{bytes_of}
 use Rattle.tl_engine.proofs.OneText.{is_width_of}
 use Rattle.tl_engine.proofs.ShortHeaders.{header-unopened}

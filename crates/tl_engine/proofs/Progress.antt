@@ -12,7 +12,7 @@ use Rattle.tl_engine.specs.declared.status.ToolFault.{ToolFault}
 use Rattle.tl_engine.specs.declared.status.Status.TheVariants.{Clean, Broken}
 use Rattle.tl_engine.specs.statement.Fault.{fault_text}
 use Rattle.tl_engine.specs.code.Judging.{Ends, EndsHere, Finishes}
-use Rattle.tl_engine.specs.code.Lines.{lines_of, LacksLf, IsLine, IsOpen}
+use Rattle.tl_engine.specs.statement.Lines.{lines_of, LacksLf, IsLine, IsOpen}
 use Rattle.tl_engine.specs.code.Progress.{Progress, StopsAt, CountsLine, EndsWithin, Feeds, FinishesInput, HasAll}
 use Rattle.tl_engine.proofs.InputLines.{lines_of-line, lines_of-begun, lines_of-rest, ends-lacks, open_from}
 use Rattle.tl_engine.proofs.InputLines.{ended_lines-append, ended_lines-lacks, ended_lines-line}

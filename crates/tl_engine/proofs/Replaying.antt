@@ -16,7 +16,7 @@ use Rattle.tl_explain.specs.statement.Spelled.{spelled}
 use Rattle.tl_explain.specs.declared.told.Spelling.{Spelling}
 use Rattle.tl_explain.specs.declared.turns.Subject.{Subject}
 use Rattle.tl_explain.specs.statement.Reasons.{IsSubject}
-use Rattle.tl_engine.specs.code.Lines.{lines_of}
+use Rattle.tl_engine.specs.statement.Lines.{lines_of}
 use Rattle.tl_engine.specs.code.Progress.{Feeds, Progress}
 use Rattle.tl_engine.specs.code.Replaying.{HasReachedIn, IsForLine, IsKept, IsWithin, KnowsReplay}
 use Rattle.tl_engine.specs.code.Replaying.{ReadsFront, ReadsLine, TakesBeat, TakesHeader}

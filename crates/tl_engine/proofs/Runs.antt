@@ -9,10 +9,11 @@ use Rattle.tl_engine.specs.declared.status.Status.{Status}
 use Rattle.tl_engine.specs.declared.status.Status.TheVariants.{Clean, Broken}
 use Rattle.tl_engine.specs.declared.status.ToolFault.{ToolFault}
 use Rattle.tl_engine.specs.code.Judging.{IsTotal}
-use Rattle.tl_engine.specs.code.Lines.{lines_of}
-use Rattle.tl_engine.specs.code.Parts.{AppendsPart}
+use Rattle.tl_engine.specs.statement.Lines.{lines_of}
+use Rattle.tl_engine.specs.statement.Parts.{AppendsPart}
 use Rattle.tl_engine.specs.code.Progress.{Progress, Feeds, FinishesInput}
-use Rattle.tl_engine.specs.code.Run.{Passes, FailsAfter, FailsAt, EndsAs}
+use Rattle.tl_engine.specs.code.Run.{Passes, FailsAfter}
+use Rattle.tl_engine.specs.statement.Run.{FailsAt, EndsAs}
 use Rattle.tl_engine.proofs.Parts.{longer, part_more}
 use Rattle.tl_engine.proofs.Progress.{all_lines}
 

@@ -10,9 +10,10 @@ use Rattle.tl_engine.specs.declared.monitor_lines.MonitorLines.TheVariants as wa
 use Rattle.tl_engine.specs.declared.run_lines.RunLines.{RunLines}
 use Rattle.tl_engine.specs.declared.run_lines.RunLines.TheVariants as playing
 use Rattle.tl_engine.specs.declared.status.Status.TheVariants.{Clean}
-use Rattle.tl_engine.specs.code.PlayableWorld.{Contained}
+use Rattle.tl_engine.specs.statement.PlayableWorld.{Contained}
 use Rattle.tl_engine.specs.code.Playing.{KnowsPlay, KnowsSchedule, is_trace}
-use Rattle.tl_engine.specs.code.Watching.{JudgedSo, KnowsLines, KnowsTrace, is_together, said_by}
+use Rattle.tl_engine.specs.code.Watching.{KnowsLines, KnowsTrace, is_together}
+use Rattle.tl_engine.specs.statement.JudgedSo.{JudgedSo, said_by}
 use Rattle.tl_engine.specs.statement.Decoded.{Decodes, DecodesBefore}
 use Rattle.tl_engine.specs.statement.Judged.{JudgedAfter}
 use Rattle.tl_engine.specs.statement.Played.{PlayedAfter}

@@ -35,7 +35,7 @@ use Rattle.tl_witness.specs.declared.witness.Witness.{Witness}
 use Rattle.tl_witness.specs.statement.Grounds.{access_grounds, access_text, conflicts_text, grant_grounds, grounds_text}
 use Rattle.tl_witness.specs.statement.Strays.{bytes_text}
 use Rattle.tl_engine.specs.code.Judging.{Ends, Finishes, Judges, Stops}
-use Rattle.tl_engine.specs.code.Lines.{lines_of}
+use Rattle.tl_engine.specs.statement.Lines.{lines_of}
 use Rattle.tl_engine.specs.code.Progress.{HasAll}
 use Rattle.tl_engine.specs.code.Testifying.{Concludes, EndsTestimony, HasHeard, HasTold, Hears, HearsHeader, HearsLine}
 use Rattle.tl_engine.specs.code.Testifying.{IsSameInquiry, KnowsInquiry, KnowsRecord, KnowsTestimony, RecordsBeat}

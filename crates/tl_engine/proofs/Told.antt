@@ -3,7 +3,7 @@ use Rattle.std.proofs.Common.{ℕ, List, refl}
 use Rattle.tl_command.specs.declared.command.Command.{Command}
 use Rattle.tl_command.specs.declared.command.Command.TheVariants.{Coherent, Decode, Explain, Monitor, Run}
 use Rattle.tl_params.specs.declared.width.Width.TheVariants.{Four, Eight, Sixteen}
-use Rattle.tl_engine.specs.code.Watching.{faults_by, said_by}
+use Rattle.tl_engine.specs.statement.JudgedSo.{faults_by, said_by}
 use Rattle.tl_engine.specs.declared.status.Status.{Status}
 use Rattle.tl_engine.specs.statement.Coherent.{coherent_text, faults_together}
 use Rattle.tl_engine.specs.statement.Judged.{clean_text, faults_of_links}

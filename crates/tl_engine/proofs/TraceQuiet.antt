@@ -43,7 +43,7 @@ use Rattle.tl_engine.specs.declared.status.Status.TheVariants.{Clean, Broken}
 use Rattle.tl_engine.specs.laws.Clean.{IsUpTo}
 use Rattle.tl_engine.specs.statement.Fault.{fault_text}
 use Rattle.tl_engine.specs.statement.Judged.{Faults, JudgedAfter, JudgedBy}
-use Rattle.tl_engine.specs.code.Lines.{lines_of}
+use Rattle.tl_engine.specs.statement.Lines.{lines_of}
 use Rattle.tl_engine.specs.statement.Played.{HeadsSchedule, Played, PlayedAfter, Plays, deliveries_text, delivery_text}
 use Rattle.tl_engine.specs.statement.Played.{outcome_after}
 use Rattle.tl_engine.specs.statement.Trace.{SpellsHeader, header_line, levels_text, trace_word}

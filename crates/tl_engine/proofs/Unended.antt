@@ -18,7 +18,7 @@ use Rattle.tl_params.specs.declared.level.Level.TheVariants as level
 use Rattle.tl_params.specs.declared.profile.Profile.TheVariants as profile
 use Rattle.tl_params.specs.declared.width.Width.TheVariants.{Four, Eight, Sixteen}
 use Rattle.tl_params.specs.statement.Header.{level_text, version_text}
-use Rattle.tl_engine.specs.code.Lines.{LacksLf}
+use Rattle.tl_engine.specs.statement.Lines.{LacksLf}
 use Rattle.tl_engine.specs.statement.Trace.{levels_text, trace_word}
 use Rattle.tl_engine.proofs.Progress.{lacks-append}
 

@@ -3,10 +3,10 @@ use Rattle.std.proofs.Common.{◌≡◌, ◌≢◌, ℕ, List, refl, inl, inr}
 use Rattle.std.specs.Prelude.{Bool, Result, Ok, Err, IfErr, IfOk, OnErr, Option}
 use Rattle.std.specs.Io.KnownBytes.{Consumes}
 use Rattle.tl_engine.specs.code.Examining.{KnowsExaminer}
-use Rattle.tl_engine.specs.code.GivenUp.{GivesUpFor, IsKnown}
+use Rattle.tl_engine.specs.code.GivenUp.{IsKnown}
+use Rattle.tl_engine.specs.statement.Run.{GivesUpFor, FailsAt, RunsTo}
 use Rattle.tl_engine.specs.code.Judging.{KnowsFor}
 use Rattle.tl_engine.specs.code.LinkWatching.{judged_for}
-use Rattle.tl_engine.specs.code.Run.{FailsAt, RunsTo}
 use Rattle.tl_engine.specs.declared.examiner.Examiner.{Examiner}
 use Rattle.tl_engine.specs.declared.explain_fault.ExplainFault.TheVariants.{Tool}
 use Rattle.tl_engine.specs.declared.status.Status.{Status}

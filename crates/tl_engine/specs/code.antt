@@ -3,14 +3,11 @@ pub mod Examining
 pub mod Explaining
 pub mod GivenUp
 pub mod Judging
-pub mod Lines
-pub mod Parts
 pub mod Playing
 pub mod Progress
 pub mod Replaying
 pub mod Run
 pub mod Testifying
-pub mod PlayableWorld
 pub mod TraceReading
 pub mod Tracing
 pub mod Watching

@@ -5,7 +5,12 @@ pub mod Exit
 pub mod Explained
 pub mod Fault
 pub mod Judged
+pub mod JudgedSo
+pub mod Lines
+pub mod Parts
+pub mod PlayableWorld
 pub mod Played
+pub mod Run
 pub mod Told
 pub mod Trace
 pub mod Unexplained

@@ -3,8 +3,8 @@
 ghost use Rattle.std.specs.Prelude.{◌≡◌, ◌≢◌, ◌++◌, ◌-◌, [], ℕ, List, IfErr, IfOk, codes, false, length, take};
 ghost use Rattle.std.specs.Io.KnownBytes.{Appends, Consumes};
 ghost use Rattle.tl_engine.specs.code.Charting.{EndsChart};
-ghost use Rattle.tl_engine.specs.code.Lines.{lines_of};
-ghost use Rattle.tl_engine.specs.code.Run.{EndsAs};
+ghost use Rattle.tl_engine.specs.statement.Lines.{lines_of};
+ghost use Rattle.tl_engine.specs.statement.Run.{EndsAs};
 ghost use Rattle.tl_engine.specs.statement.Charted.{Charts, GivesUpCharting, IsCharted, is_broken};
 ghost use Rattle.tl_engine.specs.statement.JudgedLinks.{JudgedLinks};
 ghost use Rattle.tl_engine.specs.declared.status.ToolFault.{ToolFault};

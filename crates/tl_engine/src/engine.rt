@@ -3,12 +3,13 @@
 ghost use Rattle.std.specs.Prelude.{◌≡◌, ◌≢◌, ◌⊎◌, ◌+◌, ◌++◌, [], ◌≤◌, ◌<◌, ℕ, List};
 ghost use Rattle.std.specs.Prelude.{IfOk, OnOk, OnErr, IfErr, length, take, vec_len};
 ghost use Rattle.std.specs.Io.KnownBytes.{Appends, Consumes, IsAtEnd, Keeps};
-ghost use Rattle.tl_engine.specs.code.GivenUp.{GivesUpFor, GivesUpPiece, IsKnown};
+ghost use Rattle.tl_engine.specs.code.GivenUp.{GivesUpPiece, IsKnown};
+ghost use Rattle.tl_engine.specs.statement.Run.{GivesUpFor, EndsAs, FailsAt, RunsTo};
 ghost use Rattle.tl_engine.specs.code.Judging.{IsTotal, KnowsFor};
-ghost use Rattle.tl_engine.specs.code.Lines.{lines_of};
-ghost use Rattle.tl_engine.specs.code.Parts.{AppendsPart};
+ghost use Rattle.tl_engine.specs.statement.Lines.{lines_of};
+ghost use Rattle.tl_engine.specs.statement.Parts.{AppendsPart};
 ghost use Rattle.tl_engine.specs.code.Progress.{FinishesInput, HasAll, Progress};
-ghost use Rattle.tl_engine.specs.code.Run.{EndsAs, FailsAfter, FailsAt, Passes, RunsTo, Stands};
+ghost use Rattle.tl_engine.specs.code.Run.{FailsAfter, Passes, Stands};
 ghost use Rattle.tl_engine.specs.declared.status.Status.{Status};
 ghost use Rattle.tl_engine.specs.declared.status.ToolFault.{ToolFault};
 

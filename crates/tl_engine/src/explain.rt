@@ -9,7 +9,7 @@ ghost use Rattle.tl_beat.specs.statement.Line.{Spells};
 ghost use Rattle.tl_beat.specs.statement.Width.{IsWidth};
 ghost use Rattle.tl_explain.specs.statement.Reasons.{IsSubject};
 ghost use Rattle.tl_engine.specs.code.Explaining.{ExplainsFound, ExplainsStatus};
-ghost use Rattle.tl_engine.specs.code.Parts.{AppendsShort};
+ghost use Rattle.tl_engine.specs.statement.Parts.{AppendsShort};
 ghost use Rattle.tl_engine.specs.code.Replaying.{HasReachedIn, KnowsReplay};
 ghost use Rattle.tl_engine.specs.statement.Explained.{Explains, IsExplained, IsNamed};
 ghost use Rattle.tl_engine.specs.statement.Explained.{broken_alone, front_text, is_of_order};

@@ -2,7 +2,7 @@
 
 ghost use Rattle.std.specs.Prelude.{◌≡◌, ◌≢◌, ◌+◌, [], List, ℕ, IfErr, IfOk, IfSome, OnOk, true};
 ghost use Rattle.std.specs.Io.KnownBytes.{Consumes};
-ghost use Rattle.tl_engine.specs.code.Lines.{lines_of};
+ghost use Rattle.tl_engine.specs.statement.Lines.{lines_of};
 ghost use Rattle.tl_engine.specs.code.Testifying.{AsksAbout, HasTold, IsUnheard};
 ghost use Rattle.tl_engine.specs.statement.JudgedLinks.{JudgedLinks};
 ghost use Rattle.tl_engine.specs.statement.Explained.{IsWitnessed};

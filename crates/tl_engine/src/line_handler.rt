@@ -2,7 +2,7 @@
 
 ghost use Rattle.std.specs.Prelude.{◌≡◌, ◌++◌, ℕ, List, IfOk, Ok, Some};
 ghost use Rattle.tl_engine.specs.code.Judging.{Ends, EndsHere, Finishes, Judges, Stops};
-ghost use Rattle.tl_engine.specs.code.Lines.{IsOpen};
+ghost use Rattle.tl_engine.specs.statement.Lines.{IsOpen};
 ghost use Rattle.tl_engine.specs.declared.fault.Fault.{Fault};
 ghost use Rattle.tl_engine.specs.declared.status.Status.{Status};
 

@@ -6,7 +6,7 @@ ghost use Rattle.std.specs.List.{prefix_len};
 ghost use Rattle.memchr.specs.Find.{IsFirstByte, is_byte};
 ghost use Rattle.tl_engine.specs.statement.Fault.{fault_text};
 ghost use Rattle.tl_engine.specs.code.Judging.{Ends};
-ghost use Rattle.tl_engine.specs.code.Lines.{IsLine, IsOpen, LacksLf, lines_of};
+ghost use Rattle.tl_engine.specs.statement.Lines.{IsLine, IsOpen, LacksLf, lines_of};
 ghost use Rattle.tl_engine.specs.code.Progress.{CountsLine, EndsWithin, Feeds, FinishesInput, GivesUp, HasAll};
 ghost use Rattle.tl_engine.specs.code.Progress.{GivesUpWithin, Progress, StopsAt, lines_judged};
 

@@ -4,7 +4,8 @@ ghost use Rattle.std.specs.Prelude.{Bool, ◌≡◌, ◌++◌, [], ℕ, List, If
 ghost use Rattle.tl_beat.specs.statement.Width.{IsWidth};
 ghost use Rattle.tl_engine.specs.code.Judging.{Judges};
 ghost use Rattle.tl_engine.specs.declared.monitor_lines.MonitorLines.{MonitorLines};
-ghost use Rattle.tl_engine.specs.code.Watching.{Begins, JudgedSo, KnowsLines, Watches};
+ghost use Rattle.tl_engine.specs.code.Watching.{Begins, KnowsLines, Watches};
+ghost use Rattle.tl_engine.specs.statement.JudgedSo.{JudgedSo};
 ghost use Rattle.tl_engine.specs.code.Watching.{end_by, is_together, word_by};
 
 use crate::beat_judge::BeatJudge;

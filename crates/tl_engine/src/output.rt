@@ -3,7 +3,7 @@
 ghost use Rattle.std.specs.Prelude.{◌≡◌, ◌++◌, ◌∷◌, [], ℕ, OnOk, OnErr, IfErr, codes};
 ghost use Rattle.std.specs.Io.KnownBytes.{Appends};
 ghost use Rattle.tl_engine.specs.statement.Fault.{changed_text, early_text, once_text, open_fault_text};
-ghost use Rattle.tl_engine.specs.code.Parts.{AppendsPart, AppendsShort};
+ghost use Rattle.tl_engine.specs.statement.Parts.{AppendsPart, AppendsShort};
 
 use crate::status::ToolFault;
 use std::io::Write;

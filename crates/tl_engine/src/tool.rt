@@ -1,8 +1,7 @@
 //! Runs a command over an input.
 
 ghost use Rattle.std.specs.Prelude.{◌≡◌, ℕ, List, IfErr, IfOk, OnErr};
-ghost use Rattle.tl_engine.specs.code.GivenUp.{GivesUpFor};
-ghost use Rattle.tl_engine.specs.code.Run.{FailsAt, RunsTo};
+ghost use Rattle.tl_engine.specs.statement.Run.{GivesUpFor, FailsAt, RunsTo};
 ghost use Rattle.tl_engine.specs.statement.Told.{text_so_far, text_told};
 
 use crate::decoder::Decoder;

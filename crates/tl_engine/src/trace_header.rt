@@ -5,7 +5,7 @@ ghost use Rattle.tl_beat.specs.statement.Width.{IsWidth};
 ghost use Rattle.tl_params.specs.statement.Config.{config_fault};
 ghost use Rattle.tl_params.specs.statement.Header.{level_text, profile_text, version_text, width_text};
 ghost use Rattle.tl_engine.specs.statement.Played.{header_text};
-ghost use Rattle.tl_engine.specs.code.PlayableWorld.{HasHappened};
+ghost use Rattle.tl_engine.specs.statement.PlayableWorld.{HasHappened};
 ghost use Rattle.tl_engine.specs.statement.Trace.{header_line, levels_text};
 
 use std::alloc::{AllocError, Global};

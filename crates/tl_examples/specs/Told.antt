@@ -3,7 +3,7 @@ use Rattle.std.specs.Prelude.{ℕ, Bool, List, ◌++◌, Option}
 use Rattle.std.specs.Io.KnownBytes.{Appends, Consumes}
 use Rattle.tl_command.specs.declared.command.Command.{Command}
 use Rattle.tl_engine.specs.declared.status.Status.{Status}
-use Rattle.tl_engine.specs.code.Lines.{lines_of}
+use Rattle.tl_engine.specs.statement.Lines.{lines_of}
 use Rattle.tl_engine.specs.statement.Told.{text_told}
 use Rattle.tl_params.specs.statement.Liberties.{no_liberties}
 use Rattle.tl_wide_lines.specs.statement.JudgedTrace.{JudgedTrace}

@@ -11,7 +11,7 @@ use Rattle.tl_beat.specs.statement.Line.{Spells, line_fault}
 use Rattle.tl_engine.proofs.Decoded.{open_fault}
 use Rattle.tl_engine.proofs.LinksHeaders.{open_links}
 use Rattle.tl_engine.specs.code.Judging.{Ends, EndsHere, Judges}
-use Rattle.tl_engine.specs.code.Lines.{IsOpen}
+use Rattle.tl_engine.specs.statement.Lines.{IsOpen}
 use Rattle.tl_engine.specs.code.Progress.{HasAll}
 use Rattle.tl_engine.specs.code.Run.{Stands}
 use Rattle.tl_engine.specs.declared.fault.Fault.{Fault}

@@ -1,8 +1,7 @@
 //! Runs a monitor over an input whose header names the liberties of the links.
 
 ghost use Rattle.std.specs.Prelude.{IfErr, IfOk, OnErr};
-ghost use Rattle.tl_engine.specs.code.GivenUp.{GivesUpFor};
-ghost use Rattle.tl_engine.specs.code.Run.{FailsAt, RunsTo};
+ghost use Rattle.tl_engine.specs.statement.Run.{GivesUpFor, FailsAt, RunsTo};
 ghost use Rattle.tl_engine.specs.statement.JudgedLinks.{JudgedLinks, LinksSoFar};
 
 use std::alloc::Global;

@@ -5,7 +5,7 @@ use Rattle.std.proofs.lemmas.List.Elements.{All-cons, All-nil}
 use Rattle.tl_coherence.specs.declared.event.Event.{Event}
 use Rattle.tl_coherence.specs.declared.event.Outcome.{Outcome}
 use Rattle.tl_coherence.specs.statement.Log.{Log}
-use Rattle.tl_engine.specs.code.PlayableWorld.{Contained, HasHappened}
+use Rattle.tl_engine.specs.statement.PlayableWorld.{Contained, HasHappened}
 use Rattle.tl_params.specs.declared.config.Config.{Config}
 use Rattle.tl_schedule.specs.statement.EventLine.{SpellsEvent, drain_line}
 use Rattle.tl_random.specs.statement.Draw.{Draws, always, is_one_in, words_from}

@@ -4,7 +4,7 @@ ghost use Rattle.std.specs.Prelude.{◌≡◌, ◌<◌, ◌++◌, IfOk, OnOk, le
 ghost use Rattle.tl_beat.specs.statement.Width.{IsWidth};
 ghost use Rattle.tl_schedule.specs.statement.EventLine.{drain_line};
 ghost use Rattle.tl_coherence.specs.statement.Log.{Log};
-ghost use Rattle.tl_engine.specs.code.PlayableWorld.{HasHappened};
+ghost use Rattle.tl_engine.specs.statement.PlayableWorld.{HasHappened};
 ghost use Rattle.tl_params.specs.declared.config.Config.{Config};
 ghost use Rattle.tl_random.specs.statement.Draw.{Draws, below, words_from, words_of};
 ghost use Rattle.tl_random.specs.statement.Drawn.{GrowsByPlay, IsDrainedOf, IsFreshOf, asking_line, block_below, block_of};

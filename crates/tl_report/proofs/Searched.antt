@@ -17,9 +17,10 @@ use Rattle.tl_params.specs.declared.liberties.Liberties.{Liberties}
 use Rattle.tl_params.specs.declared.width.Width.{Width}
 use Rattle.tl_rules.specs.statement.Conformance.{Trace}
 use Rattle.tl_engine.specs.code.Judging.{Ends, EndsHere, Finishes, Judges, Stops}
-use Rattle.tl_engine.specs.code.Lines.{IsOpen, lines_of}
+use Rattle.tl_engine.specs.statement.Lines.{IsOpen, lines_of}
 use Rattle.tl_engine.specs.code.Progress.{HasAll}
-use Rattle.tl_engine.specs.code.Run.{EndsAs, Stands}
+use Rattle.tl_engine.specs.code.Run.{Stands}
+use Rattle.tl_engine.specs.statement.Run.{EndsAs}
 use Rattle.tl_engine.specs.declared.fault.Fault.{Fault}
 use Rattle.tl_engine.specs.declared.fault.Fault.TheVariants.{Line}
 use Rattle.tl_engine.specs.declared.status.Status.{Status}

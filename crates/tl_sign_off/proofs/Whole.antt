@@ -4,7 +4,7 @@ use Rattle.std.specs.Prelude.{IfOk, Option, Result, Ok, Err}
 use Rattle.std.specs.Io.KnownBytes.{Consumes, IsAtEnd}
 use Rattle.std.proofs.KnownBytes.{Consumes-trans}
 use Rattle.std.proofs.lemmas.List.{append-nil}
-use Rattle.tl_engine.specs.code.Lines.{lines_of}
+use Rattle.tl_engine.specs.statement.Lines.{lines_of}
 use Rattle.tl_engine.specs.code.Progress.{EndsWithin, Feeds, FinishesInput, HasAll, Progress}
 use Rattle.tl_engine.specs.declared.lines.Lines.{Lines}
 use Rattle.tl_engine.specs.declared.status.Status.{Status}

@@ -19,9 +19,10 @@ use Rattle.tl_engine.proofs.Judged.{said_at_end}
 use Rattle.tl_engine.proofs.JudgedTraces.{all_judged, bad_line, header_unread, header_unseen}
 use Rattle.tl_engine.proofs.LinksHeaders.{open_heads}
 use Rattle.tl_engine.specs.code.Judging.{Ends, EndsHere, Finishes, Judges, Stops}
-use Rattle.tl_engine.specs.code.Lines.{IsOpen}
+use Rattle.tl_engine.specs.statement.Lines.{IsOpen}
 use Rattle.tl_engine.specs.code.Progress.{HasAll}
-use Rattle.tl_engine.specs.code.Watching.{KnowsTraceOf, end_by, said_by}
+use Rattle.tl_engine.specs.code.Watching.{KnowsTraceOf, end_by}
+use Rattle.tl_engine.specs.statement.JudgedSo.{said_by}
 use Rattle.tl_engine.specs.declared.fault.Fault.{Fault}
 use Rattle.tl_engine.specs.declared.fault.Fault.TheVariants.{Header, Line, Rule as Breaks}
 use Rattle.tl_engine.specs.declared.status.Status.{Status}

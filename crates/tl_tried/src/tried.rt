@@ -2,8 +2,8 @@
 
 ghost use Rattle.std.specs.Prelude.{◌≡◌, ◌≢◌, ◌++◌, [], ℕ, List, OnOk, IfErr, IfOk, false};
 ghost use Rattle.std.specs.Io.KnownBytes.{Consumes};
-ghost use Rattle.tl_engine.specs.code.Lines.{lines_of};
-ghost use Rattle.tl_engine.specs.code.Run.{EndsAs};
+ghost use Rattle.tl_engine.specs.statement.Lines.{lines_of};
+ghost use Rattle.tl_engine.specs.statement.Run.{EndsAs};
 ghost use Rattle.tl_engine.specs.declared.status.ToolFault.{ToolFault};
 ghost use Rattle.tl_engine.specs.statement.JudgedLinks.{JudgedLinks};
 ghost use Rattle.tl_tried.specs.code.Following.{found_of_lines};

@@ -12,9 +12,9 @@ use Rattle.tl_beat.specs.declared.fault.LineFault.{LineFault}
 use Rattle.tl_beat.specs.declared.fault.LineFault.TheVariants.{F1}
 use Rattle.tl_beat.specs.statement.First.{first_if}
 use Rattle.tl_beat.specs.statement.Line.{pieces, without_last}
-use Rattle.tl_engine.specs.code.Lines.{IsOpen}
+use Rattle.tl_engine.specs.statement.Lines.{IsOpen}
 use Rattle.tl_engine.specs.code.TraceJudging.{KnowsBeats}
-use Rattle.tl_engine.specs.code.Watching.{said_by}
+use Rattle.tl_engine.specs.statement.JudgedSo.{said_by}
 use Rattle.tl_engine.specs.declared.fault.Fault.{Fault}
 use Rattle.tl_engine.specs.declared.fault.Fault.TheVariants.{Beyond, Line}
 use Rattle.tl_engine.specs.declared.status.Status.{Status}

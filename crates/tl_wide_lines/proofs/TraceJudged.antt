@@ -9,9 +9,10 @@ use Rattle.tl_engine.proofs.Judged.{said_at_end}
 use Rattle.tl_engine.proofs.JudgedLines.{links_so_far, links_total}
 use Rattle.tl_engine.specs.code.GivenUp.{IsKnown}
 use Rattle.tl_engine.specs.code.Judging.{Finishes, IsTotal, Judges, KnowsFor, Stops}
-use Rattle.tl_engine.specs.code.Lines.{IsOpen}
+use Rattle.tl_engine.specs.statement.Lines.{IsOpen}
 use Rattle.tl_engine.specs.code.LinkWatching.{KnowsJudge, KnowsLines, judged_for}
-use Rattle.tl_engine.specs.code.Watching.{end_by, said_by}
+use Rattle.tl_engine.specs.code.Watching.{end_by}
+use Rattle.tl_engine.specs.statement.JudgedSo.{said_by}
 use Rattle.tl_engine.specs.declared.fault.Fault.{Fault}
 use Rattle.tl_engine.specs.declared.fault.Fault.TheVariants.{Line}
 use Rattle.tl_engine.specs.declared.link_lines.LinkJudge.{LinkJudge}

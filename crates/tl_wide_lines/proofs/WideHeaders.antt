@@ -10,7 +10,7 @@ use Rattle.tl_engine.proofs.Judged.{levels-short}
 use Rattle.tl_engine.proofs.Headers.{header_again}
 use Rattle.tl_engine.proofs.LinksHeaders.{NamedOrNone, fourth_at, named_or_none, named_so, tail}
 use Rattle.tl_engine.specs.code.HeadReading.{front_at}
-use Rattle.tl_engine.specs.code.Lines.{IsOpen}
+use Rattle.tl_engine.specs.statement.Lines.{IsOpen}
 use Rattle.tl_engine.specs.code.TraceReading.{header_at}
 use Rattle.tl_engine.specs.statement.LinksHeader.{NamesLinks, SpellsNamed}
 use Rattle.tl_engine.specs.statement.Trace.{levels_text}

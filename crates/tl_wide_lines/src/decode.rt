@@ -1,8 +1,7 @@
 //! Decodes lines of wide beats.
 
 ghost use Rattle.std.specs.Prelude.{IfErr, IfOk, OnErr};
-ghost use Rattle.tl_engine.specs.code.GivenUp.{GivesUpFor};
-ghost use Rattle.tl_engine.specs.code.Run.{FailsAt, RunsTo};
+ghost use Rattle.tl_engine.specs.statement.Run.{GivesUpFor, FailsAt, RunsTo};
 ghost use Rattle.tl_wide.specs.statement.Width.{wide_bytes_of};
 ghost use Rattle.tl_wide_lines.specs.statement.WideDecoded.{DecodedSoFar, DecodedWide};
 

@@ -1,7 +1,7 @@
 -- What was given up while the liberties were written that would allow what was found.
 use Rattle.std.proofs.Common.{◌≡◌, ◌++◌, ◌∙◌, List, [], ℕ, ap, subst, inr}
 use Rattle.std.specs.Prelude.{Option, Err}
-use Rattle.tl_engine.specs.code.Parts.{AppendsShort}
+use Rattle.tl_engine.specs.statement.Parts.{AppendsShort}
 use Rattle.tl_engine.specs.declared.status.ToolFault.{ToolFault}
 use Rattle.tl_engine.specs.declared.status.ToolFault.TheVariants.{Write}
 use Rattle.tl_engine.specs.statement.Exit.{exit_status}

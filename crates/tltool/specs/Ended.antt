@@ -16,9 +16,8 @@ use Rattle.tl_engine.specs.declared.explain_fault.ExplainFault.{ExplainFault}
 use Rattle.tl_engine.specs.declared.status.Status.{Status}
 use Rattle.tl_engine.specs.declared.status.ToolFault.{ToolFault}
 use Rattle.tl_engine.specs.declared.status.ToolFault.TheVariants.{Memory, Write}
-use Rattle.tl_engine.specs.code.GivenUp.{GivesUpFor}
-use Rattle.tl_engine.specs.code.Parts.{AppendsShort}
-use Rattle.tl_engine.specs.code.Run.{FailsAt, RunsTo}
+use Rattle.tl_engine.specs.statement.Run.{GivesUpFor, FailsAt, RunsTo}
+use Rattle.tl_engine.specs.statement.Parts.{AppendsShort}
 use Rattle.tl_engine.specs.statement.Charted.{Charts, GivesUpCharting}
 use Rattle.tl_engine.specs.statement.Exit.{exit_status}
 use Rattle.tl_engine.specs.statement.Explained.{Explains}

@@ -3,7 +3,8 @@ use Rattle.std.specs.Prelude.{◌≡◌, ℕ, Bool, List, [], ◌∷◌, Option,
 use Rattle.tl_beat.specs.declared.beat.Beat.{Beat}
 use Rattle.tl_beat.specs.declared.beat.Link.{Link}
 use Rattle.tl_beat.specs.statement.Line.{Spells}
-use Rattle.tl_engine.specs.code.Watching.{KnowsTraceOf, said_by}
+use Rattle.tl_engine.specs.code.Watching.{KnowsTraceOf}
+use Rattle.tl_engine.specs.statement.JudgedSo.{said_by}
 use Rattle.tl_engine.specs.declared.fault.Fault.{Fault}
 use Rattle.tl_engine.specs.statement.Judged.{IsAtFault}
 use Rattle.tl_engine.specs.code.TraceJudging.{KnowsBeats}

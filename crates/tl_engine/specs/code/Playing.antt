@@ -17,7 +17,7 @@ use Rattle.tl_engine.specs.declared.run_lines.RunLines.TheVariants.{Waiting, Fou
 use Rattle.tl_engine.specs.declared.status.Status.{Status}
 use Rattle.tl_engine.specs.statement.Played.{HeadsSchedule, Played, PlayedAfter, Plays, deliveries_text, event_text}
 use Rattle.tl_engine.specs.statement.Played.{outcome_after}
-use Rattle.tl_engine.specs.code.PlayableWorld.{Contained, HasHappened}
+use Rattle.tl_engine.specs.statement.PlayableWorld.{Contained, HasHappened}
 
 -- what is written of the answer to a Load of this size, or of a Store's
 abbrev pub asked_text : Bool → ℕ → Option Reply → List ℕ

@@ -1,23 +1,14 @@
 -- How far an input has been judged. `knows` and `tells` are those of the handler's trait, `was` and
 -- `is` the text appended before and after a call, after a text `before` that has been written already.
-use Rattle.std.specs.Prelude.{◌≡◌, ◌≤◌, ◌<◌, ℕ, ◌+◌, List, [], ◌∷◌, ◌++◌, ◌-◌, ◌^◌, ◌⊎◌, length, count_by, ◌==◌, ⊤}
-use Rattle.tl_engine.specs.declared.fault.Fault.{Fault}
+use Rattle.std.specs.Prelude.{◌≡◌, ◌≤◌, ℕ, ◌+◌, List, ◌∷◌, ◌++◌, ◌-◌, ◌^◌, ◌⊎◌, length, ⊤}
 use Rattle.tl_engine.specs.declared.lines.Lines.{Lines}
 use Rattle.tl_engine.specs.declared.status.Status.{Status}
 use Rattle.tl_engine.specs.declared.status.Status.TheVariants.{Clean, Broken}
 use Rattle.tl_engine.specs.declared.status.ToolFault.{ToolFault}
 use Rattle.tl_engine.specs.declared.status.ToolFault.TheVariants.{Memory, Read, Write}
-use Rattle.tl_engine.specs.statement.Fault.{fault_text}
+use Rattle.tl_engine.specs.statement.Lines.{lines_of, ended_lines, AreWhole, LacksLf, RunsOut}
+use Rattle.tl_engine.specs.statement.Run.{StopsAtRest}
 use Rattle.tl_engine.specs.code.Judging.{GoesOn}
-use Rattle.tl_engine.specs.code.Lines.{lines_of, LacksLf}
-
--- the number of lines that have ended
-abbrev pub ended_lines : List ℕ → ℕ
-ended_lines bytes = count_by (λ b. b == 10) bytes
-
--- whole lines: nothing, or an LF at the end
-abbrev pub AreWhole : List ℕ → Type 0
-AreWhole bytes = (bytes ≡ []) ⊎ ((front : List ℕ) × (bytes ≡ front ++ 10 ∷ []))
 
 -- how many lines have been judged
 abbrev pub lines_judged : {H : Type 0} → Lines H → ℕ
@@ -59,19 +50,6 @@ Feeds knows tells old new piece was is Broken =
     (read before : List ℕ) → Progress knows old read (before ++ was) → (more : List ℕ)
     → tells (lines_of ((read ++ piece) ++ more)) (before ++ is) Broken
 
--- The line at fault is the rest after the last LF of the input: it has no LF and fewer than 256 bytes,
--- so that what follows could mend it, or it isn't there.
-pub record StopsAtRest (read text : List ℕ) : Type 0 where
-  pub front : List ℕ
-  pub rest : List ℕ
-  pub whole : read ≡ front ++ rest
-  pub ended : AreWhole front
-  pub unended : LacksLf rest
-  pub short : length rest < 256
-  pub before : List ℕ
-  pub fault : Fault
-  pub says : text ≡ before ++ fault_text (ended_lines read + 1) fault
-
 -- the end of the input was judged
 abbrev pub FinishesInput : {H : Type 0} → (H → List (List ℕ) → List ℕ → Type 0)
     → (List (List ℕ) → List ℕ → Status → Type 0) → Lines H → List ℕ → List ℕ → Status → Type 0
@@ -84,10 +62,6 @@ FinishesInput knows tells state was is Broken =
 -- lines are given up for want of memory, or for want of a number after 2^64 - 1 lines
 abbrev pub GivesUp : ℕ → ToolFault → Type 0
 GivesUp count fault = (fault ≡ Memory) ⊎ ((fault ≡ Read) × (count ≡ 2 ^ 64 - 1))
-
--- no number is left for the line after these
-abbrev pub RunsOut : List ℕ → Type 0
-RunsOut read = 2 ^ 64 - 1 ≤ ended_lines read
 
 -- a piece is given up for want of memory, or for want of a number for a line of it
 abbrev pub GivesUpWithin : {H : Type 0} → (H → List (List ℕ) → List ℕ → Type 0) → Lines H → List ℕ → List ℕ → ToolFault

@@ -1,12 +1,12 @@
--- A whole run: what was read, and what was written for it.
+-- The pieces of a run: what was read, and what was written for it.
 use Rattle.std.specs.Prelude.{◌⊎◌, ℕ, List, ◌++◌, Option}
-use Rattle.std.specs.Io.KnownBytes.{IsAtEnd, Consumes, Appends}
+use Rattle.std.specs.Io.KnownBytes.{IsAtEnd}
 use Rattle.tl_engine.specs.declared.lines.Lines.{Lines}
 use Rattle.tl_engine.specs.declared.status.Status.{Status}
 use Rattle.tl_engine.specs.declared.status.Status.TheVariants.{Clean, Broken}
-use Rattle.tl_engine.specs.code.Lines.{lines_of}
-use Rattle.tl_engine.specs.code.Parts.{AppendsPart}
-use Rattle.tl_engine.specs.code.Progress.{Progress, StopsAtRest}
+use Rattle.tl_engine.specs.statement.Lines.{lines_of}
+use Rattle.tl_engine.specs.statement.Parts.{AppendsPart}
+use Rattle.tl_engine.specs.code.Progress.{Progress}
 
 -- a piece was judged, and this was written for it
 abbrev pub Passes : {H : Type 0} → (H → List (List ℕ) → List ℕ → Type 0) → (List (List ℕ) → List ℕ → Status → Type 0)
@@ -25,26 +25,6 @@ FailsAfter knows tells state piece held holds =
     → (text : List ℕ) × (status : Status) × tells (lines_of (read ++ piece)) (before ++ text) status
     × AppendsPart held holds text
 
--- a run stops at the end of its input, or at a line at fault that no continuation can mend
-abbrev pub EndsAs : (List (List ℕ) → List ℕ → Status → Type 0) → Option (List ℕ) → List ℕ → List ℕ → Status → Type 0
-EndsAs tells left read text Clean = IsAtEnd left
-EndsAs tells left read text Broken =
-    ((more : List ℕ) → tells (lines_of (read ++ more)) text Broken) ⊎ (IsAtEnd left × StopsAtRest read text)
-
 -- the result of a line at fault stays the same whatever follows it, or the input is at its end
 abbrev pub Stands : {H : Type 0} → (H → List (List ℕ) → Type 0) → Option (List ℕ) → List ℕ → H → Type 0
 Stands ends left read handler = ((more : List ℕ) → ends handler (lines_of (read ++ more))) ⊎ IsAtEnd left
-
--- a run wrote the text of its input
-abbrev pub RunsTo : (List (List ℕ) → List ℕ → Status → Type 0) → Option (List ℕ) → Option (List ℕ) → Option (List ℕ)
-    → Option (List ℕ) → Status → Type 0
-RunsTo tells had left held holds status =
-    (read text : List ℕ) × Consumes had left read × Appends held holds text × tells (lines_of read) text status
-    × EndsAs tells left read text status
-
--- a run that was given up wrote a beginning of the text of its input
-abbrev pub FailsAt : (List (List ℕ) → List ℕ → Status → Type 0) → Option (List ℕ) → Option (List ℕ) → Option (List ℕ)
-    → Option (List ℕ) → Type 0
-FailsAt tells had left held holds =
-    (read text : List ℕ) × (status : Status) × Consumes had left read × tells (lines_of read) text status
-    × AppendsPart held holds text

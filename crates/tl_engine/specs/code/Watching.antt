@@ -17,25 +17,14 @@ use Rattle.tl_engine.specs.declared.fault.Fault.{Fault}
 use Rattle.tl_engine.specs.declared.status.Status.{Status}
 use Rattle.tl_engine.specs.declared.monitor_lines.MonitorLines.{MonitorLines}
 use Rattle.tl_engine.specs.declared.monitor_lines.MonitorLines.TheVariants.{Waiting, Four, Eight, Sixteen}
-use Rattle.tl_engine.specs.statement.Coherent.{coherent_text, faults_together}
-use Rattle.tl_engine.specs.statement.Judged.{Faults, FaultsOf, Headers, IsAtFault, JudgedAfter, JudgedBy, clean_text}
-use Rattle.tl_engine.specs.statement.Judged.{faults_of_links}
+use Rattle.tl_engine.specs.statement.Judged.{FaultsOf, Headers, IsAtFault, JudgedAfter, JudgedBy}
+use Rattle.tl_engine.specs.statement.JudgedSo.{faults_by, said_by}
 use Rattle.tl_engine.specs.statement.Trace.{SpellsHeader}
 use Rattle.tl_params.specs.declared.width.Width.{Width}
 
 -- the number that stands for judging all links together
 abbrev pub is_together : ℕ → Bool
 is_together n = n == 1
-
--- what beats are at fault for, all links together or each by itself
-abbrev pub faults_by : Bool → Faults
-faults_by false = faults_of_links
-faults_by true = faults_together
-
--- the verdict with the number of beats, if none is at fault
-abbrev pub said_by : Bool → ℕ → List ℕ
-said_by false = clean_text
-said_by true = coherent_text
 
 -- the word in front of that number
 abbrev pub word_by : Bool → List ℕ
@@ -45,10 +34,6 @@ word_by true = codes "coherent "
 -- the same after its word
 abbrev pub end_by : Bool → ℕ → List ℕ
 end_by together n = word_by together ++ decimal n ++ codes "\n"
-
--- a trace is judged so, all links together or each by itself
-abbrev pub JudgedSo : Bool → List (List ℕ) → List ℕ → Status → Type 0
-JudgedSo together = JudgedBy SpellsHeader (faults_by together) (said_by together)
 
 -- a judge of these links knows the beats of a trace, none of which was at fault
 abbrev pub KnowsBeats : {w : ℕ} → Bool → BeatJudge w → List Level → Profile → Trace w → Type 0

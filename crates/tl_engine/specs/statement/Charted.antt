@@ -15,9 +15,9 @@ use Rattle.tl_chart.specs.declared.arrow.Arrow.{Arrow}
 use Rattle.tl_chart.specs.declared.window.Window.{Window}
 use Rattle.tl_chart.specs.statement.Chart.{IsChart}
 use Rattle.tl_chart.specs.statement.Drawn.{Drawn, drawn, fault_drawn}
-use Rattle.tl_engine.specs.code.Lines.{lines_of}
-use Rattle.tl_engine.specs.code.Parts.{AppendsShort}
-use Rattle.tl_engine.specs.code.Run.{EndsAs}
+use Rattle.tl_engine.specs.statement.Lines.{lines_of}
+use Rattle.tl_engine.specs.statement.Parts.{AppendsShort}
+use Rattle.tl_engine.specs.statement.Run.{EndsAs}
 use Rattle.tl_engine.specs.declared.fault.Fault.{Fault}
 use Rattle.tl_engine.specs.declared.status.Status.{Status}
 use Rattle.tl_engine.specs.declared.status.Status.TheVariants.{Clean, Broken}

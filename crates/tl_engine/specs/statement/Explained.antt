@@ -21,7 +21,7 @@ use Rattle.tl_together.specs.declared.breach.Breach.TheVariants.{OfMemory}
 use Rattle.tl_params.specs.declared.memory_rule.MemoryRule.{MemoryRule}
 use Rattle.tl_together.specs.statement.Coherence.{broken_together}
 use Rattle.tl_witness.specs.statement.Grounds.{grounds_text}
-use Rattle.tl_engine.specs.code.Lines.{lines_of}
+use Rattle.tl_engine.specs.statement.Lines.{lines_of}
 use Rattle.tl_engine.specs.declared.fault.Fault.{Fault}
 use Rattle.tl_engine.specs.declared.fault.Fault.TheVariants.{Rule as Breaks, MemoryRule as BreaksTogether}
 use Rattle.tl_engine.specs.declared.status.Status.{Status}

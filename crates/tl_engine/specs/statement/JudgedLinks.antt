@@ -1,6 +1,6 @@
 -- The judgement of a trace whose header names the liberties of its links.
 use Rattle.std.specs.Prelude.{◌≡◌, ◌⊎◌, ◌-◌, ◌++◌, ℕ, Bool, true, false, List, [], length, option_map}
-use Rattle.tl_engine.specs.code.Watching.{said_by}
+use Rattle.tl_engine.specs.statement.JudgedSo.{said_by}
 use Rattle.tl_engine.specs.declared.fault.Fault.TheVariants.{Rule as Breaks}
 use Rattle.tl_engine.specs.declared.status.Status.{Status}
 use Rattle.tl_engine.specs.declared.status.Status.TheVariants.{Clean}

@@ -2,7 +2,7 @@
 use Rattle.std.specs.Prelude.{◌≡◌, ◌⊎◌, ◌-◌, ℕ, List, [], ◌++◌, length}
 use Rattle.tl_command.specs.declared.command.Command.{Command}
 use Rattle.tl_command.specs.declared.command.Command.TheVariants.{Coherent, Decode, Explain, Monitor, Run}
-use Rattle.tl_engine.specs.code.Watching.{JudgedSo, said_by}
+use Rattle.tl_engine.specs.statement.JudgedSo.{JudgedSo, said_by}
 use Rattle.tl_engine.specs.declared.status.Status.{Status}
 use Rattle.tl_engine.specs.declared.status.Status.TheVariants.{Clean}
 use Rattle.tl_engine.specs.statement.Coherent.{JudgedTogether, coherent_text}

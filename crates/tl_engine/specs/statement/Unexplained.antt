@@ -1,11 +1,9 @@
 -- The reasons why nothing is explained, by the bytes that were read and written.
 use Rattle.std.specs.Prelude.{◌≡◌, ◌⊎◌, ℕ, Bool, List, ◌++◌, Option}
 use Rattle.std.specs.Io.KnownBytes.{Consumes}
-use Rattle.tl_engine.specs.code.GivenUp.{lines_ended}
-use Rattle.tl_engine.specs.code.Lines.{lines_of}
-use Rattle.tl_engine.specs.code.Parts.{AppendsShort}
-use Rattle.tl_engine.specs.code.Progress.{RunsOut}
-use Rattle.tl_engine.specs.code.Run.{EndsAs}
+use Rattle.tl_engine.specs.statement.Lines.{lines_ended, lines_of, RunsOut}
+use Rattle.tl_engine.specs.statement.Parts.{AppendsShort}
+use Rattle.tl_engine.specs.statement.Run.{EndsAs}
 use Rattle.tl_engine.specs.declared.explain_fault.ExplainFault.{ExplainFault}
 use Rattle.tl_engine.specs.declared.explain_fault.ExplainFault.TheVariants.{Changed, Tool}
 use Rattle.tl_engine.specs.declared.status.Status.{Status}

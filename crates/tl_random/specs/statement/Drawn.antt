@@ -14,7 +14,7 @@ use Rattle.tl_coherence.specs.declared.event.Outcome.TheVariants as outcome
 use Rattle.tl_coherence.specs.statement.Draining.{IsDrained}
 use Rattle.tl_coherence.specs.statement.Log.{Log, system_after}
 use Rattle.tl_coherence.specs.statement.Movable.{drained}
-use Rattle.tl_engine.specs.code.PlayableWorld.{Contained, HasHappened}
+use Rattle.tl_engine.specs.statement.PlayableWorld.{Contained, HasHappened}
 use Rattle.tl_schedule.specs.statement.EventLine.{Deliver, SpellsEvent, drain_line, event_line}
 use Rattle.tl_world.specs.statement.World.{held_by}
 use Rattle.tl_random.specs.statement.Choose.{channel_of, request}

@@ -1,7 +1,7 @@
 -- The notes on an input that comes in pieces.
 use Rattle.std.specs.Prelude.{◌≡◌, ◌≢◌, ℕ, List, [], ◌++◌, length, take}
 use Rattle.sha2.specs.Hashers.{Holds256}
-use Rattle.tl_engine.specs.code.Lines.{lines_of}
+use Rattle.tl_engine.specs.statement.Lines.{lines_of}
 use Rattle.tl_engine.specs.code.Progress.{HasAll, Progress}
 use Rattle.tl_engine.specs.declared.lines.Lines.{Lines}
 use Rattle.tl_engine.specs.declared.status.Status.{Status}

@@ -5,7 +5,7 @@ use Rattle.tl_beat.specs.declared.beat.Link.{Link}
 use Rattle.tl_beat.specs.statement.Line.{Spells}
 use Rattle.tl_cover.specs.declared.covering.Covering.{Covering}
 use Rattle.tl_cover.specs.statement.Covers.{Covers, cells_in, rows_in}
-use Rattle.tl_engine.specs.code.Watching.{said_by}
+use Rattle.tl_engine.specs.statement.JudgedSo.{said_by}
 use Rattle.tl_engine.specs.declared.fault.Fault.{Fault}
 use Rattle.tl_engine.specs.declared.status.Status.{Status}
 use Rattle.tl_engine.specs.statement.Judged.{IsAtFault, JudgedAfter}

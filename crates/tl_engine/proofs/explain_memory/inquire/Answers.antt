@@ -1,5 +1,5 @@
 use Rattle.std.proofs.Common.{refl, rules, ap, ◌∙◌, ◌≡◌}
-use Rattle.tl_engine.specs.code.Lines.{lines_of}
+use Rattle.tl_engine.specs.statement.Lines.{lines_of}
 use Rattle.tl_engine.specs.declared.testimony.Testimony.{Testimony}
 use Rattle.tl_engine.proofs.Testifying.{fresh-testimony, judged-for, stood, told-for}
 use Rattle.tl_engine.proofs.explain_memory.inquire.Goals as goal

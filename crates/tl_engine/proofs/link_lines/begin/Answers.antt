@@ -1,7 +1,7 @@
 use Rattle.std.proofs.Common.{refl}
 use Rattle.tl_engine.proofs.JudgedTraces.{header_known}
 use Rattle.tl_engine.proofs.Tracing.{names-allowed, traced-first}
-use Rattle.tl_engine.specs.code.Watching.{said_by}
+use Rattle.tl_engine.specs.statement.JudgedSo.{said_by}
 use Rattle.tl_engine.specs.code.TraceJudging.{KnowsBeats}
 use Rattle.tl_engine.specs.statement.JudgedLinks.{faults_by, heads_by}
 use Rattle.tl_params.specs.declared.width.Width.TheVariants.{Four, Eight, Sixteen}

@@ -1,6 +1,7 @@
 use Rattle.tl_params.specs.declared.width.Width.TheVariants.{Four, Eight, Sixteen}
 use Rattle.tl_engine.proofs.JudgedTraces.{header_known}
-use Rattle.tl_engine.specs.code.Watching.{KnowsBeats, faults_by, is_together, said_by}
+use Rattle.tl_engine.specs.code.Watching.{KnowsBeats, is_together}
+use Rattle.tl_engine.specs.statement.JudgedSo.{faults_by, said_by}
 use Rattle.tl_engine.specs.statement.Trace.{SpellsHeader}
 use Rattle.tl_engine.proofs.monitor_lines.begin.Goals as goal
 use Rattle.tl_engine.proofs.monitor_lines.begin.Goals.{in-Four+in_ok-new-in-Four}

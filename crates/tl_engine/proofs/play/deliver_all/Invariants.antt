@@ -1,6 +1,6 @@
 use Rattle.tl_params.specs.declared.config.Config.{Config}
 use Rattle.tl_coherence.specs.statement.Log.{Log}
-use Rattle.tl_engine.specs.code.PlayableWorld.{HasHappened}
+use Rattle.tl_engine.specs.statement.PlayableWorld.{HasHappened}
 use Rattle.tl_engine.proofs.Played.{Delivered}
 use Rattle.tl_engine.proofs.play.deliver_all.Given as goal
 

@@ -1,5 +1,5 @@
 use Rattle.std.proofs.Common.{refl, rules, subst, sym}
-use Rattle.tl_engine.specs.code.PlayableWorld.{Contained}
+use Rattle.tl_engine.specs.statement.PlayableWorld.{Contained}
 use Rattle.tl_random.proofs.Played.{Tries, drain-played, event-played, none-tried, not-taken, one-tried}
 use Rattle.tl_random.proofs.Schedules.{grows_drain, grows_event}
 use Rattle.tl_random.proofs.generator.Generator.append_line.Goals as goal

@@ -4,7 +4,6 @@ use Rattle.tl_beat.specs.declared.channel.Channel.TheVariants as channel
 use Rattle.tl_burst.specs.statement.Messages.{History, unfinished}
 use Rattle.tl_params.specs.declared.config.ClientConfig.{ClientConfig}
 use Rattle.tl_params.specs.declared.config.NewFault.{NewFault}
-use Rattle.tl_params.specs.declared.config.NewFault.TheVariants as fault
 use Rattle.tl_params.specs.declared.profile.Profile.{Profile}
 use Rattle.tl_params.specs.statement.Config.{client_fault}
 use Rattle.tl_rules.specs.statement.Conformance.{comes_in_grant}
@@ -13,6 +12,7 @@ use Rattle.tl_client.specs.declared.caching.Caching.{Caching}
 use Rattle.tl_client.specs.declared.caching.Granting.{Granting}
 use Rattle.tl_client.specs.laws.Accounted.{IsAccounted, comes_granting}
 use Rattle.tl_client.specs.statement.Endpoint.{EndConfig, Endpoint, fresh}
+use Rattle.tl_client.specs.statement.Fault.{IsFault}
 use Rattle.tl_client.specs.laws.Inside.{IsInside}
 use Rattle.tl_client.specs.statement.EndpointInvariant.{IsEndpointInvariant}
 use Rattle.tl_client.specs.statement.Requests.{open_beat, open_release, fields_of, release_fields}
@@ -48,11 +48,6 @@ pub record KnowsCaching {w : ℕ} (c : Caching w) (e : Endpoint w) : Type 0 wher
   pub kept : IsEndpointInvariant e
   pub accounted : IsAccounted e.past
   pub inside : IsInside (caching_terms c) e.past
-
--- the first limit that is broken, or that there is no memory
-abbrev pub IsFault : Option NewFault → NewFault → Type 0
-IsFault None f = f ≡ fault.Memory
-IsFault (Some first) f = f ≡ first
 
 -- what a new caching client is, or why there is none
 abbrev pub IsNewCaching : {w : ℕ} → ClientConfig → ℕ → Profile → Result (Caching w) NewFault → Type 0

@@ -11,12 +11,13 @@ use Rattle.tl_params.specs.declared.profile.Profile.{Profile}
 use Rattle.tl_params.specs.declared.rule.Rule.{Rule}
 use Rattle.tl_params.specs.statement.Config.{client_fault}
 use Rattle.tl_rules.specs.statement.History.{held}
-use Rattle.tl_client.specs.code.KnowsAny.{KnowsAny, any_terms, IsFaultAt}
+use Rattle.tl_client.specs.code.KnowsAny.{KnowsAny, any_terms}
 use Rattle.tl_client.specs.declared.operation.Op.{Op}
 use Rattle.tl_client.specs.declared.reply.Reply.{Reply}
 use Rattle.tl_client.specs.declared.verdict.Verdict.{Verdict}
 use Rattle.tl_client.specs.statement.Ask.{asked}
 use Rattle.tl_client.specs.statement.Endpoint.{Endpoint, fresh}
+use Rattle.tl_client.specs.statement.Fault.{IsFaultAt}
 use Rattle.tl_client.specs.statement.Offer.{offered}
 use Rattle.tl_ports.specs.declared.client.ClientPort.{ClientPort}
 use Rattle.tl_ports.specs.statement.Waiting.{waiting, handed_on, same_channel}

@@ -1,14 +1,15 @@
 -- A manager with the beats that it has still to send, by the definition of a manager's end of its links.
-use Rattle.std.specs.Prelude.{ℕ, List, [], ◌≡◌, ◌++◌, drop, length, replicate, slice_get, Option, Result, Ok, Err}
+use Rattle.std.specs.Prelude.{ℕ, List, [], ◌≡◌, ◌⊎◌, ◌++◌, drop, length, replicate, slice_get, Option, Some, None, Result, Ok, Err}
 use Rattle.std.specs.Prelude.{if◌then◌else◌}
 use Rattle.tl_beat.specs.declared.beat.Beat.{Beat}
 use Rattle.tl_beat.specs.declared.beat.Link.{Link}
 use Rattle.tl_beat.specs.declared.channel.Channel.{Channel}
 use Rattle.tl_params.specs.declared.config.Config.{Config}
 use Rattle.tl_params.specs.declared.config.NewFault.{NewFault}
+use Rattle.tl_params.specs.declared.config.NewFault.TheVariants.{Memory}
 use Rattle.tl_params.specs.declared.rule.Rule.{Rule}
+use Rattle.tl_params.specs.statement.Config.{config_fault}
 use Rattle.tl_manager.specs.code.Directories.{perm_of_bits}
-use Rattle.tl_manager.specs.code.Fresh.{IsNew}
 use Rattle.tl_manager.specs.declared.manager.admission.Admission.{Admission}
 use Rattle.tl_manager.specs.declared.manager.admission.Admission.TheVariants.{Waits, Passes}
 use Rattle.tl_manager.specs.statement.End.{End}
@@ -102,9 +103,10 @@ PoppedOn at channel old new =
     ≡ (if is_place link ch at channel then drop 1 (to_send_on link ch old) else to_send_on link ch old))
 
 -- A new manager grants its clients these terms, has taken and handed out nothing, and no beat waits. Otherwise the
--- error says why.
+-- error is the first limit that is broken, or `Memory`.
 abbrev pub IsNewManager : {w : ℕ} → Config → Terms → Result (ManagerPort w) NewFault → Type 0
 IsNewManager config terms (Ok port) =
     KnowsEndUnder port terms config (fresh_partner config)
     × ((link : ℕ) (ch : Channel) → to_send_on link ch port ≡ [])
-IsNewManager {w} config terms (Err fault) = IsNew {w = w} perm_of_bits config (Err fault)
+IsNewManager config terms (Err fault) =
+    (config_fault config ≡ Some fault) ⊎ ((config_fault config ≡ None) × (fault ≡ Memory))

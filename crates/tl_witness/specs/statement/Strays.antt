@@ -13,7 +13,7 @@ use Rattle.tl_bytes.specs.statement.Bytes.{Access, before_last, found_after, is_
 use Rattle.tl_bytes.specs.statement.Bytes.{pending_accesses}
 use Rattle.tl_bytes.specs.statement.Lines.{told_moment}
 use Rattle.tl_memory.specs.statement.Expecting.{may_answer}
-use Rattle.tl_rules.specs.code.Open.{open_request}
+use Rattle.tl_rules.specs.statement.OpenMessages.{open_request}
 use Rattle.tl_rules.specs.declared.past.Request.{Request}
 use Rattle.tl_rules.specs.statement.Admission.{lanes_of}
 use Rattle.tl_rules.specs.statement.Conformance.{Trace, on_link}

@@ -40,7 +40,7 @@ WIDE_WORDS = f"""00 A AcquireBlock NtoT size=6 source=0100 address=0000000180000
 01 D GrantData toB size=6 source=0002 sink=0011 denied=0 data={64 * '0'} corrupt=0
 01 E GrantAck sink=0011
 """
-WIDE = "tltool: the header is of wide beats, which monitor and coherent read, without --all, --report and --junit\n"
+WIDE = "tltool: the header is of wide beats, which monitor, coherent and cover read, without --all, --report and --junit\n"
 NUMBER = "a number from 0 to 18446744073709551615"
 LIST = "1 to 16 clients with commas between them, each UL, UH or C with its number of sources from 1 to 8, as C:2,C:2,UH:1"
 LIBERTIES_TOGETHER = "none, or names of ids, sinks, writer, drops, reports, denied and uncorrupt, in this order, with a comma between them"
@@ -386,6 +386,13 @@ ROWS = [
     ("tltool cover --json wrong_report.trace two_caches.trace", 1, "{\"verdicts\": [\"line 13 H12\", \"clean 29\"], \"seen\": ..", ""),
     ("tltool cover --json wrong_report.trace two_caches.trace | grep -o '\"report-TtoB.*line\": [0-9]*'", 0, "\"report-TtoB\", \"count\": 1, \"trace\": 1, \"line\": 14\n", ""),
     ("tltool cover --json two_caches.trace two_caches.trace | grep -o '\"report-TtoN.*line\": [a-z]*'", 0, "\"report-TtoN\", \"count\": 0, \"trace\": null, \"line\": null\n", ""),
+    # wide beats: the lines are theirs, the counts those of their parts
+    ("tltool cover wide/two_caches.trace | head -4 | cut -d: -f1", 0, "clean 11\nacquire-NtoB 1, line 6\nacquire-NtoT 1, line 2\ngrant-NtoB 1, line 10\n", ""),
+    ("tltool cover wide/wrong_report.trace", 1, "line 6 H12\n..", ""),
+    ("tltool cover two_caches.trace wide/two_caches.trace | grep ^report-TtoB", 0, "report-TtoB 2, two_caches.trace:14: a ProbeAck with this report\n", ""),
+    ("tltool cover wide/two_caches.trace two_caches.trace | grep ^report-TtoB", 0, "report-TtoB 2, wide/two_caches.trace:8: a ProbeAck with this report\n", ""),
+    ("sed '1s/32/24/' wide/two_caches.trace | tltool cover", 1, "line 1 F7\n0 of 79 situations seen\n", ""),
+    ("head -c -1 wide/two_caches.trace | tltool cover", 1, f"{F1.format(12)}..", ""),
     ("tltool cover two_caches.trace nope.trace wrong_report.trace", 3, "", "tltool: cannot open nope.trace\n"),
     ("tltool cover two_caches.trace rules", 3, "", "tltool: read failed\n"),
     ("tltool cover rules", 3, "", "tltool: read failed\n"),

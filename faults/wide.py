@@ -2,9 +2,11 @@
 """wide.py TOOL [SEEDS]: traces of random schedules, SEEDS of them (three hundred if none is said), are written wide: their beats
 joined to those of a bus of up to 64 bytes, their blocks named by addresses of 64 bits and their ids by numbers of 16, one to
 one; some with a line spoiled. TOOL must say of each what it says of the narrow trace that this program makes of it by the text of
-docs/FORMATS.md, at the line of the wide beat whose part is at fault, `monitor` and `coherent` each. Traces with names beyond
+docs/FORMATS.md, at the line of the wide beat whose part is at fault, `monitor` and `coherent` each; and `cover --json` must count
+what it counts of the narrow trace, with the lines of the wide beats. Traces with names beyond
 a limit are F9. `decode --wide` must write of each what this program writes of its fields. Ends with 'wide: N passed, M failed'."""
 import concurrent.futures
+import json
 import os
 import pathlib
 import random
@@ -251,15 +253,21 @@ def of(tool, *words, text=None):
     return ran.returncode, ran.stdout
 
 
-def wanted(tool, words, liberties, levels, beats, width):
-    """The verdict on a wide trace, by that on the narrow one."""
-    owners, lines, beyond = [], [f"tltrace 4 {min(width, 16)} {liberties} {levels}"], None
+def narrow_trace(liberties, levels, beats, width):
+    """The lines of the trace that a wide trace becomes, the line of the wide beat of each of its beats, and the line of the first beat
+    beyond a limit, if there is one."""
+    lines, owners = [f"tltrace 4 {min(width, 16)} {liberties} {levels}"], []
     for number, parts in enumerate(narrowed(beats, width), 2):
         if parts is None:
-            beyond = number
-            break
+            return lines, owners, number
         owners += len(parts) * [number]
         lines += [it.line(min(width, 16), 2, 8) for it in parts]
+    return lines, owners, None
+
+
+def wanted(tool, words, liberties, levels, beats, width):
+    """The verdict on a wide trace, by that on the narrow one."""
+    lines, owners, beyond = narrow_trace(liberties, levels, beats, width)
     status, verdict = of(tool, *words, text="\n".join(lines) + "\n")
     if verdict.startswith("line "):
         _, line, rule = verdict.split()
@@ -267,6 +275,22 @@ def wanted(tool, words, liberties, levels, beats, width):
     if beyond:
         return 1, f"line {beyond} F9\n"
     return status, f"{verdict.split()[0]} {len(beats)}\n"
+
+
+def counted(tool, text, verdict, line_of):
+    """What `cover --json` says of a trace, with this verdict, and with the lines that `line_of` gives in the place of its own."""
+    told = json.loads(of(tool, "cover", "--json", text=text)[1])
+    return {**told, "verdict": verdict or told["verdict"], "situations": [
+        {**row, "line": row["line"] and line_of(row["line"])} for row in told["situations"]
+    ]}
+
+
+def miscounted(tool, text, liberties, levels, beats, width):
+    """Whether `cover` of a wide trace counts other situations than those of the narrow one, or has other lines of them."""
+    lines, owners, _ = narrow_trace(liberties, levels, beats, width)
+    verdict = wanted(tool, ["monitor"], liberties, levels, beats, width)[1].strip()
+    ought = counted(tool, "\n".join(lines) + "\n", verdict, lambda line: owners[line - 2])
+    return counted(tool, text, None, lambda line: line) != ought
 
 
 def words_of(seed):
@@ -300,6 +324,8 @@ def slips(tool, seed):
             wrong.append(f"{' '.join(command)} says {says}, and ought to say {ought}")
         if right and width == narrow and ought[0]:
             wrong.append(f"{' '.join(command)} finds a fault in a right trace: {ought[1]}")
+    if miscounted(tool, text, liberties, levels, beats, width):
+        wrong.append("cover counts other situations than those of the narrow trace")
     return wrong, of(tool, "monitor", text=text)[1].split()[-1]
 
 

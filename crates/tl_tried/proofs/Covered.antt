@@ -20,12 +20,10 @@ use Rattle.tl_engine.proofs.JudgedTraces.{all_judged, bad_line, header_unread, h
 use Rattle.tl_engine.proofs.LinksHeaders.{open_heads}
 use Rattle.tl_engine.specs.code.Judging.{Ends, EndsHere, Finishes, Judges, Stops}
 use Rattle.tl_engine.specs.statement.Lines.{IsOpen}
-use Rattle.tl_engine.specs.code.Progress.{HasAll}
 use Rattle.tl_engine.specs.code.Watching.{KnowsTraceOf, end_by}
 use Rattle.tl_engine.specs.statement.JudgedSo.{said_by}
 use Rattle.tl_engine.specs.declared.fault.Fault.{Fault}
 use Rattle.tl_engine.specs.declared.fault.Fault.TheVariants.{Header, Line, Rule as Breaks}
-use Rattle.tl_engine.specs.declared.status.Status.{Status}
 use Rattle.tl_engine.specs.declared.status.Status.TheVariants.{Clean, Broken}
 use Rattle.tl_engine.specs.statement.Fault.{fault_text}
 use Rattle.tl_engine.specs.statement.Judged.{IsAtFault, JudgedAfter, JudgedBy}
@@ -41,11 +39,11 @@ use Rattle.tl_params.specs.declared.width.Width.{Width}
 use Rattle.tl_rules.specs.statement.Conformance.{Trace}
 use Rattle.tl_rules.specs.statement.Liberties.{broken_on_link_under}
 use Rattle.tl_tried.specs.code.Following.{EndsLines, KnowsFollowing, KnowsLines, KnowsTrace, ReadsLine, TakesBeat}
-use Rattle.tl_tried.specs.code.Following.{found_by, found_in, found_of_lines}
+use Rattle.tl_tried.specs.code.Following.{found_by, found_in}
 use Rattle.tl_tried.specs.declared.cover_lines.CoverLines.{CoverLines}
 use Rattle.tl_tried.specs.declared.cover_lines.Following.{Following}
 use Rattle.tl_tried.specs.declared.cover_lines.Following.TheVariants.{Waiting, Four, Eight, Sixteen}
-use Rattle.tl_tried.specs.statement.Tried.{AreCovered, CoveredAfter, Found, found_of}
+use Rattle.tl_tried.specs.statement.Covered.{AreCovered, CoveredAfter, Found, found_of}
 
 -- what is judged, as it is known of each link by itself
 abbrev judged_in : {w : ℕ} {allow : Liberties} {c : Covering w} {lines : List (List ℕ)} {text : List ℕ}
@@ -67,7 +65,7 @@ abbrev KnownTo : {w : ℕ} → Covering w → List Level → Liberties → Trace
 KnownTo c levels may t = Covers c levels may t false
 
 -- the situations and the counts of a covering are those of its trace
-found_are : {w : ℕ} (c : Covering w) (levels : List Level) (may : Liberties) (t : Trace w) (closed : Bool)
+pub found_are : {w : ℕ} (c : Covering w) (levels : List Level) (may : Liberties) (t : Trace w) (closed : Bool)
     → Covers c levels may t closed → found_in c ≡ found_of may levels t
 found_are c levels may t closed known =
     ap₂ (λ (rows : List Row) (counts : List (Option ℕ)). (rows, counts)) known.follows.rows_are
@@ -299,10 +297,3 @@ covered_by allow (Sixteen c) lines text k = all_covered allow c lines text k
 
 pub covered_here : (h : CoverLines) → EndsHere KnowsLines EndsLines h
 covered_here h = λ lines text k. covered_by h.allow h.following lines text k
-
--- what a handler has of all lines is covered
-pub covered_at_end : (h : CoverLines) (lines : List (List ℕ)) (status : Status)
-    → HasAll KnowsLines EndsLines h lines status
-    → AreCovered h.allow lines (found_of_lines h)
-covered_at_end h lines Clean (text, k) = covered_here h lines text k
-covered_at_end h lines Broken has = has

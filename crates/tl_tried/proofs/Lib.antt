@@ -2,4 +2,8 @@ pub mod Covered
 pub mod Joined
 pub mod Summed
 pub mod Telling
+pub mod TraceCounted
+pub mod WideCounted
+pub mod WideParts
+pub mod WideRowed
 mod Worked

@@ -8,51 +8,52 @@ use Rattle.tl_engine.specs.statement.Lines.{lines_of}
 use Rattle.tl_engine.specs.code.Progress.{HasAll}
 use Rattle.tl_engine.specs.statement.Run.{EndsAs}
 use Rattle.tl_engine.specs.declared.status.Status.{Status}
-use Rattle.tl_engine.specs.statement.JudgedLinks.{JudgedLinks}
 use Rattle.tl_params.specs.declared.liberties.Liberties.{Liberties}
-use Rattle.tl_tried.proofs.Covered.{covered_at_end}
-use Rattle.tl_tried.specs.code.Following.{EndsLines, KnowsLines, found_of_lines}
-use Rattle.tl_tried.specs.declared.cover_lines.CoverLines.{CoverLines}
+use Rattle.tl_tried.proofs.TraceCounted.{counted-at-end}
+use Rattle.tl_tried.specs.code.WideFollowing.{EndsTrace, KnowsCover, found_of_trace}
+use Rattle.tl_tried.specs.declared.cover_trace.CoverTrace.{CoverTrace}
 use Rattle.tl_tried.specs.declared.sum.Sum.{Sum}
 use Rattle.tl_tried.specs.declared.tried.Tried.{Tried}
 use Rattle.tl_tried.specs.statement.Sums.{cells_of, sums_of}
 use Rattle.tl_tried.specs.statement.Told.{Names, shown, told, told_named}
-use Rattle.tl_tried.specs.statement.Tried.{AreCovered, Found}
+use Rattle.tl_tried.specs.statement.WideCovered.{TraceCovered}
+use Rattle.tl_wide_lines.specs.statement.JudgedTrace.{JudgedTrace}
+use Rattle.tl_tried.specs.statement.Covered.{Found}
 
 -- what was read is judged, and the situations are those of it
-abbrev pub Gathered : Liberties → CoverLines → Option (List ℕ) → Option (List ℕ) → List ℕ → Status → Type 0
+abbrev pub Gathered : Liberties → CoverTrace → Option (List ℕ) → Option (List ℕ) → List ℕ → Status → Type 0
 Gathered allow h had left verdict status =
-    (read : List ℕ) × Consumes had left read × JudgedLinks false allow (lines_of read) verdict status
-    × EndsAs (JudgedLinks false allow) left read verdict status × AreCovered allow (lines_of read) (found_of_lines h)
+    (read : List ℕ) × Consumes had left read × JudgedTrace false allow (lines_of read) verdict status
+    × EndsAs (JudgedTrace false allow) left read verdict status × TraceCovered allow (lines_of read) (found_of_trace h)
 
 -- a handler that was made for this has gathered them
-pub gathered : (h old : CoverLines) (allow : Liberties) (had left : Option (List ℕ)) (verdict : List ℕ)
+pub gathered : (h old : CoverTrace) (allow : Liberties) (had left : Option (List ℕ)) (verdict : List ℕ)
     (status : Status)
-    → old.allow ≡ allow → h.allow ≡ allow
-    → (read : List ℕ) × Consumes had left read × JudgedLinks false old.allow (lines_of read) verdict status
-    × EndsAs (JudgedLinks false old.allow) left read verdict status × HasAll KnowsLines EndsLines h (lines_of read)
+    → old.narrow.allow ≡ allow → h.narrow.allow ≡ allow
+    → (read : List ℕ) × Consumes had left read × JudgedTrace false old.narrow.allow (lines_of read) verdict status
+    × EndsAs (JudgedTrace false old.narrow.allow) left read verdict status × HasAll KnowsCover EndsTrace h (lines_of read)
     status
     → Gathered allow h had left verdict status
 gathered h old allow had left verdict status was now (read, consumed, judged, ended, has) = (
   read,
   consumed,
-  subst (λ (l : Liberties). JudgedLinks false l (lines_of read) verdict status) was judged,
-  subst (λ (l : Liberties). EndsAs (JudgedLinks false l) left read verdict status) was ended,
-  subst (λ (l : Liberties). AreCovered l (lines_of read) (found_of_lines h)) now (covered_at_end h (lines_of read) status has),
+  subst (λ (l : Liberties). JudgedTrace false l (lines_of read) verdict status) was judged,
+  subst (λ (l : Liberties). EndsAs (JudgedTrace false l) left read verdict status) was ended,
+  subst (λ (l : Liberties). TraceCovered l (lines_of read) (found_of_trace h)) now (counted-at-end h (lines_of read) status has),
 )
 
 -- a trace with them is tried
-pub tried : (allow : Liberties) (h : CoverLines) (had left : Option (List ℕ)) (verdict : List ℕ) (status : Status)
+pub tried : (allow : Liberties) (h : CoverTrace) (had left : Option (List ℕ)) (verdict : List ℕ) (status : Status)
     (said old rows : List Row) (counts : List (Option ℕ)) → Gathered allow h had left verdict status
-    → said ≡ (found_of_lines h).0 → counts ≡ (found_of_lines h).1 → old ≡ [] → rows ≡ old ++ said
-    → (read : List ℕ) × Consumes had left read × JudgedLinks false allow (lines_of read) verdict status
-    × EndsAs (JudgedLinks false allow) left read verdict status × AreCovered allow (lines_of read) (rows, counts)
+    → said ≡ (found_of_trace h).0 → counts ≡ (found_of_trace h).1 → old ≡ [] → rows ≡ old ++ said
+    → (read : List ℕ) × Consumes had left read × JudgedTrace false allow (lines_of read) verdict status
+    × EndsAs (JudgedTrace false allow) left read verdict status × TraceCovered allow (lines_of read) (rows, counts)
 tried allow h had left verdict status said old rows counts (read, consumed, judged, ended, covers) are counted empty is = (
   read,
   consumed,
   judged,
   ended,
-  subst (λ (found : Found). AreCovered allow (lines_of read) found)
+  subst (λ (found : Found). TraceCovered allow (lines_of read) found)
       (sym (ap₂ (λ (rs : List Row) (cs : List (Option ℕ)). (rs, cs)) (is ∙ rw (empty, are) refl) counted)) covers,
 )
 

@@ -1,12 +1,16 @@
 -- The situations of small traces, added by the definition.
 use Rattle.std.proofs.Common.{◌≡◌, ℕ, List, [], ◌∷◌, refl}
-use Rattle.std.specs.Prelude.{Option, Some, None}
+use Rattle.std.specs.Prelude.{map, Option, Some, None}
+use Rattle.tl_beat.specs.declared.beat.Beat.{Beat}
+use Rattle.tl_beat.specs.declared.beat.Link.{Link}
 use Rattle.tl_cover.specs.declared.row.Row.{Row}
 use Rattle.tl_cover.specs.declared.situation.Situation.{Situation}
 use Rattle.tl_cover.specs.declared.situation.Situation.TheVariants.{FourGrants, TwoGrants}
 use Rattle.tl_tried.specs.declared.sum.Place.{Place}
 use Rattle.tl_tried.specs.declared.sum.Sum.{Sum}
 use Rattle.tl_tried.specs.statement.Sums.{with_trace}
+use Rattle.tl_tried.specs.statement.WideCovered.{wide_line}
+use Rattle.tl_wide.specs.statement.Verdict.{owner}
 
 abbrev row : Situation → ℕ → Option ℕ → Row
 row situation count first = record { situation = situation; count = count; first = first }
@@ -36,3 +40,10 @@ no_header_first = refl
 no_header_later : with_trace 1 (with_trace 0 [] another_trace) []
     ≡ sum TwoGrants 1 (line_of 0 3) ∷ sum FourGrants 1 (line_of 0 9) ∷ []
 no_header_later = refl
+
+-- the second wide beat has two parts, so the lines of both are its line
+module _ {w : ℕ} (x y z u : Link × Beat w) where
+  lines_of_parts : map (wide_line ((x ∷ []) ∷ (y ∷ z ∷ []) ∷ (u ∷ []) ∷ [])) (2 ∷ 3 ∷ 4 ∷ 5 ∷ [])
+      ≡ 2 ∷ 3 ∷ 3 ∷ 4 ∷ []
+  unfolding owner
+  lines_of_parts = refl

@@ -1,1 +1,4 @@
 pub mod Following
+pub mod WideCover
+pub mod WideFollowing
+pub mod WideRows

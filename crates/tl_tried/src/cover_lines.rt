@@ -39,7 +39,10 @@ pub struct CoverLines {
 }
 
 /// Follows the links that a header names.
-fn follow<const W: usize>(alloc: Global, header: &LinksHeader) -> Result<Covering<W>, AllocError>
+pub fn follow<const W: usize>(
+    alloc: Global,
+    header: &LinksHeader,
+) -> Result<Covering<W>, AllocError>
     requires { IsWidth W }
     ensures { IfOk result (λ c. Covers c header.now.levels.items header.now.may [] false) }
 {
@@ -50,7 +53,7 @@ fn follow<const W: usize>(alloc: Global, header: &LinksHeader) -> Result<Coverin
 }
 
 /// Judges a beat, and takes it if it isn't at fault.
-fn take<const W: usize>(
+pub fn take<const W: usize>(
     covering: &mut Covering<W>,
     link: Link,
     beat: &Beat<W>,

@@ -3,8 +3,11 @@
 
 mod bins_json;
 mod cover_lines;
+mod cover_trace;
 mod json;
 pub mod sum;
 pub mod tell;
 mod text;
 pub mod tried;
+mod wide_covering;
+mod wide_rows;

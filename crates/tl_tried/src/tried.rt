@@ -5,11 +5,12 @@ ghost use Rattle.std.specs.Io.KnownBytes.{Consumes};
 ghost use Rattle.tl_engine.specs.statement.Lines.{lines_of};
 ghost use Rattle.tl_engine.specs.statement.Run.{EndsAs};
 ghost use Rattle.tl_engine.specs.declared.status.ToolFault.{ToolFault};
-ghost use Rattle.tl_engine.specs.statement.JudgedLinks.{JudgedLinks};
-ghost use Rattle.tl_tried.specs.code.Following.{found_of_lines};
-ghost use Rattle.tl_tried.specs.statement.Tried.{AreCovered, IsTried};
+ghost use Rattle.tl_tried.specs.code.WideFollowing.{found_of_trace};
+ghost use Rattle.tl_tried.specs.statement.Tried.{IsTried};
+ghost use Rattle.tl_tried.specs.statement.WideCovered.{TraceCovered};
+ghost use Rattle.tl_wide_lines.specs.statement.JudgedTrace.{JudgedTrace};
 
-use crate::cover_lines::CoverLines;
+use crate::cover_trace::CoverTrace;
 use std::alloc::Global;
 use std::io::Read;
 use tl_cover::row::Row;
@@ -38,15 +39,15 @@ fn gather<R: Read>(
     allow: Liberties,
     reader: &mut R,
     verdict: &mut Vec<u8>,
-) -> Result<(CoverLines, Status), ToolFault>
+) -> Result<(CoverTrace, Status), ToolFault>
     requires { verdict.old.items ≡ [] }
     ensures ok { IfOk result (λ both. (read : List ℕ) × Consumes (R.remaining reader.old) (R.remaining reader.new) read
-        × JudgedLinks false allow (lines_of read) verdict.new.items both.1
-        × EndsAs (JudgedLinks false allow) (R.remaining reader.new) read verdict.new.items both.1
-        × AreCovered allow (lines_of read) (found_of_lines both.0)) }
+        × JudgedTrace false allow (lines_of read) verdict.new.items both.1
+        × EndsAs (JudgedTrace false allow) (R.remaining reader.new) read verdict.new.items both.1
+        × TraceCovered allow (lines_of read) (found_of_trace both.0)) }
     ensures fault { IfErr result (λ fault. fault ≢ ToolFault.Write) }
 {
-    let mut lines = Lines::new(CoverLines::new(alloc, allow));
+    let mut lines = Lines::new(CoverTrace::new(alloc, allow));
     let status = judge_input(alloc, &mut lines, reader, verdict)?;
     Ok((lines.into_handler(), status))
 }

@@ -99,7 +99,7 @@ pub behind-last : {A : Type 0} (xs : List A) (x : A) → behind (xs ++ x ∷ [])
 unfolding behind
 behind-last xs x = behind-more xs (x ∷ []) []
 
-behind-length : {A : Type 0} (xs before : List A) → length (behind xs before) ≡ length xs + length before
+pub behind-length : {A : Type 0} (xs before : List A) → length (behind xs before) ≡ length xs + length before
 unfolding behind
 behind-length [] before = omega arith
 behind-length (x ∷ xs) before = let more = behind-length xs (x ∷ before) in omega (arith, more)
@@ -143,7 +143,7 @@ joined-more [] last = append-nil last
 joined-more (first ∷ parts) last =
     ap (λ rest. first ++ rest) (joined-more parts last) ∙ sym (append_assoc first (joined parts) last)
 
-owner-last : {p : ℕ} (parts : List (Trace p)) (last : Trace p) (i : ℕ) → length (joined parts) ≤ i
+pub owner-last : {p : ℕ} (parts : List (Trace p)) (last : Trace p) (i : ℕ) → length (joined parts) ≤ i
     → i < length (joined parts) + length last → owner (parts ++ last ∷ []) i ≡ length parts
 unfolding owner joined
 owner-last [] last i from within = rw (lt-ltb i (length last) (omega (arith, within))) refl
@@ -230,13 +230,13 @@ module _ {w : ℕ} (together : Bool) (may : Liberties) (levels : List Level) (tr
     one-more : length (trace ++ x ∷ []) ≡ suc (length trace)
     one-more = let all = length-append trace (x ∷ []) in omega (arith, all)
 
-    becomes : is_beyond x.0 (x ∷ behind trace []) ≡ false
+    pub becomes : is_beyond x.0 (x ∷ behind trace []) ≡ false
         → narrowed (trace ++ x ∷ []) ≡ narrowed trace ++ on_one_link x.0 parts_of_it ∷ []
     becomes within =
         narrowed-more [] trace x taken.complete
         ∙ ap (λ rest. narrowed trace ++ rest) (narrowed-one (behind trace []) x within)
 
-    joins : is_beyond x.0 (x ∷ behind trace []) ≡ false
+    pub joins : is_beyond x.0 (x ∷ behind trace []) ≡ false
         → joined (narrowed (trace ++ x ∷ [])) ≡ joined (narrowed trace) ++ on_one_link x.0 parts_of_it
     joins within =
         ap joined (becomes within) ∙ joined-more (narrowed trace) (on_one_link x.0 parts_of_it)
@@ -282,18 +282,21 @@ module _ {w : ℕ} (together : Bool) (may : Liberties) (levels : List Level) (tr
         ∙ ap (λ place. Some (place, found))
         (ap (λ parts. owner parts i) (becomes within) ∙ at ∙ taken.complete)
 
+    -- a beat that names one too many becomes nothing
+    pub stays : is_beyond x.0 (x ∷ behind trace []) ≡ true → narrowed (trace ++ x ∷ []) ≡ narrowed trace
+    stays past =
+        narrowed-more [] trace x taken.complete
+        ∙ ap (λ rest. narrowed trace ++ rest) (narrowed-beyond (behind trace []) x past)
+        ∙ append-nil (narrowed trace)
+
     -- the next beat names one too many
     pub next-beyond : is_beyond x.0 (x ∷ behind trace []) ≡ true
         → first_fault_of together may levels (trace ++ x ∷ []) ≡ Some (length trace, fault.Beyond)
     next-beyond past =
-        let same : narrowed (trace ++ x ∷ []) ≡ narrowed trace =
-        narrowed-more [] trace x taken.complete
-        ∙ ap (λ rest. narrowed trace ++ rest) (narrowed-beyond (behind trace []) x past)
-        ∙ append-nil (narrowed trace) in
         let less = lt-ltb (length (narrowed trace)) (length (trace ++ x ∷ [])) (omega (arith, one-more, taken.complete))
         in
         first-is together may levels (trace ++ x ∷ [])
         ∙ ap (λ parts. beat_at_fault parts (length (trace ++ x ∷ []))
-        (fault_from together levels may [] (joined parts))) same
+        (fault_from together levels may [] (joined parts))) (stays past)
         ∙ ap (beat_at_fault (narrowed trace) (length (trace ++ x ∷ []))) taken.good
         ∙ rw less (ap (λ place. Some (place, fault.Beyond)) taken.complete)

@@ -166,7 +166,7 @@ module _ {wide : WideWidth} (together : Bool) (allow : Liberties) (old : WideJud
   })
 
   -- the next line spells one that is at fault
-  beat-stops : (line : List ℕ) (link : Link) (x : WideBeat (wide_bytes_of wide)) (found : Fault)
+  pub beat-stops : (line : List ℕ) (link : Link) (x : WideBeat (wide_bytes_of wide)) (found : Fault)
       → WideSpells line link x
       → first_fault_of together k.may k.levels (k.trace ++ (link, x) ∷ []) ≡ Some (length k.trace, found)
       → (more : List (List ℕ))
@@ -207,7 +207,7 @@ module _ {wide : WideWidth} (together : Bool) (allow : Liberties) (old : WideJud
     Says (Some found) = (more : List (List ℕ))
         → JudgedTrace together allow (lines ++ line ∷ more) (text ++ fault_text (length lines + 1) found) Broken
 
-    beat-taken : (link : Link) (x : WideBeat (wide_bytes_of wide)) → WideSpells line link x
+    abbrev pub beat-taken : (link : Link) (x : WideBeat (wide_bytes_of wide)) → WideSpells line link x
         → is_beyond link ((link, x) ∷ behind k.trace []) ≡ false
         → part_fault together k.levels k.may link (beats_of link x ((link, x) ∷ behind k.trace []))
         (beats_taken k.trace)
@@ -260,7 +260,7 @@ module _ {wide : WideWidth} (together : Bool) (allow : Liberties) (old : WideJud
     line-says answer (inr (link, x, spells, judged)) = beat-says link x answer spells judged
 
 -- what its header begins
-pub header-known : (wide : WideWidth) (together : Bool) (allow : Liberties) (line : List ℕ) (may : Liberties)
+unfoldable pub header-known : (wide : WideWidth) (together : Bool) (allow : Liberties) (line : List ℕ) (may : Liberties)
     (levels : List Level) (judge : WideJudge (part_width (wide_bytes_of wide)))
     → wide_heads_by together allow line wide may levels → ((w : ℕ) → Follows {w = w} judge.narrower [])
     → KnowsBeats together judge.judge levels may [] → KnowsWide wide together allow judge (line ∷ []) []

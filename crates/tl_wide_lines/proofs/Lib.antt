@@ -4,7 +4,7 @@ pub mod FirstFaults
 pub mod JudgedLines
 mod JudgedOnce
 pub mod PartsJudged
-mod TraceJudged
+pub mod TraceJudged
 pub mod WideHeaders
 mod WideTexts
 mod Worked

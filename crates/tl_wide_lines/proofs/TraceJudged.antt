@@ -66,7 +66,7 @@ module _ (together : Bool) (allow : Liberties) (lines : List (List ℕ)) (text :
       line-says together allow old lines text k new line (Some x) judged
   links-say line old new answer judged k = absurd judged
 
-  links-open : (line : List ℕ) (links : WideLinks) → IsOpen line → KnowsWideLinks together allow links lines text
+  pub links-open : (line : List ℕ) (links : WideLinks) → IsOpen line → KnowsWideLinks together allow links lines text
       → WideSays together allow links lines text line (Some (Line F1))
   links-open line (Four judge) is k = line-stops together allow judge lines text k line F1 (open-fault 4 line is)
   links-open line (Eight judge) is k = line-stops together allow judge lines text k line F1 (open-fault 8 line is)
@@ -74,7 +74,7 @@ module _ (together : Bool) (allow : Liberties) (lines : List (List ℕ)) (text :
   links-open line (ThirtyTwo judge) is k = line-stops together allow judge lines text k line F1 (open-fault 32 line is)
   links-open line (SixtyFour judge) is k = line-stops together allow judge lines text k line F1 (open-fault 64 line is)
 
-  links-end : (links : WideLinks) → KnowsWideLinks together allow links lines text
+  pub links-end : (links : WideLinks) → KnowsWideLinks together allow links lines text
       → JudgedTrace together allow lines (text ++ said_by together (length lines - 1)) Clean
   links-end (Four judge) k = lines-end together allow judge lines text k
   links-end (Eight judge) k = lines-end together allow judge lines text k
@@ -100,13 +100,13 @@ wide-width width.SixtyFour = inr (inr (inr (inr refl)))
 -- ---- other beats
 
 -- what is said of lines of which the first is no header of wide beats
-links-judged : (together : Bool) (allow : Liberties) (lines : List (List ℕ)) (text : List ℕ) (status : Status)
+pub links-judged : (together : Bool) (allow : Liberties) (lines : List (List ℕ)) (text : List ℕ) (status : Status)
     → NoneWide together allow lines → JudgedLinks together allow lines text status
     → JudgedTrace together allow lines text status
 links-judged together allow [] text status none judged = judged
 links-judged together allow (line ∷ lines) text status none judged = inr (none, judged)
 
-none-first : (together : Bool) (allow : Liberties) (lines : List (List ℕ)) (line : List ℕ) (more : List (List ℕ))
+pub none-first : (together : Bool) (allow : Liberties) (lines : List (List ℕ)) (line : List ℕ) (more : List (List ℕ))
     → NoneWide together allow lines
     → (lines ≡ [] → BeginsWide together allow line None)
     → NoneWide together allow (lines ++ line ∷ more)

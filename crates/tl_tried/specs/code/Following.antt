@@ -17,7 +17,7 @@ use Rattle.tl_rules.specs.statement.Conformance.{Trace}
 use Rattle.tl_tried.specs.declared.cover_lines.CoverLines.{CoverLines}
 use Rattle.tl_tried.specs.declared.cover_lines.Following.{Following}
 use Rattle.tl_tried.specs.declared.cover_lines.Following.TheVariants.{Waiting, Four, Eight, Sixteen}
-use Rattle.tl_tried.specs.statement.Tried.{AreCovered, CoveredAfter, Found, found_of}
+use Rattle.tl_tried.specs.statement.Covered.{AreCovered, CoveredAfter, Found, found_of}
 
 -- the situations and the counts of a covering
 abbrev pub found_in : {w : ℕ} → Covering w → Found

@@ -1,62 +1,26 @@
--- The situations of a recorded trace, and the end of a run that reports them.
-use Rattle.std.specs.Prelude.{◌≡◌, ◌⊎◌, ℕ, Bool, false, true, List, [], ◌∷◌, length, Option, None}
+-- The result for a recorded trace, and the end of a run that reports its situations.
+use Rattle.std.specs.Prelude.{◌≡◌, ℕ, Bool, false, true, List, [], ◌∷◌, Option}
 use Rattle.std.specs.Prelude.{if◌then◌else◌}
 use Rattle.std.specs.Io.KnownBytes.{Consumes}
-use Rattle.tl_beat.specs.declared.beat.Beat.{Beat}
-use Rattle.tl_beat.specs.declared.beat.Link.{Link}
-use Rattle.tl_beat.specs.statement.Line.{Spells}
-use Rattle.tl_cover.specs.declared.row.Row.{Row}
-use Rattle.tl_cover.specs.statement.Covered.{cells, covered}
 use Rattle.tl_engine.specs.statement.Lines.{lines_of}
 use Rattle.tl_engine.specs.statement.Parts.{AppendsShort}
 use Rattle.tl_engine.specs.statement.Run.{EndsAs}
-use Rattle.tl_engine.specs.declared.fault.Fault.{Fault}
 use Rattle.tl_engine.specs.declared.status.Status.{Status}
 use Rattle.tl_engine.specs.declared.status.Status.TheVariants.{Broken, Clean}
 use Rattle.tl_engine.specs.declared.status.ToolFault.{ToolFault}
 use Rattle.tl_engine.specs.declared.status.ToolFault.TheVariants.{Write}
-use Rattle.tl_engine.specs.statement.Judged.{IsAtFault}
-use Rattle.tl_engine.specs.statement.JudgedLinks.{JudgedLinks, faults_by, heads_by}
-use Rattle.tl_engine.specs.statement.Width.{bytes_of}
-use Rattle.tl_params.specs.declared.level.Level.{Level}
 use Rattle.tl_params.specs.declared.liberties.Liberties.{Liberties}
-use Rattle.tl_params.specs.declared.width.Width.{Width}
-use Rattle.tl_rules.specs.statement.Conformance.{Trace}
 use Rattle.tl_tried.specs.declared.tried.Tried.{Tried}
-
--- the situations of a trace, and the counts of all bins on all links
-abbrev pub Found : Type 0
-Found = List Row × List (Option ℕ)
-
--- those of the beats of t
-abbrev pub found_of : {w : ℕ} → Liberties → List Level → Trace w → Found
-found_of may levels t = (covered may (length levels) t, cells may levels t)
-
--- The situations and counts of these lines after a header and the beats of t: those of all beats up to the first line at fault.
-unfoldable pub CoveredAfter : {w : ℕ} → List Level → Liberties → Trace w → List (List ℕ) → Found → Type 0
-CoveredAfter levels may t [] found = found ≡ found_of may levels t
-CoveredAfter {w} levels may t (line ∷ lines) found =
-    ((link : Link) × (beat : Beat w) × Spells line link beat × (faults_by false w levels may (link, beat) t ≡ None)
-    × CoveredAfter levels may ((link, beat) ∷ t) lines found)
-    ⊎ ((fault : Fault) × IsAtFault (faults_by false) levels may t line fault × (found ≡ found_of may levels t))
-
--- The situations and counts of the lines of a whole trace, on links with the liberties that its header names and those that are
--- allowed. There are none if the first line is no header or is missing.
-unfoldable pub AreCovered : Liberties → List (List ℕ) → Found → Type 0
-AreCovered allow [] found = found ≡ ([], [])
-AreCovered allow (line ∷ lines) found =
-    ((width : Width) × (may : Liberties) × (levels : List Level) × heads_by false allow line width may levels
-    × CoveredAfter {w = bytes_of width} levels may [] lines found)
-    ⊎ (((width : Width) (may : Liberties) (levels : List Level) → ¬ heads_by false allow line width may levels)
-    × (found ≡ ([], [])))
+use Rattle.tl_tried.specs.statement.WideCovered.{TraceCovered}
+use Rattle.tl_wide_lines.specs.statement.JudgedTrace.{JudgedTrace}
 
 -- The verdict, status, situations and counts of the input that was read, to its end or to a line at fault that no continuation
 -- can mend. The verdict and the status are those of `monitor`.
 abbrev pub IsTried : Liberties → Option (List ℕ) → Option (List ℕ) → Tried → Type 0
 IsTried allow had left tried =
-    (read : List ℕ) × Consumes had left read × JudgedLinks false allow (lines_of read) tried.verdict.items tried.status
-    × EndsAs (JudgedLinks false allow) left read tried.verdict.items tried.status
-    × AreCovered allow (lines_of read) (tried.rows.items, tried.cells.items)
+    (read : List ℕ) × Consumes had left read × JudgedTrace false allow (lines_of read) tried.verdict.items tried.status
+    × EndsAs (JudgedTrace false allow) left read tried.verdict.items tried.status
+    × TraceCovered allow (lines_of read) (tried.rows.items, tried.cells.items)
 
 -- a line is at fault
 abbrev pub is_broken : Status → Bool

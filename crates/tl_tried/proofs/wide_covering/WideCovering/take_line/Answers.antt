@@ -1,0 +1,14 @@
+use Rattle.std.proofs.Common.{inl, inr, refl, sym}
+use Rattle.std.proofs.lemmas.Result.{IfOk-weaker}
+use Rattle.tl_tried.proofs.wide_covering.WideCovering.take_line.Goals as goal
+
+pub returns-in-Err : goal.returns-in-Err
+returns-in-Err g c = inl (c.in-Err.fault, sym c.in-Err.ensures.fault, refl, refl)
+
+pub returns-in-Ok : goal.returns-in-Ok
+returns-in-Ok g c = IfOk-weaker c.push.result _ _ (λ answer takes. inr (
+  c.in-Ok.link,
+  _,
+  c.in-Ok.ensures.spelled,
+  takes,
+)) c.push.ensures

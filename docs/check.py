@@ -1,6 +1,7 @@
 #!/usr/bin/env python3
-"""Compares docs/ARCHITECTURE.md with the tree: each file, definition, law and lemma that its tables name exists, and its
-lists of files that must be believed are those that following imports finds. --count prints these with their lines, and
+"""Compares docs/ARCHITECTURE.md with the tree: each file, definition, law and lemma that its tables name exists, its
+lists of files that must be believed are those that following imports finds, and statements name of specs/code what it
+lists. --count prints these with their lines, and
 --above CRATE the crates that stand on one, the lowest first."""
 import pathlib
 import re
@@ -128,6 +129,22 @@ def check_lists():
             print(f"{sum(counts.values()):5} lines in {len(counts)} files: {title}")
 
 
+def names_of_code(file):
+    """What a file of definitions imports from specs/code: names, or modules where these are imported whole."""
+    imported = re.findall(r"^(?:pub )?use Rattle\.\w+\.specs\.code\.(.*)$", file.read_text(), re.M)
+    return {name for names in imported for name in re.findall(r"[\w◌-]+(?=[,}])", names) or [names]}
+
+
+def check_statements():
+    listed = {row[0]: set(re.findall(r"`([^`]+)`", row[1])) for row in rows(section("What statements name of `specs/code`"))}
+    files = (file for file in modules().values() if "statement" in file.parts)
+    found = {f"`{file.relative_to(ROOT).parts[1]}`: `{file.stem}`": names_of_code(file) for file in files}
+    found = {statement: names for statement, names in found.items() if names}
+    for statement in sorted(set(listed) | set(found)):
+        wrong = listed.get(statement, set()) ^ found.get(statement, set())
+        check(not wrong, f"what {statement} names of specs/code: the page and the tree differ in {sorted(wrong)}")
+
+
 def check_paths():
     for path in sorted(set(re.findall(r"`((?:crates|docs)/[\w./]+)", PAGE))):
         check((ROOT / path).exists(), f"no {path}")
@@ -136,7 +153,7 @@ def check_paths():
 if "--above" in sys.argv:
     print(*above(sys.argv[sys.argv.index("--above") + 1]), sep="\n")
     sys.exit(0)
-for it in (check_crates, check_clauses, check_folders, check_lists, check_paths):
+for it in (check_crates, check_clauses, check_folders, check_lists, check_statements, check_paths):
     it()
 print(*faults, sep="\n", end="\n" if faults else "")
 print(f"docs/ARCHITECTURE.md: {len(faults)} faults")

@@ -40,7 +40,7 @@ WIDE_WORDS = f"""00 A AcquireBlock NtoT size=6 source=0100 address=0000000180000
 01 D GrantData toB size=6 source=0002 sink=0011 denied=0 data={64 * '0'} corrupt=0
 01 E GrantAck sink=0011
 """
-WIDE = "tltool: the header is of wide beats, which monitor and coherent read, without --all, --report and --junit\n"
+WIDE = "tltool: the header is of wide beats, which only monitor and coherent read\n"
 NUMBER = "a number from 0 to 18446744073709551615"
 LIST = "1 to 16 clients with commas between them, each UL, UH or C with its number of sources from 1 to 8, as C:2,C:2,UH:1"
 LIBERTIES_TOGETHER = "none, or names of ids, sinks, writer, drops, reports, denied and uncorrupt, in this order, with a comma between them"

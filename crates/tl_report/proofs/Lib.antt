@@ -1,3 +1,5 @@
 pub mod Counted
+pub mod Handled
 pub mod Searched
 pub mod Verdict
+pub mod WideLines

@@ -1,1 +1,4 @@
+pub mod LineJudging
+pub mod NarrowJudging
 pub mod Searching
+pub mod WideJudging

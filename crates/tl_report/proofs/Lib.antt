@@ -3,3 +3,4 @@ pub mod Handled
 pub mod Searched
 pub mod Verdict
 pub mod WideLines
+pub mod WideTaken

@@ -21,7 +21,7 @@ use Rattle.tl_wide.specs.declared.width.WideWidth.{WideWidth}
 use Rattle.tl_wide.specs.statement.Naming.{WideTrace}
 use Rattle.tl_wide_lines.proofs.JudgedLines.{begin-more, begin-none}
 use Rattle.tl_wide_lines.proofs.WideHeaders.{versions_apart}
-use Rattle.tl_wide_lines.proofs.WideTaken.{newest-last, nothing-found}
+use Rattle.tl_report.proofs.WideTaken.{newest-last, nothing-found}
 use Rattle.tl_wide_lines.specs.statement.JudgedTrace.{BeginWith, JudgedTrace, JudgedWide}
 use Rattle.tl_wide_lines.specs.statement.WideHeader.{wide_heads_by}
 
@@ -105,7 +105,7 @@ unfolding FindsFor JudgedBy
 verdict_so aim [] found beats cells is = rw is.0 (refl, refl)
 verdict_so aim (line ∷ lines) found beats cells (inl (width, may, levels, spells, is)) =
     inl (width, may, levels, spells, judged_wide (terms_of aim.together may levels) lines [] 2 aim.behind lines found
-    beats cells refl (nothing-found aim.together may levels) (begin-none _ lines) is)
+    beats cells refl (nothing-found (terms_of aim.together may levels)) (begin-none _ lines) is)
 verdict_so aim (line ∷ lines) found beats cells (inr (inl (width, may, levels, spells, is))) =
     inr (
       apart aim.together aim.allow line width may levels spells,

@@ -2,3 +2,4 @@ pub mod LineJudging
 pub mod NarrowJudging
 pub mod Searching
 pub mod WideJudging
+pub mod WideTaking

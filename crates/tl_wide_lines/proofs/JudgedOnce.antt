@@ -143,7 +143,7 @@ module _ {w : ℕ} (together : Bool) (may : Liberties) (levels : List Level) (tr
         ∙ ap (beat_at_fault (narrowed trace) (length (trace ++ more))) is ∙ rw after e_is
 
     -- so the first fault of a trace is that of each longer one
-    pub first-kept : first_fault_of together may levels trace ≡ Some x
+    first-kept : first_fault_of together may levels trace ≡ Some x
         → first_fault_of together may levels (trace ++ more) ≡ Some x
     first-kept e =
         first-is together may levels (trace ++ more)

@@ -6,6 +6,5 @@ mod JudgedOnce
 pub mod PartsJudged
 mod TraceJudged
 pub mod WideHeaders
-pub mod WideTaken
 mod WideTexts
 mod Worked

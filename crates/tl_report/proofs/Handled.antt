@@ -70,7 +70,7 @@ pub no_header_ends : (alloc : Global) (aim : Aim) (line : List ℕ) → IsHeadle
     → Ends KnowsLines EndsLines (of.Waiting alloc aim) (of.Waiting alloc aim) line
 unfolding FindsFor
 no_header_ends alloc aim line none = λ lines text known more beats cells counted.
-    rw known (inr (inr (none, refl, counted)))
+    rw known (inr (inr (none, (refl, counted))))
 
 -- a line that has no LF or more than 256 bytes is no header
 pub open_header : (alloc : Global) (aim : Aim) (line : List ℕ) → IsOpen line

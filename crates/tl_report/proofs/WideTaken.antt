@@ -57,6 +57,12 @@ newest-last x t = reverse_onto t x []
 
 -- ---- the next beat
 
+some-same : {A : Type 0} {x y : A} → Some x ≡ Some y → x ≡ y
+some-same e = cc
+
+none-some : {A : Type 0} {x : A} → None ≡ Some x → ⊥
+none-some e = cc
+
 module _ {w p : ℕ} (width : p ≡ part_width w) (terms : Terms)
     (old new : WideJudge p) (link : Link) (x : WideBeat w) (t : WideTrace w)
     (k : KnowsTrace terms old t) where
@@ -135,9 +141,9 @@ module _ {w p : ℕ} (width : p ≡ part_width w) (terms : Terms)
       (fault-order parts within same (Some fault) bad))
   next-answered None (inr (is, kept, past)) = absurd cc
   next-answered (Some fault) (inr (is, kept, past)) =
-      let beyond = (past t k.follows).0 in
-      rw is (at-it Beyond (next-beyond terms.together terms.may terms.levels (reverse t) k.taken (link, x)
-      (in-order (λ u. is_beyond link ((link, x) ∷ u) ≡ true) beyond)))
+      let beyond = in-order (λ u. is_beyond link ((link, x) ∷ u) ≡ true) (past t k.follows).0 in
+      subst (λ f. first_fault_in terms ((link, x) ∷ t) ≡ Some (length t, f)) (sym (some-same is))
+      (at-it Beyond (next-beyond terms.together terms.may terms.levels (reverse t) k.taken (link, x) beyond))
 
 -- a trace that was taken has no fault
 pub none-found : {w p : ℕ} (terms : Terms) (judge : WideJudge p)
@@ -146,10 +152,10 @@ pub none-found : {w p : ℕ} (terms : Terms) (judge : WideJudge p)
 none-found terms judge t k = none-at-fault terms.together terms.may terms.levels (reverse t) k.taken
 
 -- an empty trace has no fault
-pub nothing-found : {w : ℕ} (terms : Terms)
+pub nothing-found : (w : ℕ) (terms : Terms)
     → first_fault_of {w = w} terms.together terms.may terms.levels (reverse []) ≡ None
 unfolding joined narrowed_from fault_from
-nothing-found terms = none-at-fault terms.together terms.may terms.levels [] (record { complete = refl; good = refl })
+nothing-found w terms = none-at-fault terms.together terms.may terms.levels [] (record { complete = refl; good = refl })
 
 -- ---- beats that are judged again
 
@@ -181,4 +187,4 @@ taken-again {w} {p} width terms old new trace front more x answer good is k judg
     go : (answer : Option Fault) → AnswersNext terms new (reverse front) x answer
         → KnowsTrace terms new (reverse (front ++ x ∷ []))
     go None known = subst (λ t. KnowsTrace terms new t) (sym order) known
-    go (Some fault) bad = let no : None ≡ Some (length (reverse front), fault) = sym none ∙ bad in absurd cc
+    go (Some fault) bad = absurd (none-some (sym none ∙ bad))

@@ -3,3 +3,4 @@ pub mod NarrowJudging
 pub mod Searching
 pub mod WideJudging
 pub mod WideTaking
+pub mod WideWidth

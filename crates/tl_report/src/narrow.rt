@@ -1,7 +1,7 @@
 //! Judges lines of narrow beats.
 
 ghost use Rattle.std.specs.Prelude.{◌≡◌, [], IfOk, true, false};
-ghost use Rattle.tl_beat.specs.statement.Width.{IsWidth};
+ghost use Rattle.tl_beat.specs.statement.Width.{IsWidth, IsWidth-prop};
 
 use crate::line_judge::{Judged, LineJudge};
 use crate::taken::cell_of;
@@ -15,7 +15,7 @@ use tl_engine::trace_judge::TraceJudge;
 #[derive(Drop)]
 pub struct NarrowLineJudge<const W: usize> {
     judge: TraceJudge<W>,
-    ghost width: { IsWidth W },
+    ghost width: { IsWidth W } by { IsWidth-prop W },
 }
 
 impl<const W: usize> NarrowLineJudge<W> {
@@ -36,7 +36,6 @@ impl<const W: usize> NarrowLineJudge<W> {
 }
 
 impl<const W: usize> LineJudge for NarrowLineJudge<W> {
-    ghost use Rattle.std.specs.Prelude.{◌×◌};
     ghost use Rattle.tl_beat.specs.declared.beat.Beat.{Beat};
     ghost use Rattle.tl_beat.specs.declared.beat.Link.{Link};
     ghost use Rattle.tl_report.specs.code.NarrowJudging.{narrow_ways};

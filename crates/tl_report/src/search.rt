@@ -97,7 +97,7 @@ impl<J: LineJudge> Search<J> {
 
     /// The findings, at the end of the input or at a line that ends the search.
     pub fn into_findings(self, status: Status) -> Result<Findings, AllocError>
-        ensures { IfOk result (EndsWith status self.entry.over self.entry.findings self.entry.lines) }
+        ensures { IfOk result (EndsWith status self.over self.findings self.lines) }
     {
         let line = self.lines.checked_add(1).ok_or(AllocError)?;
         let mut findings = self.findings;

@@ -1,6 +1,7 @@
 //! Judges lines of wide beats.
 
 ghost use Rattle.std.specs.Prelude.{◌≡◌, ◌<◌, ◌++◌, [], ◌∷◌, true, false, IfOk, OnOk, is_some};
+ghost use Rattle.tl_report.specs.code.WideWidth.{IsWideWidth-prop};
 ghost use Rattle.tl_wide.specs.statement.Width.{IsWideWidth, part_width};
 
 use crate::line_judge::{Judged, LineJudge};
@@ -34,7 +35,7 @@ pub struct WideLineJudge<const W: usize, const P: usize> {
     judge: WideJudge<P>,
     /// None if nothing is judged behind the first line at fault.
     kept: Option<Kept<W>>,
-    ghost width: { IsWideWidth W },
+    ghost width: { IsWideWidth W } by { IsWideWidth-prop W },
     ghost part: { P ≡ part_width W },
 }
 
@@ -106,10 +107,13 @@ impl<const W: usize, const P: usize> WideLineJudge<W, P> {
     fn restore(&mut self) -> Result<(), AllocError>
         ensures { OnOk result (Restores self.old self.new) }
     {
-        if let Some(kept) = &self.kept {
-            self.judge = kept.judge_again()?;
+        match &self.kept {
+            None => Ok(()),
+            Some(kept) => {
+                self.judge = kept.judge_again()?;
+                Ok(())
+            }
         }
-        Ok(())
     }
 
     /// Judges a beat, and takes it if it isn't at fault.
@@ -130,7 +134,6 @@ impl<const W: usize, const P: usize> WideLineJudge<W, P> {
 }
 
 impl<const W: usize, const P: usize> LineJudge for WideLineJudge<W, P> {
-    ghost use Rattle.std.specs.Prelude.{◌×◌};
     ghost use Rattle.tl_beat.specs.declared.beat.Link.{Link};
     ghost use Rattle.tl_report.specs.code.WideJudging.{wide_ways};
     ghost use Rattle.tl_wide.specs.declared.beat.WideBeat.{WideBeat};

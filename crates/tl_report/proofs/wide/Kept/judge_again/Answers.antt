@@ -1,0 +1,13 @@
+use Rattle.std.proofs.Common.{arith}
+use Rattle.tl_report.proofs.WideLines.{ends_again, goes_on_again, starts_again}
+use Rattle.tl_report.proofs.wide.Kept.judge_again.Goals as goal
+
+pub loop-link-init : goal.loop-link-init
+loop-link-init g c = starts_again c.args.self.now c.in_ok-judge.judge c.in_ok-judge.ensures
+
+pub loop-link-preserved : goal.loop-link-preserved
+loop-link-preserved g c = goes_on_again c.args.self.now c.requires.part c.loop-link.judge c.push.new.self
+    c.loop-link.link-index _ c.in_ok-push.field-0 (omega arith) c.loop-link.invariant c.in_ok-push.ensures
+
+pub returns : goal.returns
+returns g c = ends_again c.args.self.now c.loop-link.judge c.loop-link.link-index (omega arith) c.loop-link.invariant

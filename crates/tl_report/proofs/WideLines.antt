@@ -36,10 +36,10 @@ kept_more old new link x together links taken terms t none k = record {
 }
 
 module _ {w p : ℕ} (old : WideLineJudge w p) where
-  pub keeps_more : (was now : Kept w) (link : Link) (x : WideBeat w) (new : WideLineJudge w p) → old.kept ≡ Some was
-      → now.together ≡ was.together → now.links ≡ was.links → now.taken.items ≡ was.taken.items ++ (link, x) ∷ []
-      → new.judge ≡ old.judge → new.kept ≡ Some now → Keeps old new link x
-  keeps_more was now link x new is together links taken judge also = record {
+  pub keeps_more : (was now : Kept w) (link : Link) (x : WideBeat w) (new : WideLineJudge w p) → new.judge ≡ old.judge
+      → new.kept ≡ Some now → old.kept ≡ Some was → now.together ≡ was.together → now.links ≡ was.links
+      → now.taken.items ≡ was.taken.items ++ (link, x) ∷ [] → Keeps old new link x
+  keeps_more was now link x new judge also is together links taken = record {
     judge_is = judge;
     goes_on = rw (is, also) refl;
     kept = λ terms t none had. rw also (kept_more was now link x together links taken terms t none (rw is at had));
@@ -72,18 +72,17 @@ module _ {w p : ℕ} (kept : Kept w) where
   starts_again judge none = λ terms t k.
       takes-none w p terms judge (rw (k.together_is, k.may_is, k.levels_are) at none)
 
-  pub goes_on_again : p ≡ part_width w → (old new : WideJudge p) (i : ℕ) (d : Link × WideBeat w) (answer : Option Fault)
-      → i < length kept.taken.items → TakesAgain old (take i kept.taken.items)
-      → JudgesWideBeat old new (slice_index_or kept.taken.items i d).0 (slice_index_or kept.taken.items i d).1 answer
-      → TakesAgain new (take (i + 1) kept.taken.items)
-  goes_on_again width old new i d answer below so_far judged = λ terms t k.
-      let more = take_more kept.taken.items i d below in
+  pub goes_on_again : p ≡ part_width w → (old new : WideJudge p) (i : ℕ) (x : Link × WideBeat w) (answer : Option Fault)
+      → x ≡ slice_index_or kept.taken.items i x → i < length kept.taken.items → TakesAgain old (take i kept.taken.items)
+      → JudgesWideBeat old new x.0 x.1 answer → TakesAgain new (take (i + 1) kept.taken.items)
+  goes_on_again width old new i x answer is below so_far judged = λ terms t k.
+      let more = take_more kept.taken.items i x below ∙ ap (λ y. take i kept.taken.items ++ y ∷ []) (sym is) in
       let order : reverse kept.taken.items ≡ t = ap reverse k.taken_are ∙ reverse-reverse t in
       let good : AreGood terms (reverse kept.taken.items) = subst (AreGood terms) (sym order) k.good in
       let all = sym (take-append-drop (i + 1) kept.taken.items) ∙ ap (λ l. l ++ drop (i + 1) kept.taken.items) more in
       subst (λ l. KnowsTrace terms new (reverse l)) (sym more)
       (taken-again width terms old new kept.taken.items (take i kept.taken.items) (drop (i + 1) kept.taken.items)
-      (slice_index_or kept.taken.items i d) answer good all (so_far terms t k) judged)
+      x answer good all (so_far terms t k) judged)
 
   pub ends_again : (judge : WideJudge p) (i : ℕ) → length kept.taken.items ≤ i → TakesAgain judge (take i kept.taken.items)
       → JudgesAgain kept judge

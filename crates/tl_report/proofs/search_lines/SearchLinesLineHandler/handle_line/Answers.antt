@@ -7,15 +7,15 @@ use Rattle.tl_report.proofs.search_lines.SearchLinesLineHandler.handle_line.Goal
 
 pub returns-in-Waiting-clause-judges : goal.returns-in-Waiting-clause-judges
 returns-in-Waiting-clause-judges c = rw c.in-Waiting.is (started c.in-Waiting.alloc c.in-Waiting.aim c.start.new.self
-    c.args.line.now c.args._out.now.items c.start.result (rw c.in-Waiting.is at c.start.ensures))
+    c.args.line.now c.args._out.now.items c.start.result c.start.ensures)
 
 pub returns-in-Waiting-clause-ends : goal.returns-in-Waiting-clause-ends
 returns-in-Waiting-clause-ends c = rw c.in-Waiting.is (start_ends c.in-Waiting.alloc c.in-Waiting.aim c.start.new.self
-    c.args.line.now c.start.result (rw c.in-Waiting.is at c.start.ensures))
+    c.args.line.now c.start.result c.start.ensures)
 
 pub returns-in-Waiting-clause-purpose : goal.returns-in-Waiting-clause-purpose
 returns-in-Waiting-clause-purpose c = rw c.in-Waiting.is (start_aim c.in-Waiting.alloc c.in-Waiting.aim c.start.new.self
-    c.args.line.now c.start.result (rw c.in-Waiting.is at c.start.ensures))
+    c.args.line.now c.start.result c.start.ensures)
 
 pub returns-in-Four-clause-judges : goal.returns-in-Four-clause-judges
 returns-in-Four-clause-judges c = rw c.in-Four.is (read_judged (narrow_ways 4) of.Four four c.in-Four.search c.read.new.self

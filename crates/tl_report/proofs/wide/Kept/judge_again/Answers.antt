@@ -7,7 +7,8 @@ loop-link-init g c = starts_again c.args.self.now c.in_ok-judge.judge c.in_ok-ju
 
 pub loop-link-preserved : goal.loop-link-preserved
 loop-link-preserved g c = goes_on_again c.args.self.now c.requires.part c.loop-link.judge c.push.new.self
-    c.loop-link.link-index _ c.in_ok-push.field-0 (omega arith) c.loop-link.invariant c.in_ok-push.ensures
+    c.loop-link.link-index c.loop-link-item.result c.in_ok-push.field-0 c.loop-link-item.is c.loop-link-test.true
+    c.loop-link.invariant c.in_ok-push.ensures
 
 pub returns : goal.returns
 returns g c = ends_again c.args.self.now c.loop-link.judge c.loop-link.link-index (omega arith) c.loop-link.invariant

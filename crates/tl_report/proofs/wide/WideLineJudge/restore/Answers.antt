@@ -5,6 +5,6 @@ use Rattle.tl_report.proofs.wide.WideLineJudge.restore.Goals as goal
 pub returns-in-None : goal.returns-in-None
 returns-in-None g c = unkept c.args.self.now (search rules)
 
-pub returns-in_ok-judge_again-in-Some : goal.returns-in_ok-judge_again-in-Some
-returns-in_ok-judge_again-in-Some g c =
-    restored c.args.self.now c.in-Some.kept.now _ (search rules) refl c.in_ok-judge_again-in-Some.ensures
+pub returns-in_ok-self-in-Some : goal.returns-in_ok-self-in-Some
+returns-in_ok-self-in-Some g c =
+    restored c.args.self.now c.in-Some.kept.now _ (search rules) refl c.in_ok-self-in-Some.ensures

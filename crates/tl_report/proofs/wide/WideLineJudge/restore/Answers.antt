@@ -7,4 +7,4 @@ returns-in-None g c = unkept c.args.self.now (search rules)
 
 pub returns-in_ok-self-in-Some : goal.returns-in_ok-self-in-Some
 returns-in_ok-self-in-Some g c =
-    restored c.args.self.now c.in-Some.kept.now _ (search rules) refl c.in_ok-self-in-Some.ensures
+    restored c.args.self.now c.in-Some.kept _ (search rules) refl c.in_ok-self-in-Some.ensures

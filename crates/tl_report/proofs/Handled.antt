@@ -102,7 +102,6 @@ started alloc aim new line was (Ok None) starts = λ lines before known. rw know
     knows_text (of.WideSixteen s) text k = k
     knows_text (of.WideThirtyTwo s) text k = k
     knows_text (of.WideSixtyFour s) text k = k
-
 started alloc aim new line was (Ok (Some fault)) starts = λ lines before known more broken. unclean broken
 
 pub start_ends : {E : Type 0} (alloc : Global) (aim : Aim) (new : SearchLines) (line : List ℕ) (r : Result (Option Fault) E)

@@ -104,13 +104,25 @@ pub verdict_so : (aim : Aim) (lines : List (List ℕ)) (found : List Finding) (b
 unfolding FindsFor JudgedBy
 verdict_so aim [] found beats cells is = rw is.0 (refl, refl)
 verdict_so aim (line ∷ lines) found beats cells (inl (width, may, levels, spells, is)) =
-    inl (width, may, levels, spells, judged_wide (terms_of aim.together may levels) lines [] 2 aim.behind lines found
-    beats cells refl (nothing-found _ (terms_of aim.together may levels)) (begin-none _ lines) is)
+    inl (
+      width,
+      may,
+      levels,
+      spells,
+      judged_wide (terms_of aim.together may levels) lines [] 2 aim.behind lines found
+          beats cells refl (nothing-found _ (terms_of aim.together may levels)) (begin-none _ lines) is,
+    )
 verdict_so aim (line ∷ lines) found beats cells (inr (inl (width, may, levels, spells, is))) =
     inr (
       apart aim.together aim.allow line width may levels spells,
-      inl (width, may, levels, spells, judged_after (terms_of aim.together may levels) [] 2 aim.behind lines found beats
-      cells refl is),
+      inl (
+        width,
+        may,
+        levels,
+        spells,
+        judged_after (terms_of aim.together may levels) [] 2 aim.behind lines found beats
+            cells refl is,
+      ),
     )
 verdict_so aim (line ∷ lines) found beats cells (inr (inr (none, is))) =
     inr (none.1, inr (none.0, rw is.0 refl, rw is.0 refl))

@@ -112,8 +112,7 @@ module _ {w p : ℕ} (width : p ≡ part_width w) (old mid new : WideLineJudge w
       → TakesBeat old new link x (AtFault fault)
   refuses_it fault judged restores = record {
     answers = λ line spells terms t (known, had).
-        let next = next-answered width terms old.judge mid.judge link x t known (Some fault) judged in
-        (
+        let next = next-answered width terms old.judge mid.judge link x t known (Some fault) judged in (
           inr ((link, x), spells, next),
           λ goes_on. (restores.known (rw kept goes_on) terms t (rw kept had), rw (restores.kept_is, kept) had),
         );

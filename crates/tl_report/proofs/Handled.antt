@@ -1,9 +1,8 @@
 -- What a handler of the lines of a trace says and has found, with a search of any form of beats.
-use Rattle.std.proofs.Common.{◌≡◌, ◌≢◌, ℕ, List, [], ◌∷◌, ◌++◌, refl, inl, inr, ap, ◌∙◌}
+use Rattle.std.proofs.Common.{◌≡◌, ℕ, List, [], ◌∷◌, ◌++◌, refl, inl, inr, ap}
 use Rattle.std.specs.Prelude.{IfOk, Option, Some, None, Result, Ok, Err}
 use Rattle.std.specs.Io.KnownBytes.{Consumes}
 use Rattle.std.specs.declared.alloc.Global.{Global}
-use Rattle.tl_beat.specs.statement.Width.{IsWidth}
 use Rattle.tl_command.specs.declared.search.Aim.{Aim}
 use Rattle.tl_params.specs.declared.level.Level.{Level}
 use Rattle.tl_params.specs.declared.liberties.Liberties.{Liberties}
@@ -31,7 +30,7 @@ use Rattle.tl_report.specs.declared.search.Search.{Search}
 use Rattle.tl_report.specs.declared.search_lines.SearchLines.{SearchLines}
 use Rattle.tl_report.specs.declared.search_lines.SearchLines.TheVariants as of
 use Rattle.tl_report.specs.declared.wide.WideLineJudge.{WideLineJudge}
-use Rattle.tl_report.specs.statement.Found.{FindsFor, IsHeadless, IsNotWide, no_header, terms_of}
+use Rattle.tl_report.specs.statement.Found.{FindsFor, IsHeadless, no_header, terms_of}
 use Rattle.tl_report.specs.statement.Said.{Searches}
 use Rattle.tl_report.specs.statement.Taken.{AreCounted}
 use Rattle.tl_wide.specs.declared.width.WideWidth.{WideWidth}

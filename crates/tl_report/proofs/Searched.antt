@@ -1,7 +1,7 @@
 -- What is found in a trace, line by line, by a search with a judge of any form of beats.
 use Rattle.std.proofs.Common.{◌≡◌, ◌≢◌, ◌<◌, ℕ, suc, ◌+◌, ◌-◌, Bool, true, false, List, [], ◌∷◌, ◌++◌, length, refl, ap, sym}
 use Rattle.std.proofs.Common.{◌∙◌, arith, append_assoc, eqb-true, length-append, inl, inr, map, subst}
-use Rattle.std.specs.Prelude.{IfOk, Option, Some, None, Result, Ok, Err, ◌||◌, ◌==◌, not, nat_lt, if◌then◌else◌}
+use Rattle.std.specs.Prelude.{Some, None, ◌||◌, ◌==◌, not, nat_lt, if◌then◌else◌}
 use Rattle.std.specs.Io.BufRead.{ends_with_byte}
 use Rattle.std.proofs.lemmas.Bool.{lt-ltb, ltb-false, ltb-true}
 use Rattle.std.proofs.lemmas.List.{append-nil}
@@ -12,14 +12,13 @@ use Rattle.tl_engine.specs.declared.fault.Fault.{Fault}
 use Rattle.tl_engine.specs.declared.fault.Fault.TheVariants.{Line}
 use Rattle.tl_engine.specs.declared.status.Status.{Status}
 use Rattle.tl_engine.specs.declared.status.Status.TheVariants.{Clean, Broken}
-use Rattle.tl_report.specs.code.LineJudging.{JudgesLine, Ways}
+use Rattle.tl_report.specs.code.LineJudging.{Ways}
 use Rattle.tl_report.specs.code.Searching.{Counts, EndsSearch, EndsWith, IsElsewhereSame, KnowsSearch, Notes, SearchJudges}
 use Rattle.tl_report.specs.code.Searching.{SearchesLine, StartsSearch}
 use Rattle.tl_report.specs.declared.findings.Finding.{Finding}
 use Rattle.tl_report.specs.declared.findings.Findings.{Findings}
-use Rattle.tl_report.specs.declared.line_judge.Judged.TheVariants.{AtFault, Taken}
 use Rattle.tl_report.specs.declared.search.Search.{Search}
-use Rattle.tl_report.specs.statement.Form.{Form, Terms}
+use Rattle.tl_report.specs.statement.Form.{Terms}
 use Rattle.tl_report.specs.statement.Found.{FindsAfter, FindsFor, is_open, left_behind}
 use Rattle.tl_report.specs.statement.Taken.{AreCounted}
 
@@ -60,23 +59,6 @@ some_behind line left behind many is more = go (is_open line) more
 counted_alike : (f g : Findings) (taken : List ℕ) → f ≡ g → AreCounted g.beats g.cells.items taken
     → AreCounted f.beats f.cells.items taken
 counted_alike f g taken same is = subst (λ (x : Findings). AreCounted x.beats x.cells.items taken) (sym same) is
-
--- ---- a line that is judged
-
-module _ {J X : Type 0} (ways : Ways J X) (old new : Search J) (line : List ℕ) where
-  pub judged_good : (cell : ℕ) → JudgesLine ways old.judge new.judge line (Taken cell)
-      → ((taken : List ℕ) → AreCounted old.findings.beats old.findings.cells.items taken
-      → AreCounted new.findings.beats new.findings.cells.items (cell ∷ taken))
-      → SearchJudges ways old new line None
-  judged_good cell judged one = λ terms t known many.
-      let (x, spells, good, cell_is, knows) = judged terms t known in
-      (x, spells, good, knows, rw cell_is at (one (map (ways.form terms).cell t) many))
-
-  pub judged_bad : (fault : Fault) → JudgesLine ways old.judge new.judge line (AtFault fault)
-      → new.findings ≡ old.findings → SearchJudges ways old new line (Some fault)
-  judged_bad fault judged same = λ terms t known many.
-      let (bad, knows) = judged terms t known in
-      (bad, knows, counted_alike new.findings old.findings (map (ways.form terms).cell t) same many)
 
 -- ---- a line that is read
 

@@ -1,8 +1,7 @@
 -- The first line that is found is that of the verdict.
 use Rattle.std.proofs.Common.{◌≡◌, ◌≤◌, ℕ, suc, ◌+◌, Bool, true, false, List, [], ◌∷◌, length, refl, arith, inl, inr, ◌∙◌, ap, subst, sym}
 use Rattle.std.proofs.lemmas.List.{length-map, length-reverse}
-use Rattle.std.specs.Prelude.{zero, None, Some, if◌then◌else◌, reverse}
-use Rattle.tl_beat.specs.declared.beat.Link.{Link}
+use Rattle.std.specs.Prelude.{zero, None, if◌then◌else◌, reverse}
 use Rattle.tl_command.specs.declared.search.Aim.{Aim}
 use Rattle.tl_params.specs.declared.level.Level.{Level}
 use Rattle.tl_params.specs.declared.liberties.Liberties.{Liberties}
@@ -16,7 +15,6 @@ use Rattle.tl_report.specs.declared.findings.Finding.{Finding}
 use Rattle.tl_report.specs.statement.Form.{Form, IsAtFault, Terms, first_fault_in, narrow, wide}
 use Rattle.tl_report.specs.statement.Found.{FindsAfter, FindsFor, is_open, left_behind, most_of, terms_of}
 use Rattle.tl_report.specs.statement.Said.{first_text, status_of}
-use Rattle.tl_wide.specs.declared.beat.WideBeat.{WideBeat}
 use Rattle.tl_wide.specs.declared.width.WideWidth.{WideWidth}
 use Rattle.tl_wide.specs.statement.Naming.{WideTrace}
 use Rattle.tl_wide_lines.proofs.JudgedLines.{begin-more, begin-none}

@@ -1,7 +1,7 @@
 -- What a judge of lines of wide beats answers and keeps.
 use Rattle.std.proofs.Common.{◌≡◌, ◌≤◌, ◌<◌, ◌+◌, ◌∙◌, ◌++◌, ◌∷◌, ℕ, List, [], ap, drop, inr, length, refl, slice_index_or, subst, sym, take, true, false}
 use Rattle.std.proofs.lemmas.List.{reverse-reverse, take-append-drop, take_all, take_more}
-use Rattle.std.specs.Prelude.{IfOk, Option, Some, None, Result, Ok, Err, is_some, reverse}
+use Rattle.std.specs.Prelude.{IfOk, Option, Some, None, Result, Ok, Err, reverse}
 use Rattle.tl_beat.specs.declared.beat.Link.{Link}
 use Rattle.tl_engine.specs.declared.fault.Fault.{Fault}
 use Rattle.tl_report.specs.code.WideJudging.{IsKeptFor, JudgesAgain, Keeps, Restores, TakesBeat, wide_ways}

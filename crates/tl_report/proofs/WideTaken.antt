@@ -1,6 +1,6 @@
 -- What a judge of wide beats has taken, beat by beat.
 use Rattle.std.proofs.Common.{◌≡◌, ◌∙◌, ℕ, List, [], ◌∷◌, ◌++◌, length, refl, ap, sym, subst}
-use Rattle.std.proofs.Common.{inl, inr, rules}
+use Rattle.std.proofs.Common.{inl, inr}
 use Rattle.std.proofs.lemmas.Grind.{reverse_onto}
 use Rattle.std.proofs.lemmas.List.{length-reverse, reverse-append, reverse-reverse}
 use Rattle.std.specs.Prelude.{false, true, Option, Some, None, reverse}
@@ -9,7 +9,6 @@ use Rattle.tl_beat.specs.declared.beat.Link.{Link}
 use Rattle.tl_engine.specs.code.TraceJudging.{KnowsBeats}
 use Rattle.tl_engine.specs.declared.fault.Fault.{Fault}
 use Rattle.tl_engine.specs.declared.fault.Fault.TheVariants.{Beyond}
-use Rattle.tl_rules.specs.statement.Conformance.{Trace}
 use Rattle.tl_wide.specs.declared.beat.WideBeat.{WideBeat}
 use Rattle.tl_wide.specs.declared.parts.Parts.{Parts}
 use Rattle.tl_wide.specs.statement.Naming.{WideTrace, is_beyond}
@@ -21,7 +20,7 @@ use Rattle.tl_wide.specs.statement.Width.{part_width}
 use Rattle.tl_wide_lines.proofs.FirstFaults.{next-bad, next-beats, next-beyond, next-taken, none-at-fault}
 use Rattle.tl_wide_lines.proofs.PartsJudged.{all-taken}
 use Rattle.tl_wide_lines.specs.code.FirstFault.{IsTaken, beats_taken, behind, fault_from, with_parts}
-use Rattle.tl_wide_lines.specs.code.WideJudging.{JudgesParts, JudgesWideBeat, KnowsNone}
+use Rattle.tl_wide_lines.specs.code.WideJudging.{JudgesWideBeat, KnowsNone}
 use Rattle.tl_report.specs.code.WideTaking.{AnswersNext, AreGood, KnowsTrace}
 use Rattle.tl_report.specs.statement.Form.{Terms, first_fault_in}
 use Rattle.tl_wide_lines.specs.declared.judge.WideJudge.{WideJudge}

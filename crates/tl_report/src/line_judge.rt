@@ -15,7 +15,7 @@ pub enum Judged {
     AtFault(Fault),
 }
 
-/// Judges the lines of a trace in turn, behind its header.
+/// Judges the lines after the header of a trace in turn.
 pub trait LineJudge: Drop {
     /// A beat with its link.
     ghost Kind: { Type 0 };

@@ -15,8 +15,8 @@ use tl_wide::beat::{WideBeat, WideBeatE};
 use tl_wide::read::read_wide_into;
 use tl_wide_lines::judge::WideJudge;
 
-/// The beats that a judge has taken, in their order, and the links that their header names: what the same judge is made
-/// from once more.
+/// The beats that a judge has taken, in their order, and the links that their header names. A second judge that takes
+/// them has the same knowledge.
 #[derive(Drop)]
 pub struct Kept<const W: usize> {
     alloc: Global,
@@ -29,11 +29,11 @@ pub struct Kept<const W: usize> {
 /// A judge of lines of wide beats of `W` bytes: 4, 8, 16, 32 or 64. `P` is the smaller of 16 and `W`.
 ///
 /// A beat at fault leaves its names in the judge of beats, and those of its parts that were taken. So a judge that goes
-/// on behind it is made anew, from the beats that were taken.
+/// on after it is replaced by one that takes the beats before it again.
 #[derive(Drop)]
 pub struct WideLineJudge<const W: usize, const P: usize> {
     judge: WideJudge<P>,
-    /// None if nothing is judged behind the first line at fault.
+    /// None if nothing is judged after the first line at fault.
     kept: Option<Kept<W>>,
     ghost width: { IsWideWidth W } by { IsWideWidth-prop W },
     ghost part: { P ≡ part_width W },
@@ -42,7 +42,7 @@ pub struct WideLineJudge<const W: usize, const P: usize> {
 impl<const W: usize> Kept<W> {
     ghost use Rattle.tl_report.specs.code.WideJudging.{IsKeptFor, JudgesAgain, StartsKept};
 
-    /// No beat, if lines at fault are looked for behind the first.
+    /// No beat, if lines at fault are looked for after the first.
     fn start(alloc: Global, aim: Aim, links: LinksHeader) -> Option<Kept<W>>
         requires { aim.together ≡ true → links.may.early ≡ false }
         ensures { StartsKept W aim links.may links.levels.items result }
@@ -77,8 +77,8 @@ impl<const W: usize, const P: usize> WideLineJudge<W, P> {
     ghost use Rattle.tl_report.specs.code.WideJudging.{Keeps, KnowsWide, Restores, TakesBeat};
     ghost use Rattle.tl_report.specs.statement.Found.{terms_of};
 
-    /// A judge of the links that a header names, which has taken no beat. It goes on behind a line at fault if lines
-    /// are looked for there.
+    /// A judge of the links that a header names, which has taken no beat. It goes on after a line at fault if more
+    /// are looked for.
     pub fn new(alloc: Global, aim: Aim, links: LinksHeader) -> Result<Self, AllocError>
         requires width { IsWideWidth W }
         requires part { P ≡ part_width W }
@@ -93,7 +93,7 @@ impl<const W: usize, const P: usize> WideLineJudge<W, P> {
         })
     }
 
-    /// Keeps a beat that was taken, if the judge goes on behind a line at fault.
+    /// Keeps a beat that was taken, if the judge goes on after a line at fault.
     fn keep(&mut self, link: Link, beat: &WideBeat<W>) -> Result<(), AllocError>
         ensures { OnOk result (Keeps self.old self.new link beat.now) }
     {
@@ -103,7 +103,7 @@ impl<const W: usize, const P: usize> WideLineJudge<W, P> {
         }
     }
 
-    /// Makes the judge anew, from the beats that were taken.
+    /// Replaces the judge of beats by one that takes the beats that were kept.
     fn restore(&mut self) -> Result<(), AllocError>
         ensures { OnOk result (Restores self.old self.new) }
     {

@@ -1,5 +1,5 @@
 -- What a judge of lines of wide beats has taken.
-use Rattle.std.specs.Prelude.{◌≡◌, ◌<◌, ◌++◌, ◌∷◌, [], ℕ, Bool, true, List, Option, Some, None, is_some, reverse, ⊤}
+use Rattle.std.specs.Prelude.{◌≡◌, ◌<◌, ◌∷◌, [], ℕ, true, List, Option, Some, None, is_some, reverse, ⊤}
 use Rattle.tl_beat.specs.declared.beat.Link.{Link}
 use Rattle.tl_command.specs.declared.search.Aim.{Aim}
 use Rattle.tl_params.specs.declared.level.Level.{Level}
@@ -38,7 +38,7 @@ wide_ways w p = record { form = wide w; knows = KnowsWide w p; goes_on = λ judg
 
 -- ---- calls
 
--- no beat is kept, and beats will be if lines are looked for behind the first at fault
+-- no beat is kept, and beats will be if lines are looked for after the first at fault
 abbrev pub StartsKept : (w : ℕ) → Aim → Liberties → List Level → Option (Kept w) → Type 0
 StartsKept w aim may levels kept =
     IsKept {w = w} kept (record { together = aim.together; may = may; levels = levels }) []

@@ -14,7 +14,7 @@ use Rattle.tl_wide.specs.declared.beat.WideBeat.{WideBeat}
 use Rattle.tl_wide.specs.statement.Line.{WideSpells, wide_line_fault}
 use Rattle.tl_wide_lines.specs.statement.JudgedTrace.{first_fault_of}
 
--- what a trace is judged by: whether its links are judged together, their liberties, and their levels
+-- the terms of a trace: whether its links are judged together, their liberties, and their levels
 pub record Terms : Type 0 where
   pub together : Bool
   pub may : Liberties

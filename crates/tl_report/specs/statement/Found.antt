@@ -44,7 +44,7 @@ FindsAfter {X} form t n (suc most) (line ∷ lines) found beats cells =
 
 -- ---- a whole trace
 
--- what a trace is judged by whose links have these liberties and these levels
+-- the terms of a trace whose links have these liberties and these levels
 abbrev pub terms_of : Bool → Liberties → List Level → Terms
 terms_of together may levels = record { together = together; may = may; levels = levels }
 

@@ -1,4 +1,4 @@
-use Rattle.std.proofs.Common.{List, take}
+use Rattle.std.proofs.Common.{take}
 use Rattle.std.specs.Prelude.{reverse}
 use Rattle.tl_report.specs.code.WideJudging.{IsKeptFor}
 use Rattle.tl_report.specs.code.WideTaking.{KnowsTrace}

@@ -1,6 +1,6 @@
 -- What is found in a trace, line by line, by a search with a judge of any form of beats.
 use Rattle.std.proofs.Common.{◌≡◌, ◌≢◌, ◌<◌, ℕ, suc, ◌+◌, ◌-◌, Bool, true, false, List, [], ◌∷◌, ◌++◌, length, refl, ap, sym}
-use Rattle.std.proofs.Common.{◌∙◌, arith, append_assoc, eqb-true, length-append, inl, inr, map, subst}
+use Rattle.std.proofs.Common.{◌∙◌, arith, append_assoc, eqb-true, length-append, inl, inr, subst}
 use Rattle.std.specs.Prelude.{Some, None, ◌||◌, ◌==◌, not, nat_lt, if◌then◌else◌}
 use Rattle.std.specs.Io.BufRead.{ends_with_byte}
 use Rattle.std.proofs.lemmas.Bool.{lt-ltb, ltb-false, ltb-true}

@@ -40,7 +40,7 @@ WIDE_WORDS = f"""00 A AcquireBlock NtoT size=6 source=0100 address=0000000180000
 01 D GrantData toB size=6 source=0002 sink=0011 denied=0 data={64 * '0'} corrupt=0
 01 E GrantAck sink=0011
 """
-WIDE = "tltool: the header is of wide beats, which monitor, coherent and cover read, without --all, --report and --junit\n"
+WIDE = "tltool: the header is of wide beats, which only monitor, coherent and cover read\n"
 NUMBER = "a number from 0 to 18446744073709551615"
 LIST = "1 to 16 clients with commas between them, each UL, UH or C with its number of sources from 1 to 8, as C:2,C:2,UH:1"
 LIBERTIES_TOGETHER = "none, or names of ids, sinks, writer, drops, reports, denied and uncorrupt, in this order, with a comma between them"
@@ -194,12 +194,17 @@ ROWS = [
     ("head -c -1 wide/two_caches.trace | tltool monitor", 1, F1.format(12), ""),
     *(
         (f"tltool {words} wide/two_caches.trace", 1, f"{F7.format(1)}..", WIDE)
-        for words in ("explain", "explain --coherent", "monitor --all 3", "coherent --all 3", "monitor --report wide.json", "coherent --junit wide.xml")
+        for words in ("explain", "explain --coherent")
     ),
     *(
-        (f"tltool {words} <wide/two_caches.trace", 1, f"{F7.format(1)}..", WIDE)
-        for words in ("monitor --all 3", "coherent --all 3", "monitor --report wide.json")
+        (f"tltool {words} {way}wide/two_caches.trace", 0, f"{words.split()[0].replace('monitor', 'clean')} 11\n", "")
+        for words in ("monitor --all 3", "coherent --all 3", "monitor --report wide.json", "coherent --junit wide.xml") for way in ("", "<")
     ),
+    # A response that is at fault at its second part, and after it the right one: nothing of the first is left.
+    ("(cat wide/second_part.trace; tail -1 wide/second_part.trace | sed 's/ 2f/ 1f/') | tltool coherent --all 10", 1, "line 6 M3\nfaults 1\n", ""),
+    ("(cat wide/second_part.trace; tail -1 wide/second_part.trace) | tltool coherent --all 10", 1, "line 6 M3\nline 7 M3\nfaults 2\n", ""),
+    ("(cat wide/second_part.trace; tail -1 wide/second_part.trace) | tltool monitor --all 10", 1, "line 7 H2\nfaults 1\n", ""),
+    ("sed '1s/none/early/' wide/two_caches.trace | tltool coherent --all 3", 1, f"{F7.format(1)}faults 1\n", EARLY),
     ("tltool chart wide/two_caches.trace | grep -c 'line 1 F7'", 0, "..", WIDE),
     # words of liberties
     *(

@@ -2,16 +2,20 @@
 """wide.py TOOL [SEEDS]: traces of random schedules, SEEDS of them (three hundred if none is said), are written wide: their beats
 joined to those of a bus of up to 64 bytes, their blocks named by addresses of 64 bits and their ids by numbers of 16, one to
 one; some with a line spoiled. TOOL must say of each what it says of the narrow trace that this program makes of it by the text of
-docs/FORMATS.md, at the line of the wide beat whose part is at fault, `monitor` and `coherent` each; and `cover --json` must count
-what it counts of the narrow trace, with the lines of the wide beats. Traces with names beyond
-a limit are F9. `decode --wide` must write of each what this program writes of its fields. Ends with 'wide: N passed, M failed'."""
+docs/FORMATS.md, at the line of the wide beat whose part is at fault, `monitor` and `coherent` each. `cover --json` must count
+what it counts of the narrow trace, with the lines of the wide beats. Traces with names beyond a limit are F9. With `--all` and a
+report it must find what it finds line by line in the trace without the lines found before, and count the beats of the others.
+`decode --wide` must write of each what this program writes of its fields. Ends with 'wide: N passed, M failed'."""
+import collections
 import concurrent.futures
+import hashlib
 import json
 import os
 import pathlib
 import random
 import subprocess
 import sys
+import tempfile
 
 CLIENTS = ["C:2,C:2,C:2,UH:1", "C:1,C:1", "C:8,C:1,UL:2", "C:2,UH:2,UL:2", "UL:1,UH:8", "C:3"]
 EVENTS = 120
@@ -293,6 +297,58 @@ def miscounted(tool, text, liberties, levels, beats, width):
     return counted(tool, text, None, lambda line: line) != ought
 
 
+def wanted_all(tool, words, liberties, levels, beats, width, most):
+    """The lines at fault, at most so many, each with its rule, and the beats that are taken: each line is judged as if those found
+    before weren't there."""
+    left, found = list(enumerate(beats, 2)), []
+    while len(found) < most:
+        _, verdict = wanted(tool, words, liberties, levels, [beat for _, beat in left], width)
+        if not verdict.startswith("line "):
+            return found, [beat for _, beat in left]
+        _, line, rule = verdict.split()
+        found.append((left[int(line) - 2][0], rule))
+        del left[int(line) - 2]
+    return found, [beat for number, beat in left if number < found[-1][0]]
+
+
+def message(beat):
+    """The link, channel and message of a beat, in the order of reports."""
+    return int(beat.link, 16), beat.channel, 0 if beat.channel == "E" else int(beat.opcode, 16)
+
+
+def report(tool, words, text, found, taken):
+    """What is wrong with the text of `--all` and with the report, if these lines are at fault and these beats are taken."""
+    command, header = words[0], text.splitlines()[0]
+    with tempfile.TemporaryDirectory() as room:
+        file, junit = f"{room}/report.json", f"{room}/report.xml"
+        says = of(tool, *words, "--report", file, "--junit", junit, text=text)
+        told, suite = json.loads(pathlib.Path(file).read_text()), pathlib.Path(junit).read_text()
+    clean = {"monitor": "clean", "coherent": "coherent"}[command]
+    lines = [f"line {number} {rule}" for number, rule in found]
+    ought = (1, "\n".join([*lines, f"faults {len(found)}\n"])) if found else (0, f"{clean} {len(taken)}\n")
+    if says != ought or of(tool, *words, text=text) != ought:
+        yield f"{' '.join(words)} says {says}, and ought to say {ought}"
+    counts = collections.Counter(map(message, taken))
+    listed = [
+        {"beats": counts[it], "channel": it[1], "link": it[0], "message": "GrantAck" if it[1] == "E" else OPCODES[it[1]][it[2]]}
+        for it in sorted(counts)
+    ]
+    for it in told["faults"]:
+        del it["sentence"]
+    del told["tool"]
+    wanted_report = {
+        "beats": len(taken), "command": command, "counts": listed,
+        "faults": [{"line": number, "rule": rule} for number, rule in found],
+        "input": {"bytes": len(text), "header": header, "sha256": hashlib.sha256(text.encode()).hexdigest()},
+        "verdict": "broken" if found else clean,
+    }
+    if told != wanted_report:
+        yield f"{' '.join(words)} reports {told}, and ought to report {wanted_report}"
+    cases = max(1, len(found))
+    if f'tests="{cases}" failures="{len(found)}"' not in suite or f'name="beats" value="{len(taken)}"' not in suite:
+        yield f"{' '.join(words)} has other cases of JUnit than {cases}"
+
+
 def words_of(seed):
     blocks = (1, 2, 5, 64)[seed % 4]
     return ["--seed", str(seed), "--events", str(EVENTS), "--blocks", str(blocks), "--trackers", str((1, 2, 8)[seed % 3]),
@@ -326,6 +382,9 @@ def slips(tool, seed):
             wrong.append(f"{' '.join(command)} finds a fault in a right trace: {ought[1]}")
     if miscounted(tool, text, liberties, levels, beats, width):
         wrong.append("cover counts other situations than those of the narrow trace")
+        most = rng.choice([1, 2, 3, 20])
+        found, taken = wanted_all(tool, command, liberties, levels, beats, width, most)
+        wrong += report(tool, [*command, "--all", str(most)], text, found, taken)
     return wrong, of(tool, "monitor", text=text)[1].split()[-1]
 
 

@@ -1,79 +1,156 @@
 -- The first line that is found is that of the verdict.
-use Rattle.std.proofs.Common.{◌≡◌, ◌≤◌, ℕ, suc, ◌+◌, Bool, true, false, List, [], ◌∷◌, length, refl, arith, inl, inr, ◌∙◌}
-use Rattle.std.proofs.lemmas.List.{length-map}
-use Rattle.std.specs.Prelude.{zero, if◌then◌else◌}
+use Rattle.std.proofs.Common.{◌≡◌, ◌≤◌, ℕ, suc, ◌+◌, Bool, true, false, List, [], ◌∷◌, length, refl, arith, inl, inr, ◌∙◌, ap, subst, sym}
+use Rattle.std.proofs.lemmas.List.{length-map, length-reverse}
+use Rattle.std.specs.Prelude.{zero, None, if◌then◌else◌, reverse}
 use Rattle.tl_command.specs.declared.search.Aim.{Aim}
 use Rattle.tl_params.specs.declared.level.Level.{Level}
 use Rattle.tl_params.specs.declared.liberties.Liberties.{Liberties}
+use Rattle.tl_params.specs.declared.width.Width.{Width}
 use Rattle.tl_rules.specs.statement.Conformance.{Trace}
 use Rattle.tl_engine.specs.statement.JudgedSo.{said_by}
-use Rattle.tl_engine.specs.statement.Judged.{FaultsOf, Headers, JudgedAfter, JudgedBy}
+use Rattle.tl_engine.specs.declared.fault.Fault.{Fault}
+use Rattle.tl_engine.specs.statement.Judged.{IsAtFault as IsAtFaultBy, JudgedAfter, JudgedBy}
+use Rattle.tl_engine.specs.statement.JudgedLinks.{faults_by, heads_by}
 use Rattle.tl_report.specs.declared.findings.Finding.{Finding}
-use Rattle.tl_report.specs.statement.Found.{Finds, FindsAfter, FindsFor, is_open, left_behind}
-use Rattle.tl_engine.specs.statement.JudgedLinks.{JudgedLinks, faults_by, heads_by}
-use Rattle.tl_report.specs.statement.Taken.{cell_of}
-use Rattle.tl_report.specs.statement.Said.{first_by, first_text, status_of}
+use Rattle.tl_report.specs.statement.Form.{Form, IsAtFault, Terms, first_fault_in, narrow, wide}
+use Rattle.tl_report.specs.statement.Found.{FindsAfter, FindsFor, is_open, left_behind, most_of, terms_of}
+use Rattle.tl_report.specs.statement.Said.{first_text, status_of}
+use Rattle.tl_wide.specs.declared.width.WideWidth.{WideWidth}
+use Rattle.tl_wide.specs.statement.Naming.{WideTrace}
+use Rattle.tl_wide_lines.proofs.JudgedLines.{begin-more, begin-none}
+use Rattle.tl_wide_lines.proofs.WideHeaders.{versions_apart}
+use Rattle.tl_report.proofs.WideTaken.{newest-last, nothing-found}
+use Rattle.tl_wide_lines.specs.statement.JudgedTrace.{BeginWith, JudgedTrace, JudgedWide}
+use Rattle.tl_wide_lines.specs.statement.WideHeader.{wide_heads_by}
 
-module _ (heads : Headers Liberties) (faults : FaultsOf Liberties) (said : ℕ → List ℕ) where
-  judged_after : {w : ℕ} (levels : List Level) (may : Liberties) (t : Trace w) (n most : ℕ) (lines : List (List ℕ))
-      (found : List Finding) (beats : ℕ) (cells : List ℕ) → n ≡ length t + 2
-      → FindsAfter faults levels may t n (suc most) lines found beats cells
-      → JudgedAfter faults said levels may t lines (first_by said found beats) (status_of found)
-  unfolding JudgedAfter FindsAfter
-  judged_after levels may t n most [] found beats cells number is =
-      rw (is.0, is.1.in_all ∙ length-map t (λ x. cell_of x.0 x.1)) (refl, refl)
-  judged_after levels may t n most (line ∷ lines) found beats cells number (inl (link, beat, spells, good, is)) =
-      inl (
-        link,
-        beat,
-        spells,
-        good,
-        judged_after levels may ((link, beat) ∷ t) (n + 1) most lines found beats cells (omega (arith, number)) is,
-      )
-  judged_after levels may t n most (line ∷ lines) found beats cells number (inr (fault, later, is, found_is, behind)) =
-      inr (fault, is, rw (found_is, number) refl, rw found_is refl)
+-- ---- narrow beats
 
-  judged_by : (most : ℕ) (lines : List (List ℕ)) (found : List Finding) (beats : ℕ) (cells : List ℕ)
-      → Finds heads faults (suc most) lines found beats cells
-      → JudgedBy heads faults said lines (first_by said found beats) (status_of found)
-  unfolding JudgedBy Finds
-  judged_by most [] found beats cells is = rw is.0 (refl, refl)
-  judged_by most (line ∷ lines) found beats cells (inl (width, may, levels, spells, is)) =
-      inl (width, may, levels, spells, judged_after levels may [] 2 most lines found beats cells refl is)
-  judged_by most (line ∷ lines) found beats cells (inr (none, found_is, beats_are)) =
-      inr (none, rw found_is refl, rw found_is refl)
+at_fault_by : {w : ℕ} (terms : Terms) (t : Trace w) (line : List ℕ) (fault : Fault) → IsAtFault (narrow w terms) t line fault
+    → IsAtFaultBy (faults_by terms.together) terms.levels terms.may t line fault
+at_fault_by terms t line fault (inl bad) = inl bad
+at_fault_by terms t line fault (inr (x, spells, bad)) = inr (x.0, x.1, spells, bad)
+
+judged_after : {w : ℕ} (terms : Terms) (t : Trace w) (n most : ℕ) (lines : List (List ℕ))
+    (found : List Finding) (beats : ℕ) (cells : List ℕ) → n ≡ length t + 2
+    → FindsAfter (narrow w terms) t n (suc most) lines found beats cells
+    → JudgedAfter (faults_by terms.together) (said_by terms.together) terms.levels terms.may t lines
+    (first_text terms.together found beats) (status_of found)
+unfolding JudgedAfter FindsAfter
+judged_after {w} terms t n most [] found beats cells number is =
+    rw (is.0, is.1.in_all ∙ length-map t (narrow w terms).cell) (refl, refl)
+judged_after terms t n most (line ∷ lines) found beats cells number (inl (x, spells, good, is)) =
+    inl (
+      x.0,
+      x.1,
+      spells,
+      good,
+      judged_after terms (x ∷ t) (n + 1) most lines found beats cells (omega (arith, number)) is,
+    )
+judged_after terms t n most (line ∷ lines) found beats cells number (inr (fault, later, is, found_is, behind)) =
+    inr (fault, at_fault_by terms t line fault is, rw (found_is, number) refl, rw found_is refl)
+
+-- ---- wide beats
+
+judged_wide : {w : ℕ} (terms : Terms) (all : List (List ℕ)) (t : WideTrace w) (n most : ℕ) (lines : List (List ℕ))
+    (found : List Finding) (beats : ℕ) (cells : List ℕ) → n ≡ length t + 2 → first_fault_in terms t ≡ None
+    → BeginWith (reverse t) all lines → FindsAfter (wide w terms) t n (suc most) lines found beats cells
+    → JudgedWide w terms.together terms.may terms.levels all (first_text terms.together found beats) (status_of found)
+unfolding FindsAfter
+judged_wide {w} terms all t n most [] found beats cells number none begins is = record {
+  trace = reverse t;
+  rest = [];
+  begins = begins;
+  said =
+      let so_many : beats ≡ length (reverse t) = is.1.in_all ∙ length-map t (wide w terms).cell ∙ sym (length-reverse t) in
+      rw (none, is.0, so_many) (refl, refl);
+}
+judged_wide terms all t n most (line ∷ lines) found beats cells number none begins (inl (x, spells, good, is)) =
+    judged_wide terms all (x ∷ t) (n + 1) most lines found beats cells (omega (arith, number)) good
+    (subst (λ u. BeginWith u all lines) (sym (newest-last x t)) (begin-more (reverse t) x all line lines begins spells)) is
+judged_wide terms all t n most (line ∷ lines) found beats cells number none begins
+    (inr (fault, later, inl (of_line, bad, fault_is), found_is, behind)) = record {
+      trace = reverse t;
+      rest = line ∷ lines;
+      begins = begins;
+      said =
+          let at : n ≡ length (reverse t) + 2 = number ∙ ap (λ m. m + 2) (sym (length-reverse t)) in
+          rw (none, found_is, at, fault_is) (of_line, bad, refl, refl);
+    }
+judged_wide terms all t n most (line ∷ lines) found beats cells number none begins
+    (inr (fault, later, inr (x, spells, bad), found_is, behind)) = record {
+      trace = reverse (x ∷ t);
+      rest = lines;
+      begins = subst (λ u. BeginWith u all lines) (sym (newest-last x t))
+          (begin-more (reverse t) x all line lines begins spells);
+      said = rw (bad, found_is, number) (refl, refl);
+    }
+
+-- ---- a trace
+
+-- a header of narrow beats is none of wide ones
+apart : (together : Bool) (allow : Liberties) (line : List ℕ) (width : Width) (may : Liberties) (levels : List Level)
+    → heads_by together allow line width may levels → (wider : WideWidth) (own : Liberties) (others : List Level)
+    → ¬ wide_heads_by together allow line wider own others
+apart true allow line width may levels (names, late) wider own others (wides, later) =
+    versions_apart line width wider names.0 wides.0 levels others names.1 wides.1
+apart false allow line width may levels names wider own others wides =
+    versions_apart line width wider names.0 wides.0 levels others names.1 wides.1
 
 pub verdict_so : (aim : Aim) (lines : List (List ℕ)) (found : List Finding) (beats : ℕ) (cells : List ℕ)
     → FindsFor aim lines found beats cells
-    → JudgedLinks aim.together aim.allow lines (first_text aim.together found beats) (status_of found)
-verdict_so aim lines found beats cells finds =
-    judged_by (heads_by aim.together aim.allow) (faults_by aim.together) (said_by aim.together) aim.behind lines found
-    beats cells finds
+    → JudgedTrace aim.together aim.allow lines (first_text aim.together found beats) (status_of found)
+unfolding FindsFor JudgedBy
+verdict_so aim [] found beats cells is = rw is.0 (refl, refl)
+verdict_so aim (line ∷ lines) found beats cells (inl (width, may, levels, spells, is)) =
+    inl (
+      width,
+      may,
+      levels,
+      spells,
+      judged_wide (terms_of aim.together may levels) lines [] 2 aim.behind lines found
+          beats cells refl (nothing-found _ (terms_of aim.together may levels)) (begin-none _ lines) is,
+    )
+verdict_so aim (line ∷ lines) found beats cells (inr (inl (width, may, levels, spells, is))) =
+    inr (
+      apart aim.together aim.allow line width may levels spells,
+      inl (
+        width,
+        may,
+        levels,
+        spells,
+        judged_after (terms_of aim.together may levels) [] 2 aim.behind lines found beats
+            cells refl is,
+      ),
+    )
+verdict_so aim (line ∷ lines) found beats cells (inr (inr (none, is))) =
+    inr (none.1, inr (none.0, rw is.0 refl, rw is.0 refl))
 
-module _ (heads : Headers Liberties) (faults : FaultsOf Liberties) where
-  few_behind : (line : List ℕ) (most : ℕ) → left_behind line most ≤ most
-  few_behind line most = go (is_open line)
-    where
-      go : (b : Bool) → (if b then 0 else most) ≤ most
-      go true = omega arith
-      go false = omega arith
+-- ---- how many are found
 
-  at_most_after : {w : ℕ} (levels : List Level) (may : Liberties) (t : Trace w) (n most : ℕ) (lines : List (List ℕ))
-      (found : List Finding) (beats : ℕ) (cells : List ℕ)
-      → FindsAfter faults levels may t n most lines found beats cells → length found ≤ most
-  unfolding FindsAfter
-  at_most_after levels may t n zero lines found beats cells is = rw is.0 (omega arith)
-  at_most_after levels may t n (suc most) [] found beats cells is = rw is.0 (omega arith)
-  at_most_after levels may t n (suc most) (line ∷ lines) found beats cells (inl (link, beat, spells, good, is)) =
-      at_most_after levels may ((link, beat) ∷ t) (n + 1) (suc most) lines found beats cells is
-  at_most_after levels may t n (suc most) (line ∷ lines) found beats cells (inr (fault, later, is, found_is, behind)) =
-      let few = at_most_after levels may t (n + 1) (left_behind line most) lines later beats cells behind in
-      rw found_is (omega (arith, few, few_behind line most))
+few_behind : (line : List ℕ) (most : ℕ) → left_behind line most ≤ most
+few_behind line most = go (is_open line)
+  where
+    go : (b : Bool) → (if b then 0 else most) ≤ most
+    go true = omega arith
+    go false = omega arith
 
-  pub at_most : (most : ℕ) (lines : List (List ℕ)) (found : List Finding) (beats : ℕ) (cells : List ℕ)
-      → Finds heads faults (suc most) lines found beats cells → length found ≤ suc most
-  unfolding Finds
-  at_most most [] found beats cells is = rw is.0 (omega arith)
-  at_most most (line ∷ lines) found beats cells (inl (width, may, levels, spells, is)) =
-      at_most_after levels may [] 2 (suc most) lines found beats cells is
-  at_most most (line ∷ lines) found beats cells (inr (none, found_is, beats_are)) = rw found_is (omega arith)
+at_most_after : {X : Type 0} (form : Form X) (t : List X) (n most : ℕ) (lines : List (List ℕ)) (found : List Finding)
+    (beats : ℕ) (cells : List ℕ) → FindsAfter form t n most lines found beats cells → length found ≤ most
+unfolding FindsAfter
+at_most_after form t n zero lines found beats cells is = rw is.0 (omega arith)
+at_most_after form t n (suc most) [] found beats cells is = rw is.0 (omega arith)
+at_most_after form t n (suc most) (line ∷ lines) found beats cells (inl (x, spells, good, is)) =
+    at_most_after form (x ∷ t) (n + 1) (suc most) lines found beats cells is
+at_most_after form t n (suc most) (line ∷ lines) found beats cells (inr (fault, later, is, found_is, behind)) =
+    let few = at_most_after form t (n + 1) (left_behind line most) lines later beats cells behind in
+    rw found_is (omega (arith, few, few_behind line most))
+
+pub at_most : (aim : Aim) (lines : List (List ℕ)) (found : List Finding) (beats : ℕ) (cells : List ℕ)
+    → FindsFor aim lines found beats cells → length found ≤ most_of aim
+unfolding FindsFor
+at_most aim [] found beats cells is = rw is.0 (omega arith)
+at_most aim (line ∷ lines) found beats cells (inl (width, may, levels, spells, is)) =
+    at_most_after _ [] 2 (most_of aim) lines found beats cells is
+at_most aim (line ∷ lines) found beats cells (inr (inl (width, may, levels, spells, is))) =
+    at_most_after _ [] 2 (most_of aim) lines found beats cells is
+at_most aim (line ∷ lines) found beats cells (inr (inr (none, is))) = rw is.0 (omega arith)

@@ -1,3 +1,4 @@
+pub mod Form
 pub mod Found
 pub mod Said
 pub mod Taken

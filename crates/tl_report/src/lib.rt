@@ -4,7 +4,10 @@
 pub mod find;
 pub mod findings;
 pub mod law;
+pub mod line_judge;
+pub mod narrow;
 pub mod say;
 pub mod search;
 pub mod search_lines;
 pub mod taken;
+pub mod wide;

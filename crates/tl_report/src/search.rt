@@ -1,30 +1,23 @@
 //! Judges the lines of a trace and records those at fault, whose beats aren't taken.
 
-ghost use Rattle.std.specs.Prelude.{◌≡◌, ℕ, List, IfOk, false, true};
-ghost use Rattle.tl_beat.specs.declared.beat.Beat.{Beat};
-ghost use Rattle.tl_beat.specs.statement.Line.{Spells};
-ghost use Rattle.tl_beat.specs.statement.Width.{IsWidth};
+ghost use Rattle.std.specs.Prelude.{◌≡◌, IfOk};
 ghost use Rattle.tl_engine.specs.declared.status.Status.{Status};
-ghost use Rattle.tl_report.specs.code.Searching.{EndsWith, IsBegun, IsElsewhereSame, JudgesLine, Notes, SearchesLine};
+ghost use Rattle.tl_report.specs.code.Searching.{EndsWith, IsBegun, IsElsewhereSame, Notes, SearchJudges, SearchesLine};
 ghost use Rattle.tl_report.specs.statement.Found.{is_open};
 
 use crate::findings::{Finding, Findings};
-use crate::taken::cell_of;
+use crate::line_judge::{Judged, LineJudge};
 use std::alloc::{AllocError, Global};
-use tl_beat::beat::{Beat, Link};
 use tl_beat::fault::LineFault;
-use tl_beat::read::read_line;
 use tl_command::search::Aim;
 use tl_engine::fault::Fault;
-use tl_engine::links_header::LinksHeader;
 use tl_engine::status::Status;
-use tl_engine::trace_judge::TraceJudge;
 
-/// A judge of the links of a trace, and the findings so far.
+/// A judge of the lines of a trace, and the findings so far.
 #[derive(Drop)]
-pub struct Search<const W: usize> {
+pub struct Search<J> {
     pub aim: Aim,
-    judge: TraceJudge<W>,
+    judge: J,
     findings: Findings,
     /// The number of lines that were read, with the header.
     lines: u64,
@@ -39,47 +32,31 @@ fn is_open(line: &[u8]) -> bool
     !line.ends_with(b"\n") || line.len() > 256
 }
 
-impl<const W: usize> Search<W> {
-    /// A search that begins after a header.
-    pub fn new(alloc: Global, aim: Aim, header: &LinksHeader) -> Result<Self, AllocError>
-        requires width { IsWidth W }
-        requires late { aim.together ≡ true → header.now.may.early ≡ false }
-        ensures { IfOk result (λ search. IsBegun search aim header.now.levels.items header.now.may) }
+impl<J: LineJudge> Search<J> {
+    /// A search that begins after a header, whose lines this judge judges.
+    pub fn new(alloc: Global, aim: Aim, judge: J) -> Result<Self, AllocError>
+        ensures { IfOk result (λ search. IsBegun search aim judge) }
     {
         Ok(Search {
             aim,
-            judge: TraceJudge::new(alloc, aim.together, header)?,
+            judge,
             findings: Findings::new(alloc)?,
             lines: 1,
             over: false,
         })
     }
 
-    /// Judges a beat, and takes it if it isn't at fault.
-    fn take(&mut self, link: Link, beat: &Beat<W>) -> Result<Option<Fault>, AllocError>
-        requires { IsWidth W }
-        ensures judges { IfOk result (λ fault. (line : List ℕ) → Spells line link beat.now →
-            JudgesLine self.old self.new line fault) }
-        ensures same { IfOk result (λ _. IsElsewhereSame self.old self.new) }
+    /// Judges the line of a beat, and counts the beat if the line isn't at fault.
+    fn judge(&mut self, line: &[u8]) -> Result<Option<Fault>, AllocError>
+        ensures judges { IfOk result (SearchJudges J.ways self.old self.new line.now) }
+        ensures same { IfOk result (λ _. IsElsewhereSame J.ways self.old self.new) }
     {
-        match self.judge.push(link, beat)? {
-            None => {
-                self.findings.count(cell_of(link, beat))?;
+        match self.judge.judge_line(line)? {
+            Judged::Taken(cell) => {
+                self.findings.count(cell)?;
                 Ok(None)
             }
-            Some(fault) => Ok(Some(fault)),
-        }
-    }
-
-    /// Judges the line of a beat, and takes the beat if the line isn't at fault.
-    fn judge(&mut self, line: &[u8]) -> Result<Option<Fault>, AllocError>
-        requires { IsWidth W }
-        ensures judges { IfOk result (JudgesLine self.old self.new line.now) }
-        ensures same { IfOk result (λ _. IsElsewhereSame self.old self.new) }
-    {
-        match read_line(line) {
-            Ok((link, beat)) => self.take(link, &beat),
-            Err(fault) => Ok(Some(Fault::Line(fault))),
+            Judged::AtFault(fault) => Ok(Some(fault)),
         }
     }
 
@@ -98,8 +75,7 @@ impl<const W: usize> Search<W> {
     /// Judges the line of the next beat, and records it if it is at fault. Returns the fault if it ends the search.
     #[inline(never)]
     pub fn read(&mut self, line: &[u8]) -> Result<Option<Fault>, AllocError>
-        requires { IsWidth W }
-        ensures reads { IfOk result (SearchesLine self.old self.new line.now) }
+        ensures reads { IfOk result (SearchesLine J.ways self.old self.new line.now) }
         ensures aim { IfOk result (λ _. self.new.aim ≡ self.old.aim) }
     {
         let number = self.lines.checked_add(1).ok_or(AllocError)?;
@@ -121,7 +97,7 @@ impl<const W: usize> Search<W> {
 
     /// The findings, at the end of the input or at a line that ends the search.
     pub fn into_findings(self, status: Status) -> Result<Findings, AllocError>
-        ensures { IfOk result (EndsWith status self.entry.over self.entry.findings self.entry.lines) }
+        ensures { IfOk result (EndsWith status self.over self.findings self.lines) }
     {
         let line = self.lines.checked_add(1).ok_or(AllocError)?;
         let mut findings = self.findings;

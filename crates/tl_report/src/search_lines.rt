@@ -1,47 +1,117 @@
 //! Searches the lines of an input for those at fault.
 
-ghost use Rattle.std.specs.Prelude.{◌≡◌, [], IfOk, IfSome};
+ghost use Rattle.std.specs.Prelude.{◌≡◌, [], true, false, IfOk, IfSome};
+ghost use Rattle.tl_beat.specs.statement.Width.{IsWidth};
 ghost use Rattle.tl_engine.specs.declared.status.Status.{Status};
-ghost use Rattle.tl_report.specs.code.Searching.{Begins, EndsLines, HasFound, KnowsLines, TellsLines, aim_of};
-ghost use Rattle.tl_report.specs.statement.Found.{no_header};
+ghost use Rattle.tl_report.specs.code.Searching.{Begins, EndsLines, HasFound, KnowsLines, StartsSearch, TellsLines, aim_of};
+ghost use Rattle.tl_report.specs.code.NarrowJudging.{narrow_ways};
+ghost use Rattle.tl_report.specs.code.WideJudging.{wide_ways};
+ghost use Rattle.tl_report.specs.statement.Found.{IsHeadless, IsNotNarrow, IsNotWide, no_header, terms_of};
 ghost use Rattle.tl_report.specs.statement.Taken.{AreCounted};
+ghost use Rattle.tl_wide.specs.statement.Width.{IsWideWidth, part_width};
 
 use crate::findings::{Finding, Findings};
+use crate::narrow::NarrowLineJudge;
 use crate::search::Search;
+use crate::wide::WideLineJudge;
 use std::alloc::{AllocError, Global};
 use tl_beat::fault::LineFault;
 use tl_command::search::Aim;
 use tl_engine::fault::Fault;
 use tl_engine::line_handler::LineHandler;
+use tl_engine::links_header::LinksHeader;
 use tl_engine::status::Status;
 use tl_engine::trace_judge::read_for;
 use tl_params::width::Width;
+use tl_wide::width::WideWidth;
+use tl_wide_lines::header::read_wide_for;
 
 /// Judges the lines of a trace, and records those at fault.
 #[derive(Drop)]
 pub enum SearchLines {
     /// The header hasn't been read.
     Waiting(Global, Aim),
-    Four(Search<4>),
-    Eight(Search<8>),
-    Sixteen(Search<16>),
+    Four(Search<NarrowLineJudge<4>>),
+    Eight(Search<NarrowLineJudge<8>>),
+    Sixteen(Search<NarrowLineJudge<16>>),
+    WideFour(Search<WideLineJudge<4, 4>>),
+    WideEight(Search<WideLineJudge<8, 8>>),
+    WideSixteen(Search<WideLineJudge<16, 16>>),
+    WideThirtyTwo(Search<WideLineJudge<32, 16>>),
+    WideSixtyFour(Search<WideLineJudge<64, 16>>),
 }
 
-/// Begins with the links that a header names; `None` if the line is no header.
-#[inline(never)]
-fn begin(alloc: Global, aim: Aim, line: &[u8]) -> Result<Option<SearchLines>, AllocError>
-    ensures begins { IfOk result (Begins aim line.now) }
-    ensures aim { IfOk result (λ begun. IfSome begun (λ lines. aim_of lines ≡ aim)) }
+/// A search after a header of narrow beats.
+fn narrow<const W: usize>(
+    alloc: Global,
+    aim: Aim,
+    header: &LinksHeader,
+) -> Result<Search<NarrowLineJudge<W>>, AllocError>
+    requires width { IsWidth W }
+    requires late { aim.together ≡ true → header.now.may.early ≡ false }
+    ensures { IfOk result (StartsSearch (narrow_ways W) aim (terms_of aim.together header.now.may
+        header.now.levels.items)) }
+{
+    let judge = NarrowLineJudge::new(alloc, aim.together, header)?;
+    Search::new(alloc, aim, judge)
+}
+
+/// A search after a header of wide beats.
+fn wide<const W: usize, const P: usize>(
+    alloc: Global,
+    aim: Aim,
+    links: LinksHeader,
+) -> Result<Search<WideLineJudge<W, P>>, AllocError>
+    requires width { IsWideWidth W }
+    requires part { P ≡ part_width W }
+    requires late { aim.together ≡ true → links.may.early ≡ false }
+    ensures { IfOk result (StartsSearch (wide_ways W P) aim (terms_of aim.together links.may links.levels.items)) }
+{
+    let judge = WideLineJudge::new(alloc, aim, links)?;
+    Search::new(alloc, aim, judge)
+}
+
+/// Begins with the links that a header of narrow beats names; `None` if the line is no such header.
+fn begin_narrow(alloc: Global, aim: Aim, line: &[u8]) -> Result<Option<SearchLines>, AllocError>
+    ensures { IfOk result (Begins IsNotNarrow aim line.now) }
 {
     let Some(header) = read_for(aim.together, aim.allow, line) else {
         return Ok(None);
     };
     let lines = match header.width {
-        Width::Four => SearchLines::Four(Search::new(alloc, aim, &header)?),
-        Width::Eight => SearchLines::Eight(Search::new(alloc, aim, &header)?),
-        Width::Sixteen => SearchLines::Sixteen(Search::new(alloc, aim, &header)?),
+        Width::Four => SearchLines::Four(narrow(alloc, aim, &header)?),
+        Width::Eight => SearchLines::Eight(narrow(alloc, aim, &header)?),
+        Width::Sixteen => SearchLines::Sixteen(narrow(alloc, aim, &header)?),
     };
     Ok(Some(lines))
+}
+
+/// Begins with the links that a header of wide beats names; `None` if the line is no such header.
+fn begin_wide(alloc: Global, aim: Aim, line: &[u8]) -> Result<Option<SearchLines>, AllocError>
+    ensures { IfOk result (Begins IsNotWide aim line.now) }
+{
+    let Some(header) = read_wide_for(aim.together, aim.allow, line) else {
+        return Ok(None);
+    };
+    let links = header.links;
+    let lines = match header.width {
+        WideWidth::Four => SearchLines::WideFour(wide(alloc, aim, links)?),
+        WideWidth::Eight => SearchLines::WideEight(wide(alloc, aim, links)?),
+        WideWidth::Sixteen => SearchLines::WideSixteen(wide(alloc, aim, links)?),
+        WideWidth::ThirtyTwo => SearchLines::WideThirtyTwo(wide(alloc, aim, links)?),
+        WideWidth::SixtyFour => SearchLines::WideSixtyFour(wide(alloc, aim, links)?),
+    };
+    Ok(Some(lines))
+}
+
+/// Begins with the links that a header names; `None` if the line is no header.
+fn begin(alloc: Global, aim: Aim, line: &[u8]) -> Result<Option<SearchLines>, AllocError>
+    ensures { IfOk result (Begins IsHeadless aim line.now) }
+{
+    match begin_wide(alloc, aim, line)? {
+        None => begin_narrow(alloc, aim, line),
+        Some(lines) => Ok(Some(lines)),
+    }
 }
 
 /// The findings in a trace without a header.
@@ -57,6 +127,23 @@ fn no_header(alloc: Global) -> Result<Findings, AllocError>
 }
 
 impl SearchLines {
+    ghost use Rattle.tl_report.specs.code.Searching.{StartsLines};
+
+    /// Begins with the first line: after a header the search goes on, and any other line is at fault.
+    #[cold]
+    #[inline(never)]
+    fn start(&mut self, alloc: Global, aim: Aim, line: &[u8]) -> Result<Option<Fault>, AllocError>
+        ensures { IfOk result (StartsLines aim self.old self.new line.now) }
+    {
+        match begin(alloc, aim, line)? {
+            None => Ok(Some(Fault::Header)),
+            Some(lines) => {
+                *self = lines;
+                Ok(None)
+            }
+        }
+    }
+
     /// The findings, at the end of the input or at a line that ends the search.
     pub fn into_findings(self, status: Status) -> Result<Findings, AllocError>
         ensures { IfOk result (HasFound self status) }
@@ -66,6 +153,11 @@ impl SearchLines {
             SearchLines::Four(search) => search.into_findings(status),
             SearchLines::Eight(search) => search.into_findings(status),
             SearchLines::Sixteen(search) => search.into_findings(status),
+            SearchLines::WideFour(search) => search.into_findings(status),
+            SearchLines::WideEight(search) => search.into_findings(status),
+            SearchLines::WideSixteen(search) => search.into_findings(status),
+            SearchLines::WideThirtyTwo(search) => search.into_findings(status),
+            SearchLines::WideSixtyFour(search) => search.into_findings(status),
         }
     }
 }
@@ -89,16 +181,18 @@ impl LineHandler for SearchLines {
         _out: &mut Vec<u8>,
     ) -> Result<Option<Fault>, AllocError> {
         match self {
-            SearchLines::Waiting(alloc, aim) => match begin(*alloc, *aim, line)? {
-                None => Ok(Some(Fault::Header)),
-                Some(lines) => {
-                    *self = lines;
-                    Ok(None)
-                }
-            },
+            SearchLines::Waiting(alloc, aim) => {
+                let (alloc, aim) = (*alloc, *aim);
+                self.start(alloc, aim, line)
+            }
             SearchLines::Four(search) => search.read(line),
             SearchLines::Eight(search) => search.read(line),
             SearchLines::Sixteen(search) => search.read(line),
+            SearchLines::WideFour(search) => search.read(line),
+            SearchLines::WideEight(search) => search.read(line),
+            SearchLines::WideSixteen(search) => search.read(line),
+            SearchLines::WideThirtyTwo(search) => search.read(line),
+            SearchLines::WideSixtyFour(search) => search.read(line),
         }
     }
 

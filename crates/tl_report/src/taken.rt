@@ -1,9 +1,11 @@
 //! The beats that a search takes, counted by link and message.
 
 ghost use Rattle.std.specs.Prelude.{◌≡◌, ◌<◌, ◌≤◌};
-ghost use Rattle.tl_report.specs.statement.Taken.{cell_of, message_of, most_cells};
+ghost use Rattle.tl_report.specs.statement.Taken.{cell_for, cell_of, message_of, most_cells, wide_cell_of};
+ghost use Rattle.tl_report.specs.statement.Taken.{wide_message_of};
 
 use tl_beat::beat::{Beat, Link};
+use tl_wide::beat::WideBeat;
 
 /// The number of cells: 33 for each of 256 links.
 pub const CELLS: usize = 8448;
@@ -23,10 +25,42 @@ fn message_of<const W: usize>(beat: &Beat<W>) -> u8
     }
 }
 
-/// The number of the cell in which a beat counts: each link has 33 cells, one for each message.
+/// The same for a wide beat.
+#[tactic(auto, using(crate::proofs::Counted::below_a, crate::proofs::Counted::below_b, crate::proofs::Counted::below_c, crate::proofs::Counted::below_d))]
+fn wide_message_of<const W: usize>(beat: &WideBeat<W>) -> u8
+    ensures number { result ≡ wide_message_of beat.now }
+    ensures below { result ≤ 32 }
+{
+    match beat {
+        WideBeat::A(x) => x.opcode.code(),
+        WideBeat::B(x) => 8 + x.opcode.code(),
+        WideBeat::C(x) => 16 + x.opcode.code(),
+        WideBeat::D(x) => 24 + x.opcode.code(),
+        WideBeat::E(_) => 32,
+    }
+}
+
+/// The number of the cell of a message: each link has 33 cells, one for each message.
+fn cell_for(link: Link, message: u8) -> usize
+    requires { message ≤ 32 }
+    ensures cell { result ≡ cell_for link message }
+    ensures below { result < most_cells }
+{
+    33 * usize::from(link.0) + usize::from(message)
+}
+
+/// The number of the cell in which a beat counts.
 pub fn cell_of<const W: usize>(link: Link, beat: &Beat<W>) -> usize
     ensures cell { result ≡ cell_of link beat.now }
     ensures below { result < most_cells }
 {
-    33 * usize::from(link.0) + usize::from(message_of(beat))
+    cell_for(link, message_of(beat))
+}
+
+/// The number of the cell in which a wide beat counts.
+pub fn wide_cell_of<const W: usize>(link: Link, beat: &WideBeat<W>) -> usize
+    ensures cell { result ≡ wide_cell_of link beat.now }
+    ensures below { result < most_cells }
+{
+    cell_for(link, wide_message_of(beat))
 }

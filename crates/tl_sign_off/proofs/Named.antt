@@ -3,6 +3,7 @@ use Rattle.std.proofs.Common.{◌≡◌, ◌<◌, ◌+◌, ◌*◌, ◌/◌, ◌
 use Rattle.tl_beat.specs.declared.beat.Beat.{Beat}
 use Rattle.tl_beat.specs.declared.beat.Beat.TheVariants as beat
 use Rattle.tl_beat.specs.declared.beat.Link.{Link}
+use Rattle.tl_beat.specs.declared.channel.Channel.{Channel}
 use Rattle.tl_beat.specs.declared.opcode.OpA.{OpA}
 use Rattle.tl_beat.specs.declared.opcode.OpA.TheVariants as a
 use Rattle.tl_beat.specs.declared.opcode.OpB.{OpB}
@@ -15,9 +16,11 @@ use Rattle.tl_beat.specs.statement.Control.{channel_of}
 use Rattle.tl_beat.specs.statement.Names.{a_name, b_name, c_name, d_name, letter_of}
 use Rattle.tl_beat.specs.statement.Opcode.{a_code, b_code, c_code, d_code}
 use Rattle.tl_report.proofs.Counted.{below_a, below_b, below_c, below_d}
-use Rattle.tl_report.specs.statement.Taken.{cell_of, message_of}
-use Rattle.tl_sign_off.specs.statement.Message.{channel_name, message_name, name_of}
-use Rattle.tl_sign_off.specs.statement.Report.{count_data, count_of}
+use Rattle.tl_report.specs.statement.Taken.{cell_for, cell_of, message_of, wide_cell_of, wide_message_of}
+use Rattle.tl_sign_off.specs.statement.Message.{channel_name, message_name, name_of, wide_channel_of, wide_name_of}
+use Rattle.tl_sign_off.specs.statement.Report.{count_data, count_named, count_of, wide_count_of}
+use Rattle.tl_wide.specs.declared.beat.WideBeat.{WideBeat}
+use Rattle.tl_wide.specs.declared.beat.WideBeat.TheVariants as wide
 
 -- a number has this letter and this name
 record IsNamed (n : ℕ) (letter : ℕ) (name : List ℕ) : Type 0 where
@@ -75,14 +78,36 @@ few_messages (beat.C x) = let few = below_c x.opcode in omega (arith, few)
 few_messages (beat.D x) = let few = below_d x.opcode in omega (arith, few)
 few_messages (beat.E x) = omega arith
 
+is_named_wide : {w : ℕ} (x : WideBeat w) → IsNamed (wide_message_of x) (letter_of (wide_channel_of x)) (wide_name_of x)
+is_named_wide (wide.A x) = on_a x.opcode
+is_named_wide (wide.B x) = on_b x.opcode
+is_named_wide (wide.C x) = on_c x.opcode
+is_named_wide (wide.D x) = on_d x.opcode
+is_named_wide (wide.E x) = record { lettered = refl; named = refl }
+
+few_wide_messages : {w : ℕ} (x : WideBeat w) → wide_message_of x < 33
+few_wide_messages (wide.A x) = let few = below_a x.opcode in omega (arith, few)
+few_wide_messages (wide.B x) = let few = below_b x.opcode in omega (arith, few)
+few_wide_messages (wide.C x) = let few = below_c x.opcode in omega (arith, few)
+few_wide_messages (wide.D x) = let few = below_d x.opcode in omega (arith, few)
+few_wide_messages (wide.E x) = omega arith
+
 link_back : (link message : ℕ) → message < 33 → (33 * link + message) / 33 ≡ link
 link_back link message few = omega (arith, few)
 
 message_back : (link message : ℕ) → message < 33 → (33 * link + message) % 33 ≡ message
 message_back link message few = omega (arith, few)
 
+-- the entry for the cell of a message that is named so
+counted_so : (link : Link) (message : ℕ) (channel : Channel) (name : List ℕ) (n : ℕ) → message < 33
+    → IsNamed message (letter_of channel) name → count_data (cell_for link message) n ≡ count_named link channel name n
+counted_so link message channel name n few is =
+    rw (link_back link.0 message few, message_back link.0 message few, is.lettered, is.named) refl
+
 pub counted_alike : {w : ℕ} (link : Link) (x : Beat w) (n : ℕ) → count_data (cell_of link x) n ≡ count_of link x n
-counted_alike link x n =
-    let few = few_messages x in
-    let is = is_named x in
-    rw (link_back link.0 (message_of x) few, message_back link.0 (message_of x) few, is.lettered, is.named) refl
+counted_alike link x n = counted_so link (message_of x) (channel_of x) (name_of x) n (few_messages x) (is_named x)
+
+pub wide_counted_alike : {w : ℕ} (link : Link) (x : WideBeat w) (n : ℕ)
+    → count_data (wide_cell_of link x) n ≡ wide_count_of link x n
+wide_counted_alike link x n =
+    counted_so link (wide_message_of x) (wide_channel_of x) (wide_name_of x) n (few_wide_messages x) (is_named_wide x)

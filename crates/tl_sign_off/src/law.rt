@@ -1,12 +1,19 @@
-//! A law of the report's counts.
+//! Laws of the report's counts.
 
 ghost use Rattle.std.specs.Prelude.{◌≡◌, ℕ};
 ghost use Rattle.tl_beat.specs.declared.beat.Beat.{Beat};
 ghost use Rattle.tl_beat.specs.declared.beat.Link.{Link};
-ghost use Rattle.tl_report.specs.statement.Taken.{cell_of};
-ghost use Rattle.tl_sign_off.specs.statement.Report.{count_data, count_of};
+ghost use Rattle.tl_report.specs.statement.Taken.{cell_of, wide_cell_of};
+ghost use Rattle.tl_sign_off.specs.statement.Report.{count_data, count_of, wide_count_of};
+ghost use Rattle.tl_wide.specs.declared.beat.WideBeat.{WideBeat};
 
 /// The entry for the cell of a beat names the beat's link, channel and message.
 pub fn counts_by_link_and_message()
     ensures { (w : ℕ) (link : Link) (beat : Beat w) (n : ℕ) → count_data (cell_of link beat) n ≡ count_of link beat n }
+{}
+
+/// The entry for the cell of a wide beat names the beat's link, channel and message.
+pub fn wide_counts_by_link_and_message()
+    ensures { (w : ℕ) (link : Link) (beat : WideBeat w) (n : ℕ) →
+        count_data (wide_cell_of link beat) n ≡ wide_count_of link beat n }
 {}

@@ -321,7 +321,6 @@ fn find(rt: &HostRuntime, aim: Aim, name: Option<String>) -> u8 {
             let front = front_of(&mut input);
             let mut whole = front.as_slice().chain(input);
             let status = find_over(rt, aim, &mut whole, &mut output);
-            let status = tell_unread(rt, front.as_slice(), status);
             if aim.together {
                 tell_early(rt, aim.allow, front.as_slice(), status)
             } else {
@@ -331,7 +330,6 @@ fn find(rt: &HostRuntime, aim: Aim, name: Option<String>) -> u8 {
         Some(name) => match fs::open(rt, name.as_str()) {
             Ok(mut file) => {
                 let status = find_over(rt, aim, &mut file, &mut output);
-                let status = tell_unread_in(rt, name.as_str(), status);
                 tell_early_in(rt, aim.together, aim.allow, name.as_str(), status)
             }
             Err(_) => unopened(rt, name.as_str()),

@@ -4,7 +4,6 @@ ghost use Rattle.std.specs.Prelude.{◌≡◌, ℕ, IfOk, List, OnErr, Option, f
 ghost use Rattle.tltool.specs.Reported.{EndsJudged, EndsReported, status_reported};
 
 use crate::early::{front_of, tell_early, tell_early_in};
-use crate::unread::{tell_unread, tell_unread_in};
 use crate::{told, unopened};
 use std::io::{Read, Write};
 use std::{fs, io};
@@ -93,7 +92,7 @@ fn judge_file(rt: &HostRuntime, inquiry: Inquiry, name: &str) -> Result<Account,
     match judge_over(rt, inquiry, &mut input, &mut io::writer(rt)) {
         Ok(account) => {
             let aim = inquiry.aim;
-            let status = tell_unread_in(rt, name, status_reported(&account.findings, true));
+            let status = status_reported(&account.findings, true);
             tell_early_in(rt, aim.together, aim.allow, name, status);
             Ok(account)
         }
@@ -109,7 +108,6 @@ fn judge_input(rt: &HostRuntime, inquiry: Inquiry) -> Result<Account, u8> {
     match judge_over(rt, inquiry, &mut whole, &mut io::writer(rt)) {
         Ok(account) => {
             let status = status_reported(&account.findings, true);
-            let status = tell_unread(rt, front.as_slice(), status);
             if inquiry.aim.together {
                 tell_early(rt, inquiry.aim.allow, front.as_slice(), status);
             }

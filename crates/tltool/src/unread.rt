@@ -8,7 +8,7 @@ use tl_wide_lines::header::read_wide;
 
 /// The line for standard error.
 const UNREAD: &str =
-    "tltool: the header is of wide beats, which monitor, coherent and cover read, without --all, --report and --junit";
+    "tltool: the header is of wide beats, which only monitor, coherent and cover read";
 
 /// If this exit status is 1 and this first line is a header of wide beats, says so on standard error. Returns the
 /// status.

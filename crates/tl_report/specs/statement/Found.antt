@@ -1,22 +1,21 @@
 -- The findings in a trace whose beats at fault aren't taken.
-use Rattle.std.specs.Prelude.{◌≡◌, ◌⊎◌, ◌||◌, ◌+◌, ℕ, suc, zero, Bool, not, List, [], ◌∷◌, length, nat_lt, if◌then◌else◌}
-use Rattle.std.specs.Prelude.{None}
+use Rattle.std.specs.Prelude.{◌≡◌, ◌⊎◌, ◌||◌, ◌+◌, ℕ, suc, zero, Bool, not, List, [], ◌∷◌, length, map, nat_lt}
+use Rattle.std.specs.Prelude.{if◌then◌else◌}
 use Rattle.std.specs.Io.BufRead.{ends_with_byte}
-use Rattle.tl_beat.specs.declared.beat.Beat.{Beat}
-use Rattle.tl_beat.specs.declared.beat.Link.{Link}
-use Rattle.tl_beat.specs.statement.Line.{Spells}
 use Rattle.tl_command.specs.declared.search.Aim.{Aim}
 use Rattle.tl_params.specs.declared.level.Level.{Level}
 use Rattle.tl_params.specs.declared.liberties.Liberties.{Liberties}
 use Rattle.tl_params.specs.declared.width.Width.{Width}
-use Rattle.tl_rules.specs.statement.Conformance.{Trace}
 use Rattle.tl_engine.specs.declared.fault.Fault.{Fault}
 use Rattle.tl_engine.specs.declared.fault.Fault.TheVariants.{Header}
-use Rattle.tl_engine.specs.statement.Judged.{FaultsOf, Headers, IsAtFault}
+use Rattle.tl_engine.specs.statement.JudgedLinks.{heads_by}
 use Rattle.tl_engine.specs.statement.Width.{bytes_of}
 use Rattle.tl_report.specs.declared.findings.Finding.{Finding}
-use Rattle.tl_engine.specs.statement.JudgedLinks.{faults_by, heads_by}
-use Rattle.tl_report.specs.statement.Taken.{AreCounted, cells_of}
+use Rattle.tl_report.specs.statement.Form.{Form, IsAtFault, Terms, narrow, wide}
+use Rattle.tl_report.specs.statement.Taken.{AreCounted}
+use Rattle.tl_wide.specs.declared.width.WideWidth.{WideWidth}
+use Rattle.tl_wide.specs.statement.Width.{wide_bytes_of}
+use Rattle.tl_wide_lines.specs.statement.WideHeader.{wide_heads_by}
 
 -- the most lines at fault that are looked for
 abbrev pub most_of : Aim → ℕ
@@ -33,31 +32,62 @@ left_behind line most = if is_open line then 0 else most
 -- The findings in these lines, the first of which has number n. They come after a header and the beats of t. At most as
 -- many lines at fault are found as are looked for. A line is judged after the beats that were taken before it. Its beat
 -- is taken if the line isn't at fault, and counted in its cell.
-unfoldable pub FindsAfter : {w : ℕ} → FaultsOf Liberties → List Level → Liberties → Trace w → ℕ → ℕ → List (List ℕ) → List Finding
-    → ℕ → List ℕ → Type 0
-FindsAfter faults levels may t n zero lines found beats cells = (found ≡ []) × AreCounted beats cells (cells_of t)
-FindsAfter faults levels may t n (suc most) [] found beats cells = (found ≡ []) × AreCounted beats cells (cells_of t)
-FindsAfter {w} faults levels may t n (suc most) (line ∷ lines) found beats cells =
-    ((link : Link) × (beat : Beat w) × Spells line link beat × (faults w levels may (link, beat) t ≡ None)
-    × FindsAfter faults levels may ((link, beat) ∷ t) (n + 1) (suc most) lines found beats cells)
-    ⊎ ((fault : Fault) × (later : List Finding) × IsAtFault faults levels may t line fault
+unfoldable pub FindsAfter : {X : Type 0} → Form X → List X → ℕ → ℕ → List (List ℕ) → List Finding → ℕ → List ℕ → Type 0
+FindsAfter form t n zero lines found beats cells = (found ≡ []) × AreCounted beats cells (map form.cell t)
+FindsAfter form t n (suc most) [] found beats cells = (found ≡ []) × AreCounted beats cells (map form.cell t)
+FindsAfter {X} form t n (suc most) (line ∷ lines) found beats cells =
+    ((x : X) × form.spells line x × form.is_good t x
+    × FindsAfter form (x ∷ t) (n + 1) (suc most) lines found beats cells)
+    ⊎ ((fault : Fault) × (later : List Finding) × IsAtFault form t line fault
     × (found ≡ record { line = n; fault = fault } ∷ later)
-    × FindsAfter faults levels may t (n + 1) (left_behind line most) lines later beats cells)
+    × FindsAfter form t (n + 1) (left_behind line most) lines later beats cells)
+
+-- ---- a whole trace
+
+-- the terms of a trace whose links have these liberties and these levels
+abbrev pub terms_of : Bool → Liberties → List Level → Terms
+terms_of together may levels = record { together = together; may = may; levels = levels }
+
+-- the line is a header of narrow beats, and these are the findings after it
+abbrev pub FindsNarrow : Aim → List ℕ → List (List ℕ) → List Finding → ℕ → List ℕ → Type 0
+FindsNarrow aim line lines found beats cells =
+    (width : Width) × (may : Liberties) × (levels : List Level) × heads_by aim.together aim.allow line width may levels
+    × FindsAfter (narrow (bytes_of width) (terms_of aim.together may levels)) [] 2 (most_of aim) lines found beats cells
+
+-- the same for a header of wide beats
+abbrev pub FindsWide : Aim → List ℕ → List (List ℕ) → List Finding → ℕ → List ℕ → Type 0
+FindsWide aim line lines found beats cells =
+    (width : WideWidth) × (may : Liberties) × (levels : List Level)
+    × wide_heads_by aim.together aim.allow line width may levels
+    × FindsAfter (wide (wide_bytes_of width) (terms_of aim.together may levels)) [] 2 (most_of aim) lines found beats cells
+
+-- the line is no header of narrow beats
+abbrev pub IsNotNarrow : Aim → List ℕ → Type 0
+IsNotNarrow aim line = (width : Width) (may : Liberties) (levels : List Level)
+    → ¬ heads_by aim.together aim.allow line width may levels
+
+-- the line is no header of wide beats
+abbrev pub IsNotWide : Aim → List ℕ → Type 0
+IsNotWide aim line = (width : WideWidth) (may : Liberties) (levels : List Level)
+    → ¬ wide_heads_by aim.together aim.allow line width may levels
+
+-- the line is no header
+abbrev pub IsHeadless : Aim → List ℕ → Type 0
+IsHeadless aim line = IsNotNarrow aim line × IsNotWide aim line
 
 -- the one line at fault of a trace without a header
 abbrev pub no_header : List Finding
 no_header = record { line = 1; fault = Header } ∷ []
 
--- The findings in a whole trace: at most `most` lines at fault, the number of beats taken, and the counts of the cells.
--- If there is no first line, or it spells no header, it is the only line at fault.
-unfoldable pub Finds : Headers Liberties → FaultsOf Liberties → ℕ → List (List ℕ) → List Finding → ℕ → List ℕ → Type 0
-Finds heads faults most [] found beats cells = (found ≡ no_header) × AreCounted beats cells []
-Finds heads faults most (line ∷ lines) found beats cells =
-    ((width : Width) × (may : Liberties) × (levels : List Level) × heads line width may levels
-    × FindsAfter {w = bytes_of width} faults levels may [] 2 most lines found beats cells)
-    ⊎ (((width : Width) (may : Liberties) (levels : List Level) → ¬ heads line width may levels)
-    × (found ≡ no_header) × AreCounted beats cells [])
+-- the findings in a trace without a header: it is at fault at its first line, and no beat is taken
+abbrev pub FindsNone : List Finding → ℕ → List ℕ → Type 0
+FindsNone found beats cells = (found ≡ no_header) × AreCounted beats cells []
 
--- the findings in these lines for this aim
-abbrev pub FindsFor : Aim → List (List ℕ) → List Finding → ℕ → List ℕ → Type 0
-FindsFor aim = Finds (heads_by aim.together aim.allow) (faults_by aim.together) (most_of aim)
+-- The findings in a whole trace for this aim: lines at fault, the number of beats taken, and the counts of the cells.
+-- If there is no first line, or it spells no header, it is the only line at fault.
+unfoldable pub FindsFor : Aim → List (List ℕ) → List Finding → ℕ → List ℕ → Type 0
+FindsFor aim [] found beats cells = FindsNone found beats cells
+FindsFor aim (line ∷ lines) found beats cells =
+    FindsWide aim line lines found beats cells
+    ⊎ FindsNarrow aim line lines found beats cells
+    ⊎ (IsHeadless aim line × FindsNone found beats cells)

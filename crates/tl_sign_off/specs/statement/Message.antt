@@ -2,8 +2,12 @@
 use Rattle.std.specs.Prelude.{◌/◌, ◌%◌, ◌==◌, ℕ, List, [], Option, Some, None, codes, if◌then◌else◌, option_map}
 use Rattle.tl_beat.specs.declared.beat.Beat.{Beat}
 use Rattle.tl_beat.specs.declared.beat.Beat.TheVariants as beat
+use Rattle.tl_beat.specs.declared.channel.Channel.{Channel}
+use Rattle.tl_beat.specs.declared.channel.Channel.TheVariants as channel
 use Rattle.tl_beat.specs.statement.Names.{a_name, b_name, c_name, d_name}
 use Rattle.tl_beat.specs.statement.Opcode.{a_with, b_with, c_with, d_with}
+use Rattle.tl_wide.specs.declared.beat.WideBeat.{WideBeat}
+use Rattle.tl_wide.specs.declared.beat.WideBeat.TheVariants as wide
 
 -- the name, empty if there is none
 abbrev pub name_or_none : Option (List ℕ) → List ℕ
@@ -33,3 +37,19 @@ name_of (beat.B x) = b_name x.opcode
 name_of (beat.C x) = c_name x.opcode
 name_of (beat.D x) = d_name x.opcode
 name_of (beat.E x) = codes "GrantAck"
+
+-- the name of a wide beat's message
+abbrev pub wide_name_of : {w : ℕ} → WideBeat w → List ℕ
+wide_name_of (wide.A x) = a_name x.opcode
+wide_name_of (wide.B x) = b_name x.opcode
+wide_name_of (wide.C x) = c_name x.opcode
+wide_name_of (wide.D x) = d_name x.opcode
+wide_name_of (wide.E x) = codes "GrantAck"
+
+-- the channel of a wide beat
+abbrev pub wide_channel_of : {w : ℕ} → WideBeat w → Channel
+wide_channel_of (wide.A x) = channel.A
+wide_channel_of (wide.B x) = channel.B
+wide_channel_of (wide.C x) = channel.C
+wide_channel_of (wide.D x) = channel.D
+wide_channel_of (wide.E x) = channel.E

@@ -7,6 +7,7 @@ use Rattle.serde_json.specs.View.{items_of}
 use Rattle.serde_json.specs.Written.{compact_text}
 use Rattle.tl_beat.specs.declared.beat.Beat.{Beat}
 use Rattle.tl_beat.specs.declared.beat.Link.{Link}
+use Rattle.tl_beat.specs.declared.channel.Channel.{Channel}
 use Rattle.tl_beat.specs.statement.Control.{channel_of}
 use Rattle.tl_beat.specs.statement.Names.{letter_of}
 use Rattle.tl_engine.specs.declared.fault.Fault.{Fault}
@@ -15,8 +16,9 @@ use Rattle.tl_engine.specs.statement.Fault.{fault_name}
 use Rattle.tl_report.specs.declared.findings.Finding.{Finding}
 use Rattle.tl_sign_off.specs.declared.account.Account.{Account}
 use Rattle.tl_sign_off.specs.declared.input.Input.{Input}
-use Rattle.tl_sign_off.specs.statement.Message.{channel_name, message_name, name_of}
+use Rattle.tl_sign_off.specs.statement.Message.{channel_name, message_name, name_of, wide_channel_of, wide_name_of}
 use Rattle.tl_sign_off.specs.statement.Sentence.{sentence_of}
+use Rattle.tl_wide.specs.declared.beat.WideBeat.{WideBeat}
 
 -- a number without sign
 abbrev pub natural : ℕ → Data
@@ -41,13 +43,21 @@ count_data cell n = object
     (member (codes "link") (natural (cell / 33))
     (member (codes "message") (string (message_name (cell % 33))) no_members))))
 
+-- the number of beats of this link and channel whose message has this name
+abbrev pub count_named : Link → Channel → List ℕ → ℕ → Data
+count_named link channel name n = object
+    (member (codes "beats") (natural n)
+    (member (codes "channel") (string (letter_of channel ∷ []))
+    (member (codes "link") (natural link.0)
+    (member (codes "message") (string name) no_members))))
+
 -- the number of beats with this beat's link and message
 abbrev pub count_of : {w : ℕ} → Link → Beat w → ℕ → Data
-count_of link beat n = object
-    (member (codes "beats") (natural n)
-    (member (codes "channel") (string (letter_of (channel_of beat) ∷ []))
-    (member (codes "link") (natural link.0)
-    (member (codes "message") (string (name_of beat)) no_members))))
+count_of link beat n = count_named link (channel_of beat) (name_of beat) n
+
+-- the number of wide beats with this beat's link and message
+abbrev pub wide_count_of : {w : ℕ} → Link → WideBeat w → ℕ → Data
+wide_count_of link beat n = count_named link (wide_channel_of beat) (wide_name_of beat) n
 
 -- the entry for a cell; none for a cell without beats
 abbrev pub counted_in : ℕ → ℕ → List Data

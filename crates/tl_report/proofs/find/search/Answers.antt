@@ -1,6 +1,6 @@
 use Rattle.std.proofs.Common.{ap, ◌∙◌}
 use Rattle.tl_report.specs.code.Searching.{aim_of}
-use Rattle.tl_report.proofs.Searched.{searches}
+use Rattle.tl_report.proofs.Handled.{searches}
 use Rattle.tl_report.proofs.find.search.Goals as goal
 
 pub returns-clause-ok : goal.returns-clause-ok

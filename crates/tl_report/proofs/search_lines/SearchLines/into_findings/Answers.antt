@@ -1,16 +1,30 @@
-use Rattle.std.proofs.Common.{refl}
-use Rattle.tl_report.specs.declared.search_lines.SearchLines.TheVariants.{Four, Eight, Sixteen}
-use Rattle.tl_report.proofs.Searched.{found_so}
+use Rattle.tl_report.proofs.Handled.{eight, four, sixteen, wide_eight, wide_four, wide_sixteen, wide_sixty_four, wide_thirty_two}
+use Rattle.tl_report.proofs.Handled.{found_so}
+use Rattle.tl_report.specs.code.NarrowJudging.{narrow_ways}
+use Rattle.tl_report.specs.code.WideJudging.{wide_ways}
+use Rattle.tl_report.specs.declared.search_lines.SearchLines.TheVariants as of
 use Rattle.tl_report.proofs.search_lines.SearchLines.into_findings.Goals as goal
 
 pub returns-in-Four : goal.returns-in-Four
-returns-in-Four c = rw c.in-Four.is (found_so Four (λ s lines text k. k) (λ s lines e. e) (λ s. refl) c.in-Four.search
-    c.args.status c.into_findings.result c.into_findings.ensures)
+returns-in-Four c = rw c.in-Four.is (found_so (narrow_ways 4) of.Four four c.in-Four.search c.args.status c.into_findings.result c.into_findings.ensures)
 
 pub returns-in-Eight : goal.returns-in-Eight
-returns-in-Eight c = rw c.in-Eight.is (found_so Eight (λ s lines text k. k) (λ s lines e. e) (λ s. refl) c.in-Eight.search
-    c.args.status c.into_findings-in-Eight.result c.into_findings-in-Eight.ensures)
+returns-in-Eight c = rw c.in-Eight.is (found_so (narrow_ways 8) of.Eight eight c.in-Eight.search c.args.status c.into_findings-in-Eight.result c.into_findings-in-Eight.ensures)
 
 pub returns-in-Sixteen : goal.returns-in-Sixteen
-returns-in-Sixteen c = rw c.in-Sixteen.is (found_so Sixteen (λ s lines text k. k) (λ s lines e. e) (λ s. refl) c.in-Sixteen.search
-    c.args.status c.into_findings-in-Sixteen.result c.into_findings-in-Sixteen.ensures)
+returns-in-Sixteen c = rw c.in-Sixteen.is (found_so (narrow_ways 16) of.Sixteen sixteen c.in-Sixteen.search c.args.status c.into_findings-in-Sixteen.result c.into_findings-in-Sixteen.ensures)
+
+pub returns-in-WideFour : goal.returns-in-WideFour
+returns-in-WideFour c = rw c.in-WideFour.is (found_so (wide_ways 4 4) of.WideFour wide_four c.in-WideFour.search c.args.status c.into_findings-in-WideFour.result c.into_findings-in-WideFour.ensures)
+
+pub returns-in-WideEight : goal.returns-in-WideEight
+returns-in-WideEight c = rw c.in-WideEight.is (found_so (wide_ways 8 8) of.WideEight wide_eight c.in-WideEight.search c.args.status c.into_findings-in-WideEight.result c.into_findings-in-WideEight.ensures)
+
+pub returns-in-WideSixteen : goal.returns-in-WideSixteen
+returns-in-WideSixteen c = rw c.in-WideSixteen.is (found_so (wide_ways 16 16) of.WideSixteen wide_sixteen c.in-WideSixteen.search c.args.status c.into_findings-in-WideSixteen.result c.into_findings-in-WideSixteen.ensures)
+
+pub returns-in-WideThirtyTwo : goal.returns-in-WideThirtyTwo
+returns-in-WideThirtyTwo c = rw c.in-WideThirtyTwo.is (found_so (wide_ways 32 16) of.WideThirtyTwo wide_thirty_two c.in-WideThirtyTwo.search c.args.status c.into_findings-in-WideThirtyTwo.result c.into_findings-in-WideThirtyTwo.ensures)
+
+pub returns-in-WideSixtyFour : goal.returns-in-WideSixtyFour
+returns-in-WideSixtyFour c = rw c.in-WideSixtyFour.is (found_so (wide_ways 64 16) of.WideSixtyFour wide_sixty_four c.in-WideSixtyFour.search c.args.status c.into_findings-in-WideSixtyFour.result c.into_findings-in-WideSixtyFour.ensures)

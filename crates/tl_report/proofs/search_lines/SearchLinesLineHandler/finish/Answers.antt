@@ -1,4 +1,4 @@
-use Rattle.tl_report.proofs.Searched.{missing_ends, read_clean, unclean}
+use Rattle.tl_report.proofs.Handled.{missing_ends, read_clean, unclean}
 use Rattle.tl_report.proofs.search_lines.SearchLinesLineHandler.finish.Goals as goal
 
 pub returns-in-Waiting-clause-finishes : goal.returns-in-Waiting-clause-finishes

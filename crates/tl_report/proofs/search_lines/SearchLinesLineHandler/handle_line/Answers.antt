@@ -1,47 +1,106 @@
-use Rattle.tl_engine.specs.declared.fault.Fault.TheVariants.{Header}
-use Rattle.tl_report.specs.declared.search_lines.SearchLines.TheVariants.{Four, Eight, Sixteen}
-use Rattle.tl_report.proofs.Searched.{no_header_ends, read_ends, read_judged, stops}
+use Rattle.tl_report.proofs.Handled.{eight, four, sixteen, wide_eight, wide_four, wide_sixteen, wide_sixty_four, wide_thirty_two}
+use Rattle.tl_report.proofs.Handled.{read_ends, read_judged, start_aim, start_ends, started}
+use Rattle.tl_report.specs.code.NarrowJudging.{narrow_ways}
+use Rattle.tl_report.specs.code.WideJudging.{wide_ways}
+use Rattle.tl_report.specs.declared.search_lines.SearchLines.TheVariants as of
 use Rattle.tl_report.proofs.search_lines.SearchLinesLineHandler.handle_line.Goals as goal
 
-pub returns-in-None-clause-judges : goal.returns-in-None-clause-judges
-returns-in-None-clause-judges c = stops _ c.args.line.now c.args._out.now.items c.args._out.now.items Header
+pub returns-in-Waiting-clause-judges : goal.returns-in-Waiting-clause-judges
+returns-in-Waiting-clause-judges c = rw c.in-Waiting.is (started c.in-Waiting.alloc c.in-Waiting.aim c.start.new.self
+    c.args.line.now c.args._out.now.items c.start.result c.start.ensures)
 
-pub returns-in-None-clause-ends : goal.returns-in-None-clause-ends
-returns-in-None-clause-ends c = λ fault is. rw c.in-Waiting.is (no_header_ends _ _ c.args.line.now
-    (rw c.in-None.is at c.in_ok-begin-in-Waiting.ensures.begins))
+pub returns-in-Waiting-clause-ends : goal.returns-in-Waiting-clause-ends
+returns-in-Waiting-clause-ends c = rw c.in-Waiting.is (start_ends c.in-Waiting.alloc c.in-Waiting.aim c.start.new.self
+    c.args.line.now c.start.result c.start.ensures)
+
+pub returns-in-Waiting-clause-purpose : goal.returns-in-Waiting-clause-purpose
+returns-in-Waiting-clause-purpose c = rw c.in-Waiting.is (start_aim c.in-Waiting.alloc c.in-Waiting.aim c.start.new.self
+    c.args.line.now c.start.result c.start.ensures)
 
 pub returns-in-Four-clause-judges : goal.returns-in-Four-clause-judges
-returns-in-Four-clause-judges c = rw c.in-Four.is (read_judged Four (λ s lines text k. k) (λ s lines text k. k)
-    (λ s lines e. e) c.in-Four.search c.read.new.self c.args.line.now c.args._out.now.items c.read.result c.read.ensures.reads)
+returns-in-Four-clause-judges c = rw c.in-Four.is (read_judged (narrow_ways 4) of.Four four c.in-Four.search c.read.new.self
+    c.args.line.now c.args._out.now.items c.read.result c.read.ensures.reads)
 
 pub returns-in-Four-clause-ends : goal.returns-in-Four-clause-ends
-returns-in-Four-clause-ends c = rw c.in-Four.is (read_ends Four (λ s lines text k. k) (λ s lines text k. k)
-    (λ s lines e. e) c.in-Four.search c.read.new.self c.args.line.now c.read.result c.read.ensures.reads)
-
-pub returns-in-Eight-clause-judges : goal.returns-in-Eight-clause-judges
-returns-in-Eight-clause-judges c = rw c.in-Eight.is (read_judged Eight (λ s lines text k. k) (λ s lines text k. k)
-    (λ s lines e. e) c.in-Eight.search c.read-in-Eight.new.self c.args.line.now c.args._out.now.items c.read-in-Eight.result c.read-in-Eight.ensures.reads)
-
-pub returns-in-Eight-clause-ends : goal.returns-in-Eight-clause-ends
-returns-in-Eight-clause-ends c = rw c.in-Eight.is (read_ends Eight (λ s lines text k. k) (λ s lines text k. k)
-    (λ s lines e. e) c.in-Eight.search c.read-in-Eight.new.self c.args.line.now c.read-in-Eight.result c.read-in-Eight.ensures.reads)
-
-pub returns-in-Sixteen-clause-judges : goal.returns-in-Sixteen-clause-judges
-returns-in-Sixteen-clause-judges c = rw c.in-Sixteen.is (read_judged Sixteen (λ s lines text k. k) (λ s lines text k. k)
-    (λ s lines e. e) c.in-Sixteen.search c.read-in-Sixteen.new.self c.args.line.now c.args._out.now.items c.read-in-Sixteen.result c.read-in-Sixteen.ensures.reads)
-
-pub returns-in-Sixteen-clause-ends : goal.returns-in-Sixteen-clause-ends
-returns-in-Sixteen-clause-ends c = rw c.in-Sixteen.is (read_ends Sixteen (λ s lines text k. k) (λ s lines text k. k)
-    (λ s lines e. e) c.in-Sixteen.search c.read-in-Sixteen.new.self c.args.line.now c.read-in-Sixteen.result c.read-in-Sixteen.ensures.reads)
-
-pub returns-in-Some-clause-purpose : goal.returns-in-Some-clause-purpose
-returns-in-Some-clause-purpose c = rw c.in-Waiting.is (rw c.in-Some.is at c.in_ok-begin-in-Waiting.ensures.aim)
+returns-in-Four-clause-ends c = rw c.in-Four.is (read_ends (narrow_ways 4) of.Four four c.in-Four.search c.read.new.self
+    c.args.line.now c.read.result c.read.ensures.reads)
 
 pub returns-in-Four-clause-purpose : goal.returns-in-Four-clause-purpose
 returns-in-Four-clause-purpose c = rw c.in-Four.is c.read.ensures.aim
 
+pub returns-in-Eight-clause-judges : goal.returns-in-Eight-clause-judges
+returns-in-Eight-clause-judges c = rw c.in-Eight.is (read_judged (narrow_ways 8) of.Eight eight c.in-Eight.search c.read-in-Eight.new.self
+    c.args.line.now c.args._out.now.items c.read-in-Eight.result c.read-in-Eight.ensures.reads)
+
+pub returns-in-Eight-clause-ends : goal.returns-in-Eight-clause-ends
+returns-in-Eight-clause-ends c = rw c.in-Eight.is (read_ends (narrow_ways 8) of.Eight eight c.in-Eight.search c.read-in-Eight.new.self
+    c.args.line.now c.read-in-Eight.result c.read-in-Eight.ensures.reads)
+
 pub returns-in-Eight-clause-purpose : goal.returns-in-Eight-clause-purpose
 returns-in-Eight-clause-purpose c = rw c.in-Eight.is c.read-in-Eight.ensures.aim
 
+pub returns-in-Sixteen-clause-judges : goal.returns-in-Sixteen-clause-judges
+returns-in-Sixteen-clause-judges c = rw c.in-Sixteen.is (read_judged (narrow_ways 16) of.Sixteen sixteen c.in-Sixteen.search c.read-in-Sixteen.new.self
+    c.args.line.now c.args._out.now.items c.read-in-Sixteen.result c.read-in-Sixteen.ensures.reads)
+
+pub returns-in-Sixteen-clause-ends : goal.returns-in-Sixteen-clause-ends
+returns-in-Sixteen-clause-ends c = rw c.in-Sixteen.is (read_ends (narrow_ways 16) of.Sixteen sixteen c.in-Sixteen.search c.read-in-Sixteen.new.self
+    c.args.line.now c.read-in-Sixteen.result c.read-in-Sixteen.ensures.reads)
+
 pub returns-in-Sixteen-clause-purpose : goal.returns-in-Sixteen-clause-purpose
 returns-in-Sixteen-clause-purpose c = rw c.in-Sixteen.is c.read-in-Sixteen.ensures.aim
+
+pub returns-in-WideFour-clause-judges : goal.returns-in-WideFour-clause-judges
+returns-in-WideFour-clause-judges c = rw c.in-WideFour.is (read_judged (wide_ways 4 4) of.WideFour wide_four c.in-WideFour.search c.read-in-WideFour.new.self
+    c.args.line.now c.args._out.now.items c.read-in-WideFour.result c.read-in-WideFour.ensures.reads)
+
+pub returns-in-WideFour-clause-ends : goal.returns-in-WideFour-clause-ends
+returns-in-WideFour-clause-ends c = rw c.in-WideFour.is (read_ends (wide_ways 4 4) of.WideFour wide_four c.in-WideFour.search c.read-in-WideFour.new.self
+    c.args.line.now c.read-in-WideFour.result c.read-in-WideFour.ensures.reads)
+
+pub returns-in-WideFour-clause-purpose : goal.returns-in-WideFour-clause-purpose
+returns-in-WideFour-clause-purpose c = rw c.in-WideFour.is c.read-in-WideFour.ensures.aim
+
+pub returns-in-WideEight-clause-judges : goal.returns-in-WideEight-clause-judges
+returns-in-WideEight-clause-judges c = rw c.in-WideEight.is (read_judged (wide_ways 8 8) of.WideEight wide_eight c.in-WideEight.search c.read-in-WideEight.new.self
+    c.args.line.now c.args._out.now.items c.read-in-WideEight.result c.read-in-WideEight.ensures.reads)
+
+pub returns-in-WideEight-clause-ends : goal.returns-in-WideEight-clause-ends
+returns-in-WideEight-clause-ends c = rw c.in-WideEight.is (read_ends (wide_ways 8 8) of.WideEight wide_eight c.in-WideEight.search c.read-in-WideEight.new.self
+    c.args.line.now c.read-in-WideEight.result c.read-in-WideEight.ensures.reads)
+
+pub returns-in-WideEight-clause-purpose : goal.returns-in-WideEight-clause-purpose
+returns-in-WideEight-clause-purpose c = rw c.in-WideEight.is c.read-in-WideEight.ensures.aim
+
+pub returns-in-WideSixteen-clause-judges : goal.returns-in-WideSixteen-clause-judges
+returns-in-WideSixteen-clause-judges c = rw c.in-WideSixteen.is (read_judged (wide_ways 16 16) of.WideSixteen wide_sixteen c.in-WideSixteen.search c.read-in-WideSixteen.new.self
+    c.args.line.now c.args._out.now.items c.read-in-WideSixteen.result c.read-in-WideSixteen.ensures.reads)
+
+pub returns-in-WideSixteen-clause-ends : goal.returns-in-WideSixteen-clause-ends
+returns-in-WideSixteen-clause-ends c = rw c.in-WideSixteen.is (read_ends (wide_ways 16 16) of.WideSixteen wide_sixteen c.in-WideSixteen.search c.read-in-WideSixteen.new.self
+    c.args.line.now c.read-in-WideSixteen.result c.read-in-WideSixteen.ensures.reads)
+
+pub returns-in-WideSixteen-clause-purpose : goal.returns-in-WideSixteen-clause-purpose
+returns-in-WideSixteen-clause-purpose c = rw c.in-WideSixteen.is c.read-in-WideSixteen.ensures.aim
+
+pub returns-in-WideThirtyTwo-clause-judges : goal.returns-in-WideThirtyTwo-clause-judges
+returns-in-WideThirtyTwo-clause-judges c = rw c.in-WideThirtyTwo.is (read_judged (wide_ways 32 16) of.WideThirtyTwo wide_thirty_two c.in-WideThirtyTwo.search c.read-in-WideThirtyTwo.new.self
+    c.args.line.now c.args._out.now.items c.read-in-WideThirtyTwo.result c.read-in-WideThirtyTwo.ensures.reads)
+
+pub returns-in-WideThirtyTwo-clause-ends : goal.returns-in-WideThirtyTwo-clause-ends
+returns-in-WideThirtyTwo-clause-ends c = rw c.in-WideThirtyTwo.is (read_ends (wide_ways 32 16) of.WideThirtyTwo wide_thirty_two c.in-WideThirtyTwo.search c.read-in-WideThirtyTwo.new.self
+    c.args.line.now c.read-in-WideThirtyTwo.result c.read-in-WideThirtyTwo.ensures.reads)
+
+pub returns-in-WideThirtyTwo-clause-purpose : goal.returns-in-WideThirtyTwo-clause-purpose
+returns-in-WideThirtyTwo-clause-purpose c = rw c.in-WideThirtyTwo.is c.read-in-WideThirtyTwo.ensures.aim
+
+pub returns-in-WideSixtyFour-clause-judges : goal.returns-in-WideSixtyFour-clause-judges
+returns-in-WideSixtyFour-clause-judges c = rw c.in-WideSixtyFour.is (read_judged (wide_ways 64 16) of.WideSixtyFour wide_sixty_four c.in-WideSixtyFour.search c.read-in-WideSixtyFour.new.self
+    c.args.line.now c.args._out.now.items c.read-in-WideSixtyFour.result c.read-in-WideSixtyFour.ensures.reads)
+
+pub returns-in-WideSixtyFour-clause-ends : goal.returns-in-WideSixtyFour-clause-ends
+returns-in-WideSixtyFour-clause-ends c = rw c.in-WideSixtyFour.is (read_ends (wide_ways 64 16) of.WideSixtyFour wide_sixty_four c.in-WideSixtyFour.search c.read-in-WideSixtyFour.new.self
+    c.args.line.now c.read-in-WideSixtyFour.result c.read-in-WideSixtyFour.ensures.reads)
+
+pub returns-in-WideSixtyFour-clause-purpose : goal.returns-in-WideSixtyFour-clause-purpose
+returns-in-WideSixtyFour-clause-purpose c = rw c.in-WideSixtyFour.is c.read-in-WideSixtyFour.ensures.aim

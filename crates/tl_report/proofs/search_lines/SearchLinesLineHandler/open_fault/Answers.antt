@@ -1,6 +1,6 @@
 use Rattle.tl_beat.specs.declared.fault.LineFault.TheVariants.{F1}
 use Rattle.tl_engine.specs.declared.fault.Fault.TheVariants.{Header, Line}
-use Rattle.tl_report.proofs.Searched.{open_ends, open_header, stops}
+use Rattle.tl_report.proofs.Handled.{open_ends, open_header, stops}
 use Rattle.tl_report.proofs.search_lines.SearchLinesLineHandler.open_fault.Goals as goal
 
 pub returns-in-Waiting-clause-stops : goal.returns-in-Waiting-clause-stops

@@ -1,0 +1,64 @@
+-- The two forms of beats that a trace may have, narrow and wide, and the fault of a beat of each.
+use Rattle.std.specs.Prelude.{◌≡◌, ◌⊎◌, ◌∷◌, ℕ, Bool, List, length, Option, Some, None, reverse}
+use Rattle.tl_beat.specs.declared.beat.Beat.{Beat}
+use Rattle.tl_beat.specs.declared.beat.Link.{Link}
+use Rattle.tl_beat.specs.declared.fault.LineFault.{LineFault}
+use Rattle.tl_beat.specs.statement.Line.{Spells, line_fault}
+use Rattle.tl_engine.specs.declared.fault.Fault.{Fault}
+use Rattle.tl_engine.specs.declared.fault.Fault.TheVariants.{Line}
+use Rattle.tl_engine.specs.statement.JudgedLinks.{faults_by}
+use Rattle.tl_params.specs.declared.level.Level.{Level}
+use Rattle.tl_params.specs.declared.liberties.Liberties.{Liberties}
+use Rattle.tl_report.specs.statement.Taken.{cell_of, wide_cell_of}
+use Rattle.tl_wide.specs.declared.beat.WideBeat.{WideBeat}
+use Rattle.tl_wide.specs.statement.Line.{WideSpells, wide_line_fault}
+use Rattle.tl_wide_lines.specs.statement.JudgedTrace.{first_fault_of}
+
+-- the terms of a trace: whether its links are judged together, their liberties, and their levels
+pub record Terms : Type 0 where
+  pub together : Bool
+  pub may : Liberties
+  pub levels : List Level
+
+-- A form of beats, each with its link. The newest beat of a trace is first.
+pub record Form (X : Type 0) : Type 1 where
+  -- the line is that of the beat
+  pub spells : List ℕ → X → Type 0
+  -- the fault of a line that spells no beat
+  pub line_fault : List ℕ → Option LineFault
+  -- after the beats of a trace the beat isn't at fault
+  pub is_good : List X → X → Type 0
+  -- after the beats of a trace the beat is at fault for this
+  pub is_bad : List X → X → Fault → Type 0
+  -- the cell in which the beat counts
+  pub cell : X → ℕ
+
+-- narrow beats: each is at fault after those of a trace as the rules say
+abbrev pub narrow : (w : ℕ) → Terms → Form (Link × Beat w)
+narrow w terms = record {
+  spells = λ line x. Spells line x.0 x.1;
+  line_fault = line_fault w;
+  is_good = λ t x. faults_by terms.together w terms.levels terms.may x t ≡ None;
+  is_bad = λ t x fault. faults_by terms.together w terms.levels terms.may x t ≡ Some fault;
+  cell = λ x. cell_of x.0 x.1;
+}
+
+-- the place and the fault of the first beat at fault of a wide trace, of which the newest beat is first
+abbrev pub first_fault_in : {w : ℕ} → Terms → List (Link × WideBeat w) → Option (ℕ × Fault)
+first_fault_in terms t = first_fault_of terms.together terms.may terms.levels (reverse t)
+
+-- Wide beats: each is at fault after those of a trace if, of the trace with it, it is the first that is at fault.
+abbrev pub wide : (w : ℕ) → Terms → Form (Link × WideBeat w)
+wide w terms = record {
+  spells = λ line x. WideSpells line x.0 x.1;
+  line_fault = wide_line_fault w;
+  is_good = λ t x. first_fault_in terms (x ∷ t) ≡ None;
+  is_bad = λ t x fault. first_fault_in terms (x ∷ t) ≡ Some (length t, fault);
+  cell = λ x. wide_cell_of x.0 x.1;
+}
+
+-- The line is at fault for this after the beats of t. It spells no beat, or one that is at fault for it.
+abbrev pub IsAtFault : {X : Type 0} → Form X → List X → List ℕ → Fault → Type 0
+IsAtFault {X} form t line fault =
+    ((of_line : LineFault) × (form.line_fault line ≡ Some of_line) × (fault ≡ Line of_line))
+    ⊎ ((x : X) × form.spells line x × form.is_bad t x fault)

@@ -296,16 +296,17 @@ unfolding last_told may_be
 settled-is write moment n block s old new x t last items k quiet none stands now written =
     record {
       bytes_are = λ p lt. items p lt
-          ∙ rw (stands, now, k.bytes_are p lt) (where_settled (is_written write p) (value_at write p) (length t)
-          (may_be n (64 * block + p) t) (written p lt).1 ∙ rw ((written p lt).0) (sym (settled_at p lt)));
+          ∙ rw (now, k.bytes_are p lt) (where_settled (is_written write p) (value_at write p) (length t)
+          (may_be n (64 * block + p) t) s stands (written p lt).1 ∙ rw ((written p lt).0) (sym (settled_at p lt)));
       last_is = rw (last, quiet) k.last_is;
     }
   where
-    where_settled : (b : Bool) (v : Option ℕ) (m : ℕ) (before : List Telling) → (b ≡ true → v ≡ None)
-        → (if b then told_too (record { value = v; moment = m }) before else before)
+    where_settled : (b : Bool) (v : Option ℕ) (m : ℕ) (before : List Telling) (s : Standing) → s ≡ Standing.Anywhere
+        → (b ≡ true → v ≡ None) → (if b then by_standing s (record { value = v; moment = m }) before else before)
         ≡ (if b then told_too (record { value = None; moment = m }) before else before)
-    where_settled true v m before e = ap (λ z. told_too (record { value = z; moment = m }) before) (e refl)
-    where_settled false v m before e = refl
+    where_settled true v m before s f e =
+        ap₂ (λ r z. by_standing r (record { value = z; moment = m }) before) f (e refl)
+    where_settled false v m before s f e = refl
 
     settled_at : (p : ℕ) → p < 64 → may_be n (64 * block + p) (x ∷ t)
         ≡ after_settling (64 * block + p) x t (may_be n (64 * block + p) t)

@@ -12,7 +12,7 @@ ghost use Rattle.tl_rules.specs.statement.Conformance.{Trace, on_link};
 ghost use Rattle.tl_bytes.specs.statement.Bytes as bytes;
 ghost use Rattle.tl_bytes.specs.statement.Bytes.{Access, ends_request, is_of, pending_accesses, tells, told_as};
 ghost use Rattle.tl_bytes.specs.statement.Early.{outrun_accesses};
-ghost use Rattle.tl_bytes.specs.declared.standing.Standing.TheVariants as standing;
+ghost use Rattle.tl_bytes.specs.declared.standing.Standing.TheVariants as stands;
 
 use crate::known_bytes::KnownBytes;
 use crate::latest::Latest;
@@ -141,7 +141,7 @@ impl BlockBytes {
         ensures settled { IfOk result (λ b. (w n block : ℕ) (x : Link × Beat w) (t : Trace w) →
             KnowsBlock self.now n block t →
             tells block x.1 (on_link x.0.0 t) ≡ false → AnswersNone x t →
-            standing ≡ standing.Anywhere → moment ≡ length t → IsSettling write.now block x t →
+            standing ≡ stands.Anywhere → moment ≡ length t → IsSettling write.now block x t →
             KnowsBlock b n block (x ∷ t)) }
     {
         let since = match standing {

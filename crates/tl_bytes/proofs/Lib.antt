@@ -1,4 +1,5 @@
 pub mod Brought
+pub mod BytesEarly
 pub mod BytesGranted
 pub mod BytesRead
 pub mod Filled

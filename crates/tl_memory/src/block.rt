@@ -21,6 +21,7 @@ ghost use Rattle.tl_bytes.specs.statement.Known.{tellings_of};
 ghost use Rattle.tl_bytes.specs.statement.Lines.{told_moment};
 
 use crate::accesses::{append_renewed, find, watch};
+use crate::early::OutrunAccess;
 use crate::expected::Expected;
 use crate::free::Freedom;
 use crate::granted::granted;
@@ -39,18 +40,22 @@ use tl_bytes::windows::WritingWindows;
 /// is free. Before that changes, each access gets the bytes that it may find.
 #[derive(Drop)]
 pub struct BlockState<const W: usize> {
-    bytes: BlockBytes,
+    pub(crate) bytes: BlockBytes,
     accesses: Vec<PendingAccess<W>>,
+    /// The accesses whose answers began before their requests were complete, until both are complete.
+    pub(crate) outrun: Vec<OutrunAccess>,
     free: Freedom,
     /// The last moment at which it was free for writing, if it isn't now.
     last_free: u64,
 }
 
-/// The change that a beat makes to the state of a block: its bytes, if the beat changes them, and the pending accesses.
+/// The change that a beat makes to the state of a block: its bytes, if the beat changes them, the pending accesses, and
+/// those whose answers outran their requests, if the beat changes them.
 #[derive(Drop)]
 pub struct NextState<const W: usize> {
     bytes: Option<BlockBytes>,
     accesses: Vec<PendingAccess<W>>,
+    outrun: Option<Vec<OutrunAccess>>,
 }
 
 /// The last moment at which a block was free, if it isn't free with one more beat, at this moment.
@@ -79,6 +84,7 @@ impl<const W: usize> BlockState<W> {
         BlockState {
             bytes: BlockBytes::new(alloc),
             accesses: Vec::new(alloc),
+            outrun: Vec::new(alloc),
             free: Freedom {
                 reading: true,
                 writing: true,
@@ -108,7 +114,12 @@ impl<const W: usize> BlockState<W> {
         ensures { IfOk result (λ read. (n block : ℕ) (t : Trace W) → KnowsState self.now n block t →
             KnowsGrant read n block t) }
     {
-        granted(alloc, &self.bytes, self.accesses.as_slice())
+        granted(
+            alloc,
+            &self.bytes,
+            self.accesses.as_slice(),
+            self.outrun.as_slice(),
+        )
     }
 
     /// The bytes that the answer to the pending access with this source on a link, which is no Put, may bring now. The
@@ -128,7 +139,7 @@ impl<const W: usize> BlockState<W> {
         let Some(access) = find(accesses, link, source) else {
             return Ok(None);
         };
-        let renewed = access.renewed(alloc, self.free, &self.bytes, accesses)?;
+        let renewed = access.renewed(alloc, self.free, &self.bytes, accesses, self.outrun.as_slice())?;
         Ok(Some(Expected {
             address: renewed.writer.asked.request.address,
             size: renewed.writer.asked.request.size,
@@ -163,7 +174,8 @@ impl<const W: usize> BlockState<W> {
         alloc: Global,
         gone: Option<(Link, u8)>,
     ) -> Result<Vec<PendingAccess<W>>, AllocError>
-        ensures { IfOk result (λ copies. AreRenewed (found_by self.now.free self.now.bytes self.now.accesses.items)
+        ensures { IfOk result (λ copies. AreRenewed (found_by self.now.free self.now.bytes self.now.accesses.items
+            self.now.outrun.items)
             (staying gone self.now.accesses.items) copies.items) }
     {
         let mut copies = Vec::new(alloc);
@@ -174,16 +186,18 @@ impl<const W: usize> BlockState<W> {
             gone,
             self.free,
             &self.bytes,
+            self.outrun.as_slice(),
         )?;
         Ok(copies)
     }
 
     /// The change by a beat that sets these bytes, if there are any. `gone` is the access that ends, if one does.
     #[inline(always)]
-    fn with_bytes(
+    pub(crate) fn with_bytes(
         &self,
         alloc: Global,
         bytes: Option<BlockBytes>,
+        outrun: Option<Vec<OutrunAccess>>,
         gone: Option<(Link, u8)>,
     ) -> Result<NextState<W>, AllocError>
         ensures { IfOk result (λ next. (n block : ℕ) (x : Link × Beat W) (t : Trace W) →
@@ -194,7 +208,11 @@ impl<const W: usize> BlockState<W> {
             KnowsUnseen (with_next self.now next) n block x t) }
     {
         let accesses = self.renewed(alloc, gone)?;
-        Ok(NextState { bytes, accesses })
+        Ok(NextState {
+            bytes,
+            accesses,
+            outrun,
+        })
     }
 
     /// The change by a beat that changes at most whether the block is free. The error means that there is no memory
@@ -204,7 +222,7 @@ impl<const W: usize> BlockState<W> {
             KnowsState self.now n block t → IsElsewhere block x t →
             KnowsUnseen (with_next self.now next) n block x t) }
     {
-        self.with_bytes(alloc, None, None)
+        self.with_bytes(alloc, None, None, None)
     }
 
     /// The change by a beat that sets these bytes; `moment` is the number of beats before it. The error means that
@@ -221,7 +239,7 @@ impl<const W: usize> BlockState<W> {
             KnowsUnseen (with_next self.now next) n block x t) }
     {
         let bytes = BlockBytes::told(alloc, values, moment)?;
-        self.with_bytes(alloc, Some(bytes), None)
+        self.with_bytes(alloc, Some(bytes), None, None)
     }
 
     /// The bytes after a beat that completes the answer to an access, if it changes them. `moment` is the number of
@@ -276,7 +294,7 @@ impl<const W: usize> BlockState<W> {
             KnowsUnseen (with_next self.now next) n block (link, beat.D y.now) t) }
     {
         let bytes = self.bytes_answered(alloc, link, y, brought, moment)?;
-        self.with_bytes(alloc, bytes, Some((link, y.source)))
+        self.with_bytes(alloc, bytes, None, Some((link, y.source)))
     }
 
     /// Notes whether the block is free with a beat, at this moment.
@@ -316,7 +334,7 @@ impl<const W: usize> BlockState<W> {
             return Ok(PendingAccess::new(alloc, &writer, windows));
         };
         let writer = Writer::new(link, y, brought, first.writer.asked.moment);
-        first.grown(alloc, &writer, self.free, &self.bytes, accesses)
+        first.grown(alloc, &writer, self.free, &self.bytes, accesses, self.outrun.as_slice())
     }
 
     /// The change by a beat of the request of an access to the block, at this moment. `brought` are the bytes of the
@@ -342,10 +360,19 @@ impl<const W: usize> BlockState<W> {
         let gone = Some((link, y.source));
         let mut accesses = Vec::with_capacity(alloc, before.len().saturating_add(1))?;
         accesses.push(own)?;
-        append_renewed(alloc, &mut accesses, before, gone, self.free, &self.bytes)?;
+        append_renewed(
+            alloc,
+            &mut accesses,
+            before,
+            gone,
+            self.free,
+            &self.bytes,
+            self.outrun.as_slice(),
+        )?;
         Ok(NextState {
             bytes: None,
             accesses,
+            outrun: None,
         })
     }
 
@@ -353,6 +380,7 @@ impl<const W: usize> BlockState<W> {
     fn put_bytes(&mut self, bytes: Option<BlockBytes>)
         ensures bytes { self.new.bytes ≡ unwrap_or bytes self.old.bytes }
         ensures accesses { self.new.accesses ≡ self.old.accesses }
+        ensures outrun { self.new.outrun ≡ self.old.outrun }
         ensures free { self.new.free ≡ self.old.free }
         ensures last_free { self.new.last_free ≡ self.old.last_free }
     {
@@ -361,12 +389,31 @@ impl<const W: usize> BlockState<W> {
         }
     }
 
+    /// Puts these accesses whose answers outran their requests, if there are any.
+    fn put_outrun(&mut self, outrun: Option<Vec<OutrunAccess>>)
+        ensures bytes { self.new.bytes ≡ self.old.bytes }
+        ensures accesses { self.new.accesses ≡ self.old.accesses }
+        ensures outrun { self.new.outrun ≡ unwrap_or outrun self.old.outrun }
+        ensures free { self.new.free ≡ self.old.free }
+        ensures last_free { self.new.last_free ≡ self.old.last_free }
+    {
+        if let Some(outrun) = outrun {
+            self.outrun = outrun;
+        }
+    }
+
     /// Makes the change of a beat, if there is one.
     fn put(&mut self, next: Option<NextState<W>>)
         ensures { self.new ≡ put_next self.old next.entry }
     {
-        if let Some(NextState { bytes, accesses }) = next {
+        if let Some(NextState {
+            bytes,
+            accesses,
+            outrun,
+        }) = next
+        {
             self.put_bytes(bytes);
+            self.put_outrun(outrun);
             self.accesses = accesses;
             self.free.shown = false;
         }

@@ -58,7 +58,13 @@ impl Links {
     }
 
     /// Takes a beat. `begun` are the bytes that the response may bring that begins with it.
-    pub fn take<const W: usize>(&mut self, begun: Option<Expected>, link: Link, x: &Beat<W>)
+    pub fn take<const W: usize>(
+        &mut self,
+        begun: Option<Expected>,
+        block: Option<u32>,
+        link: Link,
+        x: &Beat<W>,
+    )
         requires { IsWidth W }
         ensures { (levels : List Level) (t : Trace W) → KnowsLinks self.old (length levels) t →
             AreLegal levels t → IsLegal levels (link, x.now) t →
@@ -66,7 +72,7 @@ impl Links {
             KnowsLinks self.new (length levels) ((link, x.now) ∷ t) }
     {
         if let Some(state) = self.states.get_mut(usize::from(link.0)) {
-            state.take(begun, x);
+            state.take(begun, block, x);
         }
     }
 }

@@ -22,12 +22,14 @@ ghost use Rattle.tl_memory.specs.statement.Links.{KnowsMessages};
 
 use crate::access::is_access;
 use crate::block::{BlockState, NextState};
+use crate::early::OutrunAccess;
 use crate::link::LinkMessages;
 use crate::message::{CarriedMessage, both};
 use crate::passing::{acquires_from_none, asks};
 use std::alloc::{AllocError, Global};
 use tl_beat::beat::{Beat, BeatA, BeatC, BeatD, Link};
 use tl_beat::opcode::{OpA, OpD};
+use tl_rules::kind::is_release_ack;
 use tl_rules::past::Request;
 
 /// The change by a beat of channel A, at this moment, if it asks for an access. `brought` are the bytes of the beats
@@ -50,18 +52,36 @@ pub fn after_request<const W: usize>(
     if !asks(y, brought) {
         return Ok(None);
     }
+    if let Some(access) = state.outrun_of(link, y.source) {
+        return after_outrun_request(alloc, state, &access, brought.completes(&Beat::A(*y)), moment);
+    }
     let all = brought.with(&Beat::A(*y));
     Ok(Some(state.asked(alloc, link, y, &all, moment)?))
 }
 
-/// The change by a beat of channel C, if it completes a report. `moment` is the number of beats before it, `brought`
+/// The change by a beat of the request of an access whose answer outran it, at this moment: the last beat settles it if
+/// the answer is complete. The error means that there is no memory left.
+fn after_outrun_request<const W: usize>(
+    alloc: Global,
+    state: &BlockState<W>,
+    access: &OutrunAccess,
+    completes: bool,
+    moment: u64,
+) -> Result<Option<NextState<W>>, AllocError> {
+    if !both(completes, access.answered) {
+        return Ok(None);
+    }
+    Ok(Some(state.settled(alloc, access, moment.saturating_sub(1))?))
+}
+
+/// The change by a beat of channel C, if it completes a report. A Release that was answered already changes no byte. `moment` is the number of beats before it, `brought`
 /// are the bytes of the beats before it of its message. The error means that there is no memory left, or that `moment`
 /// is 2^64 - 1.
 pub fn after_report<const W: usize>(
     alloc: Global,
     state: &BlockState<W>,
     y: &BeatC<W>,
-    brought: &CarriedMessage,
+    messages: &LinkMessages,
     moment: u64,
 ) -> Result<Option<NextState<W>>, AllocError>
     requires width { IsWidth W }
@@ -74,10 +94,11 @@ pub fn after_report<const W: usize>(
         IsNextUnseen next state.now n block (link, beat.C y.now) t) }
 {
     let beat = Beat::C(*y);
+    let brought = &messages.c;
     if !brought.completes(&beat) {
         return Ok(None);
     }
-    if !y.opcode.carries_data() {
+    if !y.opcode.carries_data() || messages.is_released() {
         return Ok(Some(state.passed(alloc)?));
     }
     let all = brought.with(&beat);
@@ -102,6 +123,24 @@ fn tells<const W: usize>(y: &BeatD<W>, asked: OpA) -> bool
     both(!y.denied, tells_block(y.opcode, asked))
 }
 
+/// The change by a beat of channel D that completes the answer to an access on a link; `moment` is the number of beats
+/// before it, `brought` are the bytes of the answer's beats before it. The error means that there is no memory left.
+fn after_answer<const W: usize>(
+    alloc: Global,
+    state: &BlockState<W>,
+    link: Link,
+    y: &BeatD<W>,
+    brought: &CarriedMessage,
+    moment: u64,
+) -> Result<NextState<W>, AllocError>
+    requires { IsWidth W }
+{
+    match state.outrun_of(link, y.source) {
+        Some(access) => state.settled(alloc, &access, moment),
+        None => state.answered(alloc, link, y, brought, moment),
+    }
+}
+
 /// The change by a beat of channel D, if it completes a response. `moment` is the number of beats before it, `brought`
 /// are the bytes of the beats before it of its message. The error means that there is no memory left, or that `moment`
 /// is 2^64 - 1.
@@ -111,7 +150,7 @@ pub fn after_response<const W: usize>(
     link: Link,
     y: &BeatD<W>,
     asked: Request,
-    brought: &CarriedMessage,
+    messages: &LinkMessages,
     moment: u64,
 ) -> Result<Option<NextState<W>>, AllocError>
     requires width { IsWidth W }
@@ -123,17 +162,56 @@ pub fn after_response<const W: usize>(
         IsNextUnseen next state.now n block (link, beat.D y.now) t) }
 {
     let beat = Beat::D(*y);
+    let brought = &messages.d;
     if !brought.completes(&beat) {
         return Ok(None);
     }
-    if tells(y, asked.opcode) {
+    if both(tells(y, asked.opcode), !messages.is_overtaken()) {
         let all = brought.with(&beat);
         return Ok(Some(state.told(alloc, all.bytes.bytes(), moment)?));
     }
     if is_access(asked.opcode) {
-        return Ok(Some(state.answered(alloc, link, y, brought, moment)?));
+        return Ok(Some(after_answer(alloc, state, link, y, brought, moment)?));
     }
     Ok(Some(state.passed(alloc)?))
+}
+
+/// The change by a ReleaseAck that comes before its Release is complete: the bytes that have come are those of its beats.
+/// The error is as that of `told`.
+fn after_early_ack<const W: usize>(
+    alloc: Global,
+    state: &BlockState<W>,
+    messages: &LinkMessages,
+    moment: u64,
+) -> Result<Option<NextState<W>>, AllocError> {
+    Ok(Some(state.told(alloc, messages.c.bytes.bytes(), moment)?))
+}
+
+/// The change by a beat of channel D. `asked` is the complete request that it answers, if there is one, and `moment` the
+/// number of beats before it. The error means that there is no memory left, or that `moment` is 2^64 - 1.
+fn after_any_response<const W: usize>(
+    alloc: Global,
+    state: &BlockState<W>,
+    link: Link,
+    y: &BeatD<W>,
+    asked: Option<Request>,
+    messages: &LinkMessages,
+    moment: u64,
+) -> Result<Option<NextState<W>>, AllocError>
+    requires width { IsWidth W }
+    requires small { y.now.size ≤ 6 }
+{
+    if is_release_ack(y.opcode) {
+        return after_early_ack(alloc, state, messages, moment);
+    }
+    if let Some(asking) = messages.asks_with(y.source) {
+        let answered = messages.d.completes(&Beat::D(*y));
+        return Ok(Some(state.outrun(alloc, link, &asking, answered)?));
+    }
+    match asked {
+        Some(asked) => after_response(alloc, state, link, y, asked, messages, moment),
+        None => Ok(None),
+    }
 }
 
 /// The change by a beat of channel A, at this moment. An Acquire from None may change whether the block is free.
@@ -183,11 +261,9 @@ pub fn after_beat<const W: usize>(
     let before = moment.saturating_sub(1);
     match beat {
         Beat::A(y) => after_asking(alloc, state, link, y, &messages.a, moment),
-        Beat::C(y) => after_report(alloc, state, y, &messages.c, before),
-        Beat::D(y) => match asked {
-            Some(asked) => after_response(alloc, state, link, y, asked, &messages.d, before),
-            None => Ok(None),
-        },
-        _ => Ok(None),
+        Beat::C(y) => after_report(alloc, state, y, messages, before),
+        Beat::D(y) => after_any_response(alloc, state, link, y, asked, messages, before),
+        Beat::E(_) => Ok(Some(state.passed(alloc)?)),
+        Beat::B(_) => Ok(None),
     }
 }

@@ -16,7 +16,7 @@ use crate::message::{CarriedMessage, both, either};
 use crate::performed::is_put;
 use tl_beat::beat::{Beat, BeatA};
 use tl_beat::opcode::OpD;
-use tl_rules::kind::{grows_from_none, is_acquire, is_grant};
+use tl_rules::kind::{grows_from_none, is_acquire, is_grant, is_release_ack};
 
 /// Whether a beat is an Acquire from None.
 pub fn acquires_from_none<const W: usize>(y: &BeatA<W>) -> bool
@@ -68,7 +68,8 @@ pub fn passes_by<const W: usize>(x: &Beat<W>, messages: &LinkMessages) -> bool
             let bounds = either(messages.d.bytes.count() == 0, messages.d.completes(x));
             !either(bounds, is_answer_data(y.opcode))
         }
-        _ => true,
+        Beat::E(y) => messages.grants_with(y.sink).is_none(),
+        Beat::B(_) => true,
     }
 }
 
@@ -84,11 +85,15 @@ pub fn changes_held<const W: usize>(x: &Beat<W>, messages: &LinkMessages) -> boo
         Beat::A(y) => acquires_from_none(y),
         Beat::C(_) => messages.c.completes(x),
         Beat::D(y) => {
+            if is_release_ack(y.opcode) {
+                return messages.releases_with(y.source).is_some();
+            }
             if !is_grant(y.opcode) {
                 return false;
             }
             messages.d.completes(x)
         }
-        _ => false,
+        Beat::E(y) => messages.grants_with(y.sink).is_some(),
+        Beat::B(_) => false,
     }
 }

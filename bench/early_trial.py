@@ -1,10 +1,12 @@
 #!/usr/bin/env python3
-"""early_trial.py [--runs N] [--without PART]: tries the rules between links on memories whose clients and managers answer
-early, in a small model: a beat is a byte, a block four beats. Right managers must be coherent; of each wrong one it prints
-how many runs are convicted, by rule. `--without` leaves out one part of the definitions."""
-import argparse, collections, random
+"""early_trial.py [--runs N] [--without PART] [--traces FOLDER]: tries the rules between links on memories whose clients and
+managers answer early, in a small model: all bytes of a beat are the same. Right managers must be coherent; of each wrong
+one it prints how many runs are convicted, by rule. `--without` leaves out one part of the definitions. With `--traces` a
+block has 16 beats of four bytes, and each run is written as a trace with the verdict beside it, for `tltool coherent`."""
+import argparse, collections, pathlib, random
 
 BEATS, CACHES, DEVICES = 4, 3, 2
+SIZES = [1, 2, 4]
 NONE, BRANCH, TRUNK = 0, 1, 2
 PARTS = ["held", "released", "late_release", "late_grant", "late_bytes", "coming", "access"]
 
@@ -25,7 +27,7 @@ class Message:
         self.channel, self.link, self.op, self.block = channel, link, op, block
         self.beats, self.sent, self.after = 1, 0, lambda m: None
         self.data, self.source, self.sink, self.ready = None, 0, 0, lambda m: True
-        self.at, self.size, self.mask, self.param = 0, BEATS, None, None
+        self.at, self.size, self.param = 0, BEATS, None
         self.__dict__.update(fields)
         if self.data:
             self.beats = len(self.data)
@@ -271,7 +273,7 @@ class World:
         self.jobs = []
 
     def value(self):
-        self.next_value += 1
+        self.next_value = self.next_value % 255 + 1
         return self.next_value
 
     def send(self, m):
@@ -296,12 +298,12 @@ class World:
                 want = TRUNK if c["perm"] == BRANCH or self.chance(0.5) else BRANCH
                 unread = want == TRUNK and c["perm"] == NONE and self.chance(0.2)
                 c["busy"] = want
-                self.send(Message("A", link, "Acquire", block, after=lambda b: self.request(b.m), want=want, unread=unread))
+                self.send(Message("A", link, "Acquire", block, after=lambda b: self.request(b.m), want=want, unread=unread, was=c["perm"], source=block))
         else:
             link = CACHES + self.rng.randrange(DEVICES)
             if self.busy[link]:
                 return
-            size = self.rng.choice([1, 2, 4])
+            size = self.rng.choice(SIZES)
             op = self.rng.choice(["Put", "Put", "Get", "Atomic"])
             if op == "Atomic":
                 size = min(size, 2)
@@ -331,8 +333,9 @@ class World:
             data = list(c["copy"])
         elif left == TRUNK:
             left = NONE
+        was = c["perm"]
         c["perm"], c["dirty"], c["releasing"] = left, False, True
-        m = Message("C", link, "Release", block, data=data, param=left, after=self.c_beat)
+        m = Message("C", link, "Release", block, data=data, param=left, was=was, source=block, after=self.c_beat)
         m.promises = [Thunk() for _ in range(m.beats)]
         m.acked = m.performed = False
         self.send(m)
@@ -344,7 +347,7 @@ class World:
         c["perm"] = left
         if was == TRUNK:
             c["dirty"] = False
-        self.send(Message("C", link, "ProbeAck", block, data=data, param=left, after=self.c_beat))
+        self.send(Message("C", link, "ProbeAck", block, data=data, param=left, was=was, after=self.c_beat))
 
     # ---- beats that arrive
     def c_beat(self, b):
@@ -429,7 +432,7 @@ class World:
             if not plain:
                 g.data = list(self.memory[block])
                 if self.bug == "stale late beats":
-                    g.data[2:] = [self.first_memory[block][i] for i in (2, 3)]
+                    g.data[2:] = self.first_memory[block][2:]
                 g.beats = BEATS
                 if self.lazy:
                     g.data = [Thunk(get=lambda i=i: self.memory[block][i].get()) for i in range(BEATS)]
@@ -579,6 +582,45 @@ BUGS = ["no probes", "one probe", "drops probed", "drops released", "drops late 
     "late put overwrites", "drops a put", "drops late put beats", "stale late beats", "stale get"]
 
 
+# ---------------------------------------------------------------------------------------------------- traces
+
+LINE = {"Put": 1, "Atomic": 3, "Get": 4, "AccessAck": 0, "AccessAckData": 1, "Grant": 4, "GrantData": 5, "ReleaseAck": 6, "Probe": 6}
+CAP = {TRUNK: 0, BRANCH: 1, NONE: 2}
+GROWS = {(NONE, BRANCH): 0, (NONE, TRUNK): 1, (BRANCH, TRUNK): 2}
+REPORTS = {(TRUNK, BRANCH): 0, (TRUNK, NONE): 1, (BRANCH, NONE): 2, (TRUNK, TRUNK): 3, (BRANCH, BRANCH): 4, (NONE, NONE): 5}
+
+
+def line(b):
+    m = b.m
+    link, address = f"{m.link:02x}", 64 * m.block + 4 * m.at
+    size = 2 + m.size.bit_length() - 1
+    data = f"{b.value or 0:02x}" * 4 if m.data else "-"
+    if m.channel == "E":
+        return f"{link} E {m.sink % 256:02x}"
+    if m.channel == "A":
+        if m.op == "Acquire":
+            return f"{link} A {7 if m.unread else 6} {GROWS[m.was, m.want]} 6 {m.source:02x} {address:08x} f - 0"
+        mask = "0" if m.op == "Put" and b.value is None else "f"
+        return f"{link} A {LINE[m.op]} 0 {size} {m.source:02x} {address:08x} {mask} {data} 0"
+    if m.channel == "B":
+        return f"{link} B 6 {CAP[m.param]} 6 00 {address:08x} f - 0"
+    if m.channel == "C":
+        op = (4 if m.op == "ProbeAck" else 6) + (1 if m.data else 0)
+        source = m.source if m.op == "Release" else 0
+        return f"{link} C {op} {REPORTS[m.was, m.param]} 6 {source:02x} {address:08x} {data} 0"
+    grants = m.op in ("Grant", "GrantData")
+    size = 2 + m.request.size.bit_length() - 1 if m.op.startswith("Access") else 6
+    param = CAP[m.param] if grants else 0
+    return f"{link} D {LINE[m.op]} {param} {size} {m.source:02x} {m.sink % 256 if grants else 0:02x} 0 {data} 0"
+
+
+def write(folder, name, world, verdict):
+    lines = ["tltrace 4 4 early,reports" + " C" * CACHES + " UH" * DEVICES] + [line(b) for b in world.log]
+    said = f"coherent {len(world.log)}" if verdict == "coherent" else f"line {len(lines)} {verdict}"
+    (folder / f"{name}.trace").write_text("\n".join(lines) + "\n")
+    (folder / f"{name}.verdict").write_text(said + "\n")
+
+
 def tell(log):
     for b in log:
         m = b.m
@@ -591,7 +633,13 @@ def main():
     p.add_argument("--steps", type=int, default=600)
     p.add_argument("--without", default="")
     p.add_argument("--show", action="store_true")
+    p.add_argument("--traces")
     a = p.parse_args()
+    folder = pathlib.Path(a.traces) if a.traces else None
+    if folder:
+        global BEATS, SIZES
+        BEATS, SIZES = 16, [1, 2, 4, 8, 16]
+        folder.mkdir(parents=True, exist_ok=True)
     out = set(filter(None, a.without.split(",")))
     for bug in [None] + ([] if out else BUGS):
         verdicts, lengths = collections.Counter(), 0
@@ -599,6 +647,8 @@ def main():
             w = World(seed, bug, out)
             v = w.run(a.steps)
             lengths += len(w.log)
+            if folder:
+                write(folder, f"{(bug or 'right').replace(' ', '_')}_{seed}", w, v)
             verdicts[v] += 1
             if v != "coherent" and bug is None and a.show:
                 tell(w.log)

@@ -6,6 +6,7 @@ pub mod Filled
 pub mod Finding
 pub mod KnownAt
 pub mod Offered
+pub mod OnTime
 pub mod Pending
 pub mod Reading
 pub mod Since

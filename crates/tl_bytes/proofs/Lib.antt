@@ -5,6 +5,7 @@ pub mod BytesRead
 pub mod Filled
 pub mod Finding
 pub mod KnownAt
+pub mod LateAnswers
 pub mod Offered
 pub mod OnTime
 pub mod Pending

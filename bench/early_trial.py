@@ -266,7 +266,7 @@ class World:
         self.memory = [[Thunk(value=7) for _ in range(BEATS)] for _ in range(blocks)]
         self.dir = [[NONE] * CACHES for _ in range(blocks)]
         self.service, self.waiting = [None] * blocks, [[] for _ in range(blocks)]
-        self.cache = [[dict(perm=NONE, copy=None, dirty=False, busy=None, probe=None, releasing=False, coming=False)
+        self.cache = [[dict(perm=NONE, copy=None, dirty=False, busy=None, probe=None, releasing=False, coming=False, reporting=False)
             for _ in range(blocks)] for _ in range(CACHES)]
         self.blocks, self.next_value, self.sinks = blocks, 10, 0
         self.busy = [None] * self.links
@@ -292,6 +292,8 @@ class World:
             if c["perm"] == TRUNK and not c["releasing"] and self.chance(0.5):
                 c["copy"][self.rng.randrange(BEATS)] = Thunk(value=self.value())
                 c["dirty"] = True
+            elif c["reporting"]:
+                return
             elif c["perm"] and not c["releasing"] and not c["busy"] and not c["coming"] and self.chance(0.4):
                 self.release(link, block, c)
             elif not c["busy"] and not c["releasing"] and not c["coming"] and c["perm"] < TRUNK:
@@ -342,7 +344,7 @@ class World:
 
     def answer_probe(self, link, block, c):
         cap, c["probe"] = c["probe"], None
-        was, left = c["perm"], min(c["perm"], cap)
+        was, left, c["reporting"] = c["perm"], min(c["perm"], cap), True
         data = list(c["copy"]) if was == TRUNK and (c["dirty"] or self.chance(0.3)) else None
         c["perm"] = left
         if was == TRUNK:
@@ -367,7 +369,7 @@ class World:
             if m.data and self.bug != "drops probed":
                 self.memory[m.block] = [Thunk(value=v) for v in m.values]
             self.dir[m.block][m.link] = m.param
-            m.done = True
+            self.cache[m.link][m.block]["reporting"] = False
             self.probing[m.block].discard(m.link)
 
     def perform_release(self, m):

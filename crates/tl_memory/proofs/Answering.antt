@@ -1,7 +1,7 @@
 -- What responses answer on a link where no beat broke a rule, and what its complete requests ask for.
 use Rattle.tl_memory.proofs.Imports.{Beat, BeatA, BeatD, History, breaks_burst, burst_length, same_control, unfinished}
 use Rattle.tl_memory.proofs.Imports.{is_empty, control_a, Level, request_fields, Request}
-use Rattle.tl_memory.proofs.Imports.{all_but_early, broken_after_under, is_legal_under, block_at, ends, is_release_ack}
+use Rattle.tl_memory.proofs.Imports.{all_liberties, broken_after_under, is_legal_under, block_at, ends, is_release_ack}
 use Rattle.std.proofs.Common.{◌≡◌, ℕ, Bool, true, false, not, ◌&&◌, List, [], ◌∷◌, length, Some, None, refl, sym, ap}
 use Rattle.std.proofs.Common.{◌∙◌, ◌⊎◌, inl, inr, subst}
 use Rattle.std.specs.Prelude.{if◌then◌else◌, ◌==◌, ◌+◌}
@@ -28,7 +28,7 @@ goes_on_d y (Beat.D z) burst e = (z, refl)
 goes_on_d y v burst e = absurd cc
 
 -- a beat of a response that isn't a ReleaseAck answers an open request
-answering-from : {w : ℕ} (l : Level) (y : BeatD w) (t : History w) → broken_after_under all_but_early l (Beat.D y) t ≡ None
+answering-from : {w : ℕ} (l : Level) (y : BeatD w) (t : History w) → broken_after_under all_liberties l (Beat.D y) t ≡ None
     → ((z : BeatD w) (older : List (Beat w)) → unfinished Channel.D t ≡ Beat.D z ∷ older → IsAnswering z t)
     → (is_release_ack y.opcode ≡ false) ⊎ (is_empty (unfinished Channel.D t) ≡ false) → IsAnswering y t
 answering-from {w} l y t fine before either = go (unfinished Channel.D t) refl (goes_on l (Beat.D y) t fine) either
@@ -56,13 +56,13 @@ later z t last true e [] f =
     absurd (let no : true ≡ false = sym whole ∙ last in cc)
 
 -- so does one that isn't complete, with one more beat
-answering-more : {w : ℕ} (l : Level) (x : Beat w) (t : History w) → broken_after_under all_but_early l x t ≡ None
+answering-more : {w : ℕ} (l : Level) (x : Beat w) (t : History w) → broken_after_under all_liberties l x t ≡ None
     → ((z : BeatD w) (older : List (Beat w)) → unfinished Channel.D t ≡ Beat.D z ∷ older → IsAnswering z t)
     → (y : BeatD w) (older : List (Beat w)) → unfinished Channel.D (x ∷ t) ≡ Beat.D y ∷ older → IsAnswering y (x ∷ t)
 unfolding unfinished
 answering-more {w} l x t fine before y older is = go x fine is
   where
-    still : (x : Beat w) (y : BeatD w) → broken_after_under all_but_early l x t ≡ None → completes_answer y.source x t ≡ false
+    still : (x : Beat w) (y : BeatD w) → broken_after_under all_liberties l x t ≡ None → completes_answer y.source x t ≡ false
         → IsAnswering y t → IsAnswering y (x ∷ t)
     still x y fine e k = record {
       asked = k.asked;
@@ -71,19 +71,19 @@ answering-more {w} l x t fine before y older is = go x fine is
       sized = k.sized;
     }
 
-    goes : (z : BeatD w) → broken_after_under all_but_early l (Beat.D z) t ≡ None → ends (Beat.D z) t ≡ false
+    goes : (z : BeatD w) → broken_after_under all_liberties l (Beat.D z) t ≡ None → ends (Beat.D z) t ≡ false
         → IsAnswering z (Beat.D z ∷ t)
     goes z fine last = still (Beat.D z) z fine (unended z t last) (answering-from l z t fine before
         (later z t last (is_release_ack z.opcode) refl (unfinished Channel.D t) refl))
 
-    more : (z : BeatD w) → broken_after_under all_but_early l (Beat.D z) t ≡ None → (last : Bool) → ends (Beat.D z) t ≡ last
+    more : (z : BeatD w) → broken_after_under all_liberties l (Beat.D z) t ≡ None → (last : Bool) → ends (Beat.D z) t ≡ last
         → (if last then [] else Beat.D z ∷ unfinished Channel.D t) ≡ Beat.D y ∷ older → IsAnswering y (Beat.D z ∷ t)
     more z fine true last is = absurd cc
     more z fine false last is =
         let same : z ≡ y = same_d y z (same_head (Beat.D z) (Beat.D y) (unfinished Channel.D t) older is) in
         subst (λ v. IsAnswering v (Beat.D z ∷ t)) same (goes z fine last)
 
-    go : (x : Beat w) → broken_after_under all_but_early l x t ≡ None → unfinished Channel.D (x ∷ t) ≡ Beat.D y ∷ older
+    go : (x : Beat w) → broken_after_under all_liberties l x t ≡ None → unfinished Channel.D (x ∷ t) ≡ Beat.D y ∷ older
         → IsAnswering y (x ∷ t)
     go (Beat.D z) fine is = more z fine (ends (Beat.D z) t) refl is
     go (Beat.A z) fine is = still (Beat.A z) y fine refl (before y older is)
@@ -92,7 +92,7 @@ answering-more {w} l x t fine before y older is = go x fine is
     go (Beat.E z) fine is = still (Beat.E z) y fine refl (before y older is)
 
 pub answering : {w : ℕ} (l : Level) (t : History w) (y : BeatD w) (older : List (Beat w))
-    → is_legal_under all_but_early l t ≡ true → unfinished Channel.D t ≡ Beat.D y ∷ older → IsAnswering y t
+    → is_legal_under all_liberties l t ≡ true → unfinished Channel.D t ≡ Beat.D y ∷ older → IsAnswering y t
 unfolding unfinished
 answering l [] y older legal is = absurd cc
 answering l (x ∷ t) y older legal is =
@@ -100,14 +100,14 @@ answering l (x ∷ t) y older legal is =
     answering-more l x t parts.0 (λ z earlier e. answering l t z earlier parts.1 e) y older is
 
 -- each beat of a response that isn't a ReleaseAck does
-pub is-answering : {w : ℕ} (l : Level) (y : BeatD w) (t : History w) → is_legal_under all_but_early l t ≡ true
-    → broken_after_under all_but_early l (Beat.D y) t ≡ None → is_release_ack y.opcode ≡ false → IsAnswering y t
+pub is-answering : {w : ℕ} (l : Level) (y : BeatD w) (t : History w) → is_legal_under all_liberties l t ≡ true
+    → broken_after_under all_liberties l (Beat.D y) t ≡ None → is_release_ack y.opcode ≡ false → IsAnswering y t
 is-answering l y t legal fine other =
     answering-from l y t fine (λ z older e. answering l t z older legal e) (inl other)
 
 -- and each that isn't the last
-pub answering-unended : {w : ℕ} (l : Level) (y : BeatD w) (t : History w) → is_legal_under all_but_early l t ≡ true
-    → broken_after_under all_but_early l (Beat.D y) t ≡ None → ends (Beat.D y) t ≡ false → IsAnswering y t
+pub answering-unended : {w : ℕ} (l : Level) (y : BeatD w) (t : History w) → is_legal_under all_liberties l t ≡ true
+    → broken_after_under all_liberties l (Beat.D y) t ≡ None → ends (Beat.D y) t ≡ false → IsAnswering y t
 answering-unended l y t legal fine last =
     answering-from l y t fine (λ z older e. answering l t z older legal e)
     (later y t last (is_release_ack y.opcode) refl (unfinished Channel.D t) refl)
@@ -116,7 +116,7 @@ answering-unended l y t legal fine last =
 
 -- no answer to the request that a burst of channel A brings is complete with a beat
 unanswered : {w : ℕ} (l : Level) (y : BeatD w) (t : History w) (x : BeatA w) (older : List (Beat w))
-    → is_legal_under all_but_early l t ≡ true → broken_after_under all_but_early l (Beat.D y) t ≡ None → unfinished Channel.A t ≡ Beat.A x ∷ older
+    → is_legal_under all_liberties l t ≡ true → broken_after_under all_liberties l (Beat.D y) t ≡ None → unfinished Channel.A t ≡ Beat.A x ∷ older
     → (not (is_release_ack y.opcode) && (y.source == x.source)) ≡ false
 unanswered l y t x older legal fine is = elim (cases_Bool (is_release_ack y.opcode)) [
   | inl ack ↦ rw ack refl
@@ -137,7 +137,7 @@ same_fields : {w : ℕ} (x y : BeatA w) → same_control (Beat.A x) (Beat.A y) �
 same_fields x y e = let same = control_a x y e in rw (same.0, same.1, same.2, same.4) refl
 
 -- with a beat of channel A its request is kept
-with_request : {w : ℕ} (l : Level) (x : BeatA w) (t : History w) → broken_after_under all_but_early l (Beat.A x) t ≡ None
+with_request : {w : ℕ} (l : Level) (x : BeatA w) (t : History w) → broken_after_under all_liberties l (Beat.A x) t ≡ None
     → ((y : BeatA w) (older : List (Beat w)) → unfinished Channel.A t ≡ Beat.A y ∷ older
     → kept_request y.source t ≡ request_fields (Some y))
     → kept_request x.source (Beat.A x ∷ t) ≡ request_fields (Some x)
@@ -156,14 +156,14 @@ with_request {w} l x t fine before =
     go v is e = absurd cc
 
 -- a request that isn't complete is kept, with one more beat
-coming-more : {w : ℕ} (l : Level) (x : Beat w) (t : History w) → is_legal_under all_but_early l t ≡ true
-    → broken_after_under all_but_early l x t ≡ None → ((z : BeatA w) (older : List (Beat w)) → unfinished Channel.A t ≡ Beat.A z ∷ older
+coming-more : {w : ℕ} (l : Level) (x : Beat w) (t : History w) → is_legal_under all_liberties l t ≡ true
+    → broken_after_under all_liberties l x t ≡ None → ((z : BeatA w) (older : List (Beat w)) → unfinished Channel.A t ≡ Beat.A z ∷ older
     → kept_request z.source t ≡ request_fields (Some z)) → (y : BeatA w) (older : List (Beat w))
     → unfinished Channel.A (x ∷ t) ≡ Beat.A y ∷ older → kept_request y.source (x ∷ t) ≡ request_fields (Some y)
 unfolding unfinished
 coming-more {w} l x t legal fine before y older is = go x fine is
   where
-    more : (z : BeatA w) → broken_after_under all_but_early l (Beat.A z) t ≡ None → (last : Bool)
+    more : (z : BeatA w) → broken_after_under all_liberties l (Beat.A z) t ≡ None → (last : Bool)
         → (if last then [] else Beat.A z ∷ unfinished Channel.A t) ≡ Beat.A y ∷ older
         → kept_request y.source (Beat.A z ∷ t) ≡ request_fields (Some y)
     more z fine true is = absurd cc
@@ -177,7 +177,7 @@ coming-more {w} l x t legal fine before y older is = go x fine is
     kept own true e = rw e refl
     kept own false e = refl
 
-    go : (x : Beat w) → broken_after_under all_but_early l x t ≡ None → unfinished Channel.A (x ∷ t) ≡ Beat.A y ∷ older
+    go : (x : Beat w) → broken_after_under all_liberties l x t ≡ None → unfinished Channel.A (x ∷ t) ≡ Beat.A y ∷ older
         → kept_request y.source (x ∷ t) ≡ request_fields (Some y)
     go (Beat.A z) fine is = more z fine (ends (Beat.A z) t) is
     go (Beat.D z) fine is =
@@ -189,7 +189,7 @@ coming-more {w} l x t legal fine before y older is = go x fine is
     go (Beat.E z) fine is = request-next y.source (Beat.E z) t ∙ before y older is
 
 pub coming : {w : ℕ} (l : Level) (t : History w) (y : BeatA w) (older : List (Beat w))
-    → is_legal_under all_but_early l t ≡ true → unfinished Channel.A t ≡ Beat.A y ∷ older
+    → is_legal_under all_liberties l t ≡ true → unfinished Channel.A t ≡ Beat.A y ∷ older
     → kept_request y.source t ≡ request_fields (Some y)
 unfolding unfinished
 coming l [] y older legal is = absurd cc
@@ -202,14 +202,14 @@ abbrev pub fields_of : {w : ℕ} → BeatA w → Request
 fields_of x = record { opcode = x.opcode; param = x.param; size = x.size; block = block_at x.address }
 
 -- that of a beat is kept with it
-pub kept-now : {w : ℕ} (l : Level) (x : BeatA w) (t : History w) → is_legal_under all_but_early l t ≡ true
-    → broken_after_under all_but_early l (Beat.A x) t ≡ None
+pub kept-now : {w : ℕ} (l : Level) (x : BeatA w) (t : History w) → is_legal_under all_liberties l t ≡ true
+    → broken_after_under all_liberties l (Beat.A x) t ≡ None
     → kept_request x.source (Beat.A x ∷ t) ≡ Some (fields_of x)
 kept-now l x t legal fine = with_request l x t fine (λ y older e. coming l t y older legal e)
 
 -- so it was where one with its source was kept before
 pub kept-same : {w : ℕ} (l : Level) (x : BeatA w) (asked : Request) (t : History w)
-    → is_legal_under all_but_early l t ≡ true → broken_after_under all_but_early l (Beat.A x) t ≡ None
+    → is_legal_under all_liberties l t ≡ true → broken_after_under all_liberties l (Beat.A x) t ≡ None
     → kept_request x.source t ≡ Some asked → asked ≡ fields_of x
 kept-same l x asked t legal fine kept =
     same_request (sym (kept-still l x.source asked (Beat.A x) t fine kept refl) ∙ kept-now l x t legal fine)

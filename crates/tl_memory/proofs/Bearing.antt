@@ -2,7 +2,7 @@
 use Rattle.tl_memory.proofs.Imports.{Beat, BeatA, BeatC, BeatD, Link, c_carries_data, Trace, on_link}
 use Rattle.tl_memory.proofs.Imports.{block_at, ends, Access, ends_request, is_access, is_of, pending_accesses}
 use Rattle.tl_memory.proofs.Imports.{tells, IsElsewhere, LeavesHeld, PassesBy, WritesNot, AllWriteInside}
-use Rattle.tl_memory.proofs.Imports.{all_but_early, is_to, OpA, begins}
+use Rattle.tl_memory.proofs.Imports.{all_liberties, is_to, OpA, begins}
 use Rattle.std.proofs.Common.{◌≡◌, ℕ, Bool, true, false, not, ◌&&◌, ◌||◌, ◌+◌, ◌*◌, ◌/◌, ◌<◌, List, [], ◌∷◌}
 use Rattle.std.proofs.Common.{refl, sym, ap, ◌∙◌, inl, inr}
 use Rattle.std.specs.Prelude.{if◌then◌else◌, filter, find, ◌==◌, Option, Some, None}
@@ -21,7 +21,7 @@ use Rattle.tl_memory.proofs.Elsewhere.{held-kept}
 -- a beat of channel A leaves as much of each block with its link, unless it is an Acquire of it from nothing held
 pub request-leaves : {w : ℕ} (block : ℕ) (link : Link) (y : BeatA w) (t : Trace w)
     → (acquires_from_none y ≡ true → (block_at y.address == block) ≡ false) → LeavesHeld block (link, Beat.A y) t
-unfolding all_but_early
+unfolding all_liberties
 request-leaves block link y t other = held-kept block (Beat.A y) (on_link link.0 t)
     (λ over. silent (begins (Beat.A y) (on_link link.0 t)) (is_acquire y.opcode) (grows_from_none y.param) other)
   where
@@ -144,7 +144,7 @@ probe-passes block link y t inside = record {
 
 pub ack-passes : {w : ℕ} (block : ℕ) (link : Link) (y : BeatE) (t : Trace w)
     → AllWriteInside (pending_accesses t) → PassesBy block (link, Beat.E y) t
-unfolding pending_accesses all_but_early
+unfolding pending_accesses all_liberties
 ack-passes block link y t inside = record {
   elsewhere = record { quiet = refl; keeps = λ place lt. tt; pending_stay = refl; inside = inside };
   held_is = held-kept block (Beat.E y) (on_link link.0 t) (λ over. refl);
@@ -168,7 +168,7 @@ none_of_three a b c e = none_of_both a (b && c) (none_of_both b c e)
 
 report-leaves : {w : ℕ} (block : ℕ) (link : Link) (y : BeatC w) (t : Trace w) → (block_at y.address == block) ≡ false
     → LeavesHeld block (link, Beat.C y) t
-unfolding all_but_early
+unfolding all_liberties
 report-leaves block link y t other = held-kept block (Beat.C y) (on_link link.0 t)
     (λ over. rw (none_of_both (is_probe_ack y.opcode || is_release y.opcode) (block_at y.address == block) other) refl)
 
@@ -245,7 +245,7 @@ response-elsewhere block link y t inside quiet none = record {
 
 pub response-leaves : {w : ℕ} (block : ℕ) (link : Link) (y : BeatD w) (t : Trace w)
     → grants block y (on_link link.0 t) ≡ false → LeavesHeld block (link, Beat.D y) t
-unfolding all_but_early
+unfolding all_liberties
 response-leaves block link y t other =
     held-kept block (Beat.D y) (on_link link.0 t) (λ over. rw other (silent y.denied))
   where

@@ -1,5 +1,5 @@
 -- What is kept of a block, with a beat that bears on another.
-use Rattle.tl_memory.proofs.Imports.{Beat, Link, History, unfinished, Trace, on_link, ends, all_but_early, is_free, Access}
+use Rattle.tl_memory.proofs.Imports.{Beat, Link, History, unfinished, Trace, on_link, ends, all_liberties, is_free, Access}
 use Rattle.tl_memory.proofs.Imports.{ends_request, is_of, may_be, may_find, others, pending_accesses, tells, written_as}
 use Rattle.tl_memory.proofs.Imports.{KnowsBlock, IsElsewhere, LeavesHeld, PassesBy, WritesNot, BlockState, PendingAccess}
 use Rattle.tl_memory.proofs.Imports.{AllWriteInside, AreKnown, is_to, KnowsState, KnowsUnseen, free_for, open_for}
@@ -77,7 +77,7 @@ find-kept n block access x t elsewhere inside p v lt =
 
 -- where the beat says nothing of what may be held of a block, that stays
 pub held-kept : {w : ℕ} (block : ℕ) (x : Beat w) (past : History w)
-    → (ends x past ≡ true → says_held_under all_but_early block x past ≡ None)
+    → (ends x past ≡ true → says_held_under all_liberties block x past ≡ None)
     → may_hold block (x ∷ past) ≡ may_hold block past
 unfolding held_under
 held-kept block x past silent = elim (cases_Bool (ends x past)) [

@@ -2,7 +2,7 @@
 use Rattle.tl_memory.proofs.Imports.{Beat, BeatD, Link, OpD, History, breaks_burst, on, same_control, unfinished}
 use Rattle.tl_memory.proofs.Imports.{is_empty, control_d, Level, open_request, Request, Trace, IsLegal}
 use Rattle.tl_memory.proofs.Imports.{on_link, begins, ends, Expected, ExpectsGrant, ExpectsRead, ExpectsResponse}
-use Rattle.tl_memory.proofs.Imports.{all_but_early, AreLegal, Access, ExpectsAgain, ExpectsBeat, ExpectsLater, is_of}
+use Rattle.tl_memory.proofs.Imports.{all_liberties, AreLegal, Access, ExpectsAgain, ExpectsBeat, ExpectsLater, is_of}
 use Rattle.tl_memory.proofs.Imports.{pending_accesses}
 use Rattle.std.proofs.Common.{◌≡◌, ℕ, suc, Bool, true, false, ◌&&◌, List, [], ◌∷◌, length, Option, Some, None, refl, sym, ap}
 use Rattle.std.proofs.Common.{◌∙◌, inl, inr, subst, arith}
@@ -120,7 +120,7 @@ module _ {w : ℕ} (levels : List Level) (link : Link) (n : ℕ) (z : BeatD w) (
       → ExpectsResponse expected n c z.opcode z.source t (before_last c (length burst) t)
   expects-later expected k some = go burst refl (goes_on f.level (Beat.D z) (on_link c t) f.fine) some
     where
-      f : IsFine all_but_early levels (link, Beat.D z) t
+      f : IsFine all_liberties levels (link, Beat.D z) t
       f = is-fine _ levels (link, Beat.D z) t fine
 
       go : (beats : List (Beat w)) → burst ≡ beats → breaks_burst (Beat.D z) beats ≡ false → (length beats ≡ 0 → ⊥)

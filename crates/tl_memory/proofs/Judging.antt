@@ -2,7 +2,7 @@
 use Rattle.tl_memory.proofs.Imports.{BeatD, Link, OpD, IsWidth, data_beats, burst_length, unfinished, Level}
 use Rattle.tl_memory.proofs.Imports.{open_request, base_of, Request, Trace, IsLegal, on_link, is_release_ack}
 use Rattle.tl_memory.proofs.Imports.{Access, is_of, pending_accesses, Expected, Expects, ExpectsGrant, ExpectsRead}
-use Rattle.tl_memory.proofs.Imports.{all_but_early, ExpectsBeat, AreLegal, Beat}
+use Rattle.tl_memory.proofs.Imports.{all_liberties, ExpectsBeat, AreLegal, Beat}
 use Rattle.std.proofs.Common.{◌≡◌, ℕ, Bool, true, false, ◌||◌, ◌+◌, ◌*◌, ◌<◌, ◌≤◌, List, length, Option, Some, None}
 use Rattle.std.proofs.Common.{refl, sym, ap, ◌∙◌, arith}
 use Rattle.std.specs.Prelude.{find}
@@ -26,7 +26,7 @@ module _ {w : ℕ} (levels : List Level) (n : ℕ) (link : Link) (x : BeatD w) (
   abbrev begun : Trace w
   begun = before_last link.0 k t
 
-  f : IsFine all_but_early levels (link, Beat.D x) t
+  f : IsFine all_liberties levels (link, Beat.D x) t
   f = is-fine _ levels (link, Beat.D x) t fine
 
   pub in_block : w * k + w ≤ 64

@@ -7,6 +7,7 @@ pub mod Beginning
 pub mod BlockAnswers
 pub mod Borne
 pub mod Complete
+pub mod EarlyMessages
 pub mod Elsewhere
 pub mod Expecting
 pub mod Found

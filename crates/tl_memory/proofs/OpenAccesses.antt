@@ -1,6 +1,6 @@
 -- Accesses that are pending on links where no beat broke a rule: each is the request with its source.
 use Rattle.tl_memory.proofs.Imports.{Beat, BeatA, Link, IsWidth, History, Level, open_request, Request, Trace}
-use Rattle.tl_memory.proofs.Imports.{all_but_early, broken_after_under, IsLegal, is_legal_under, on_link, block_at, ends, is_release_ack}
+use Rattle.tl_memory.proofs.Imports.{all_liberties, broken_after_under, IsLegal, is_legal_under, on_link, block_at, ends, is_release_ack}
 use Rattle.tl_memory.proofs.Imports.{Access, ends_request, is_access, is_of, pending_accesses, AreLegal}
 use Rattle.std.proofs.Common.{◌≡◌, ℕ, suc, Bool, true, false, not, ◌||◌, ◌%◌, ◌^◌, ◌≤◌, List, [], ◌∷◌, length, Option, Some}
 use Rattle.std.proofs.Common.{None, refl, sym, ap, ◌∙◌, inl, inr, arith}
@@ -60,7 +60,7 @@ legal-on l levels c level (x ∷ t) has legal = elim (cases_eq x.0.0 c) [
 
 -- a link without a level has no beats
 pub legal-link : {w : ℕ} (levels : List Level) (c : ℕ) (t : Trace w) → AreLegal levels t
-    → (l : Level) × (is_legal_under all_but_early l (on_link c t) ≡ true)
+    → (l : Level) × (is_legal_under all_liberties l (on_link c t) ≡ true)
 unfolding on_link is_legal_under
 legal-link {w} levels c t legal = go (slice_get levels c) refl
   where
@@ -73,10 +73,10 @@ legal-link {w} levels c t legal = go (slice_get levels c) refl
           absurd (let no : None ≡ Some f.level = sym none ∙ ap (slice_get levels) (sym own) ∙ f.has_level in cc)
     ]
 
-    nothing : (h : History w) → h ≡ [] → is_legal_under all_but_early Level.UL h ≡ true
+    nothing : (h : History w) → h ≡ [] → is_legal_under all_liberties Level.UL h ≡ true
     nothing h none = rw none refl
 
-    go : (o : Option Level) → slice_get levels c ≡ o → (l : Level) × (is_legal_under all_but_early l (on_link c t) ≡ true)
+    go : (o : Option Level) → slice_get levels c ≡ o → (l : Level) × (is_legal_under all_liberties l (on_link c t) ≡ true)
     go (Some l) has = (l, legal-on _ levels c l t has legal)
     go None none = (Level.UL, nothing (on_link c t) (no_beats t none legal))
 
@@ -125,7 +125,7 @@ open-after levels c s asked x t fine o unended = elim (cases_eq x.0.0 c) [
   | inl own ↦
       let f = is-fine _ levels x t fine in
       rw (own-link c x t own) (open-still f.level s asked x.1 (on_link c t)
-      (ap (λ n. broken_after_under all_but_early f.level x.1 (on_link n t)) (sym own) ∙ f.fine) o (unended own))
+      (ap (λ n. broken_after_under all_liberties f.level x.1 (on_link n t)) (sym own) ∙ f.fine) o (unended own))
 ]
 
 -- and is kept since its first beat
@@ -137,7 +137,7 @@ kept-after levels c s asked x t fine kept unended = elim (cases_eq x.0.0 c) [
   | inl own ↦
       let f = is-fine _ levels x t fine in
       rw (own-link c x t own) (kept-still f.level s asked x.1 (on_link c t)
-      (ap (λ n. broken_after_under all_but_early f.level x.1 (on_link n t)) (sym own) ∙ f.fine) kept (unended own))
+      (ap (λ n. broken_after_under all_liberties f.level x.1 (on_link n t)) (sym own) ∙ f.fine) kept (unended own))
 ]
 
 pub pending-open : {w : ℕ} (levels : List Level) (c s : ℕ) (access : Access w) (t : Trace w) → IsWidth w
@@ -149,7 +149,7 @@ pending-open {w} levels c s access (x ∷ t) is legal pending = elim (pending-be
   | inr now ↦ new now
 ]
   where
-    f : IsFine all_but_early levels x t
+    f : IsFine all_liberties levels x t
     f = is-fine _ levels x t legal.0
 
     unended : x.0.0 ≡ c → completes_answer s x.1 (on_link c t) ≡ false
@@ -177,8 +177,8 @@ pending-open {w} levels c s access (x ∷ t) is legal pending = elim (pending-be
         let z = now.beat in
         let past = on_link x.0.0 t in
         let both = and_parts (is_access z.opcode) (is_put z.opcode || ends (Beat.A z) past) now.asks_it in
-        let fine : broken_after_under all_but_early f.level (Beat.A z) past ≡ None =
-        ap (λ b. broken_after_under all_but_early f.level b past) (sym now.beat_is) ∙ f.fine in
+        let fine : broken_after_under all_liberties f.level (Beat.A z) past ≡ None =
+        ap (λ b. broken_after_under all_liberties f.level b past) (sym now.beat_is) ∙ f.fine in
         let kept = kept-now f.level z past (legal-on _ levels x.0.0 f.level t f.has_level legal.1) fine in
         let history : on_link c (x ∷ t) ≡ Beat.A z ∷ past =
         ap (λ n. on_link n (x ∷ t)) now.link_is ∙ own-link x.0.0 x t refl ∙ ap (λ b. b ∷ past) now.beat_is in
@@ -214,14 +214,14 @@ pub found-still : {w : ℕ} (levels : List Level) (c s : ℕ) (asked : Request) 
 found-still {w} levels c s asked x t legal o unended =
     go (find (is_of c s) (pending_accesses (x ∷ t))) (find (is_of c s) (pending_accesses t)) refl refl
   where
-    f : IsFine all_but_early levels x t
+    f : IsFine all_liberties levels x t
     f = is-fine _ levels x t legal
 
     -- no beat of channel A has its source
     apart : (z : BeatA w) → x.1 ≡ Beat.A z → c ≡ x.0.0 → s ≡ z.source → ⊥
     apart z is link source =
-        let fine : broken_after_under all_but_early f.level (Beat.A z) (on_link x.0.0 t) ≡ None =
-        ap (λ b. broken_after_under all_but_early f.level b (on_link x.0.0 t)) (sym is) ∙ f.fine in
+        let fine : broken_after_under all_liberties f.level (Beat.A z) (on_link x.0.0 t) ≡ None =
+        ap (λ b. broken_after_under all_liberties f.level b (on_link x.0.0 t)) (sym is) ∙ f.fine in
         let other = fresh f.level s asked z (on_link x.0.0 t) fine (rw (← link) o) in
         let no : true ≡ false = sym (eq-eqb z.source s (sym source)) ∙ other in
         absurd cc

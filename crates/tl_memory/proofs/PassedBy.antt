@@ -1,7 +1,7 @@
 -- Beats that pass each block by, and those that change what their link holds.
 use Rattle.tl_memory.proofs.Imports.{Beat, BeatA, BeatC, BeatD, Link, History, is_empty, Trace, on_link, begins, ends}
 use Rattle.tl_memory.proofs.Imports.{is_grant, is_release_ack, pending_accesses, LeavesHeld, PassesBy}
-use Rattle.tl_memory.proofs.Imports.{all_but_early, AllWriteInside, ExpectsLater, OpD}
+use Rattle.tl_memory.proofs.Imports.{all_liberties, AllWriteInside, ExpectsLater, OpD}
 use Rattle.std.proofs.Common.{◌≡◌, ℕ, Bool, true, false, not, ◌&&◌, ◌||◌, List, [], ◌∷◌, length, refl, sym, ap, ◌∙◌, arith}
 use Rattle.std.{specs.Prelude.None, specs.Prelude.◌==◌, proofs.lemmas.Bool.and_parts, proofs.lemmas.Bool.ne_eqb}
 use Rattle.tl_bytes.specs.statement.{Bytes.asks, Shown.shows}
@@ -101,7 +101,7 @@ granted-leaves block link y t false is e = response-leaves block link y t (rw is
 -- the other beats leave it
 pub held-left : {w : ℕ} (block : ℕ) (link : Link) (x : Beat w) (t : Trace w)
     → changes_held x (on_link link.0 t) ≡ false → LeavesHeld block (link, x) t
-unfolding all_but_early
+unfolding all_liberties
 held-left block link (Beat.A y) t e = request-leaves block link y t (λ acquires. true_false (sym acquires ∙ e))
 held-left block link (Beat.B y) t e = held-kept block (Beat.B y) (on_link link.0 t) (λ over. refl)
 held-left block link (Beat.C y) t goes_on =

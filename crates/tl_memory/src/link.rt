@@ -1,6 +1,6 @@
 //! The state of a link.
 
-ghost use Rattle.std.specs.Prelude.{ℕ, true, false, [], ◌∷◌, ◌≡◌, List, None, length, option_copied};
+ghost use Rattle.std.specs.Prelude.{ℕ, true, false, [], ◌∷◌, ◌≡◌, ◌≤◌, List, None, length, option_copied};
 ghost use Rattle.tl_beat.specs.declared.beat.Beat.{Beat};
 ghost use Rattle.tl_beat.specs.declared.beat.Beat.TheVariants as beat;
 ghost use Rattle.tl_beat.specs.declared.beat.BeatD.{BeatD};
@@ -145,6 +145,7 @@ fn overtaken(before: Option<Granting>, block: u32) -> Option<Granting>
 }
 
 impl LinkMessages {
+    ghost use Rattle.tl_beat.specs.declared.beat.Beat.TheVariants as beat;
     ghost use Rattle.tl_memory.specs.statement.Links.{KnowsMessages};
 
     /// No message on any channel.
@@ -215,6 +216,8 @@ impl LinkMessages {
     fn take_report<const W: usize>(&mut self, x: &BeatC<W>)
         requires width { IsWidth W }
         requires small { x.now.size ≤ 6 }
+        ensures { (l : Level) (t : History W) → KnowsMessages self.old t → is_legal_under all_liberties l t ≡ true →
+            broken_after_under all_liberties l (beat.C x.now) t ≡ None → KnowsMessages self.new (beat.C x.now ∷ t) }
     {
         let beat = Beat::C(*x);
         let completes = self.c.completes(&beat);
@@ -229,12 +232,15 @@ impl LinkMessages {
     fn take_response<const W: usize>(&mut self, x: &BeatD<W>, block: Option<u32>)
         requires width { IsWidth W }
         requires small { x.now.size ≤ 6 }
+        ensures { (l : Level) (t : History W) → KnowsMessages self.old t → is_legal_under all_liberties l t ≡ true →
+            broken_after_under all_liberties l (beat.D x.now) t ≡ None → IsConcerned block (beat.D x.now) t →
+            KnowsMessages self.new (beat.D x.now ∷ t) }
     {
         let beat = Beat::D(*x);
         let completes = self.d.completes(&beat);
         self.d.take(&beat);
         self.granting = granting_after(self.granting, x, block, completes);
-        if is_release_ack(x.opcode) {
+        if completes && is_release_ack(x.opcode) {
             self.releasing = released(self.releasing, x.source);
         }
     }

@@ -8,7 +8,8 @@ use Rattle.tl_burst.specs.statement.Messages.{History}
 use Rattle.tl_rules.specs.code.Open.{open_request}
 use Rattle.tl_rules.specs.declared.past.Request.{Request}
 use Rattle.tl_rules.specs.statement.Conformance.{Trace, on_link}
-use Rattle.tl_rules.specs.statement.History.{block_at, is_release_ack}
+use Rattle.tl_rules.specs.statement.History.{asks_for, block_at, is_grant, is_release_ack}
+unfoldable use Rattle.tl_rules.specs.statement.History.{request_of}
 use Rattle.tl_bytes.specs.statement.Free.{may_hold}
 use Rattle.tl_bytes.specs.statement.Shown.{shows}
 use Rattle.tl_bytes.specs.statement.Bytes.{Access, access_writes, ends_request, is_of, pending_accesses, tells}
@@ -53,6 +54,12 @@ pub record PassesBy {w : ℕ} (block : ℕ) (x : Link × Beat w) (t : Trace w) :
 abbrev pub block_asked : Option Request → Option ℕ
 block_asked None = None
 block_asked (Some asked) = Some asked.block
+
+-- this is the block of the request of a Grant
+abbrev pub IsConcerned : {w : ℕ} → Option ℕ → Beat w → History w → Type 0
+IsConcerned block (beat.D y) past =
+    is_grant y.opcode ≡ true → (b : ℕ) × (block ≡ Some b) × (asks_for b (request_of y.source past) ≡ true)
+IsConcerned block _ past = ⊤
 
 -- the block that a beat bears on, if it does: that of its address, or of the request that it answers
 abbrev pub block_borne : {w : ℕ} → Beat w → History w → Option ℕ

@@ -35,6 +35,7 @@ abbrev pub with_next : {w : ℕ} → BlockState w → NextState w → BlockState
 with_next s next = record {
   bytes = unwrap_or next.bytes s.bytes;
   accesses = next.accesses;
+  outrun = unwrap_or next.outrun s.outrun;
   free = none_shown s.free;
   last_free = s.last_free;
 }

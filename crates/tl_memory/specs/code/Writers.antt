@@ -1,5 +1,5 @@
 -- The accesses that are kept, and the entries of those that pass a test.
-use Rattle.std.specs.Prelude.{ℕ, Bool, true, false, not, [], ◌∷◌, ◌==◌, ◌&&◌, ◌||◌, ◌<◌, ◌≤◌, ◌≡◌, if◌then◌else◌, List}
+use Rattle.std.specs.Prelude.{ℕ, Bool, true, false, not, [], ◌∷◌, ◌++◌, map, ◌==◌, ◌&&◌, ◌||◌, ◌<◌, ◌≤◌, ◌≡◌, if◌then◌else◌, List}
 use Rattle.std.specs.List.{AllZip}
 use Rattle.std.specs.Prelude.{length, Option, Some, None}
 use Rattle.tl_beat.specs.declared.beat.Beat.{Beat}
@@ -17,6 +17,7 @@ use Rattle.tl_bytes.specs.declared.write.Write.{Write}
 use Rattle.tl_bytes.specs.statement.Bytes.{Access, is_of, is_put, told_as}
 use Rattle.tl_bytes.specs.statement.Known.{KnowsWindows, may_bring, tellings_of}
 use Rattle.tl_memory.specs.declared.access.Asked.{Asked}
+use Rattle.tl_memory.specs.declared.early.OutrunAccess.{OutrunAccess}
 use Rattle.tl_memory.specs.declared.free.Freedom.{Freedom}
 use Rattle.tl_memory.specs.declared.pending.PendingAccess.{PendingAccess}
 use Rattle.tl_memory.specs.declared.writer.Writer.{Writer}
@@ -89,12 +90,15 @@ abbrev pub AreRenewed : {w : ℕ} → (PendingAccess w → ℕ → ℕ → Bool)
     → Type 0
 AreRenewed more old new = AllZip (IsRenewed more) old new
 
--- the values that an access may find now, by the state of its block and of the other pending accesses
-abbrev pub found_by : {w : ℕ} → Freedom → BlockBytes → List (PendingAccess w) → PendingAccess w → ℕ → ℕ → Bool
-found_by free bytes accesses x place byte =
+-- the values that an access may find now, by the state of its block, of the other pending accesses, and of those whose
+-- answers outran their requests
+abbrev pub found_by : {w : ℕ} → Freedom → BlockBytes → List (PendingAccess w) → List OutrunAccess → PendingAccess w → ℕ → ℕ
+    → Bool
+found_by free bytes accesses outrun x place byte =
     open_for free (needs x.writer.asked.request.opcode)
     && (told_as byte (tellings_of bytes place)
-    || left_as place byte (writes_but x.writer.asked.link.0 x.writer.asked.request.source accesses))
+    || left_as place byte (writes_but x.writer.asked.link.0 x.writer.asked.request.source accesses
+    ++ map (λ y. y.write) outrun))
 
 -- the entry of an access whose block is free after one more beat, at this moment, or isn't
 pub record IsWatched {w : ℕ} (free : Bool) (moment : ℕ) (old new : PendingAccess w) : Type 0 where

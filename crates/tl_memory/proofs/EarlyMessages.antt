@@ -139,7 +139,7 @@ module _ {w : ℕ} (l : Liberties) (level : Level) (t : History w) (lawful : Are
       → (r.source == x.source) ≡ false → broken_in_order_under l (Beat.D x) t ≡ None → is_release_ack x.opcode ≡ true
       → ends (Beat.D x) t ≡ true → releases r.block (release_of x.source t) ≡ false
   not-closed r y x k waiting other ordered ack last = elim (cases_Bool (releases r.block (release_of x.source t))) [
-    | inr no ↦ no
+    | inr closes_not ↦ closes_not
     | inl of_it ↦
         let pends = first (pending (ReleaseSource x.source) t) _ (acknowledged l x t ordered ack last) in
         let one = awaited l level t lawful x.source r.block pends of_it in

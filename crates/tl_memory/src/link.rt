@@ -1,6 +1,6 @@
 //! The state of a link.
 
-ghost use Rattle.std.specs.Prelude.{ℕ, true, false, [], ◌∷◌, ◌≡◌, ◌≤◌, List, None, length, option_copied};
+ghost use Rattle.std.specs.Prelude.{ℕ, true, false, if◌then◌else◌, ◌&&◌, [], ◌∷◌, ◌≡◌, ◌≤◌, List, None, length, option_copied};
 ghost use Rattle.tl_beat.specs.declared.beat.Beat.{Beat};
 ghost use Rattle.tl_beat.specs.declared.beat.Beat.TheVariants as beat;
 ghost use Rattle.tl_beat.specs.declared.beat.BeatD.{BeatD};
@@ -12,7 +12,7 @@ ghost use Rattle.tl_params.specs.declared.level.Level.{Level};
 ghost use Rattle.tl_rules.specs.statement.Conformance.{Trace, on_link};
 ghost use Rattle.tl_rules.specs.statement.Liberties.{broken_after_under, is_legal_under};
 ghost use Rattle.tl_bytes.specs.statement.Free.{all_liberties};
-ghost use Rattle.tl_rules.specs.statement.History.{begins};
+ghost use Rattle.tl_rules.specs.statement.History.{begins, is_release_ack};
 ghost use Rattle.tl_bytes.specs.statement.Bytes as bytes;
 ghost use Rattle.tl_memory.specs.code.Allowed as allowed;
 ghost use Rattle.tl_memory.specs.code.Early as early;
@@ -87,6 +87,22 @@ fn released(before: Option<Releasing>, source: u8) -> Option<Releasing>
             ..releasing
         }),
         _ => before,
+    }
+}
+
+/// The unfinished Release after a beat of channel D, which completes its message or not.
+fn releasing_answered<const W: usize>(
+    before: Option<Releasing>,
+    x: &BeatD<W>,
+    completes: bool,
+) -> Option<Releasing>
+    ensures { result
+        ≡ (if completes && is_release_ack x.now.opcode then early.released before x.now.source else before) }
+{
+    if completes && is_release_ack(x.opcode) {
+        released(before, x.source)
+    } else {
+        before
     }
 }
 
@@ -240,9 +256,7 @@ impl LinkMessages {
         let completes = self.d.completes(&beat);
         self.d.take(&beat);
         self.granting = granting_after(self.granting, x, block, completes);
-        if completes && is_release_ack(x.opcode) {
-            self.releasing = released(self.releasing, x.source);
-        }
+        self.releasing = releasing_answered(self.releasing, x, completes);
     }
 
     /// Takes a beat, which concerns this block, if it concerns one. A beat whose size no message may have is left out:

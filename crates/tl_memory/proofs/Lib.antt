@@ -28,6 +28,7 @@ pub mod OpenAccesses
 pub mod PassedBy
 pub mod Payloads
 pub mod Puts
+pub mod Reached
 pub mod Responses
 pub mod States
 pub mod Tables

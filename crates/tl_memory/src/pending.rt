@@ -1,8 +1,8 @@
 //! The states of pending accesses.
 
-ghost use Rattle.std.specs.Prelude.{ℕ, false, ◌++◌, ◌≡◌, IfOk, OnOk, map};
+ghost use Rattle.std.specs.Prelude.{ℕ, false, ◌++◌, ◌≡◌, IfOk, OnOk};
 ghost use Rattle.tl_bytes.specs.statement.Known.{may_bring};
-ghost use Rattle.tl_memory.specs.code.Writers.{writes_but};
+ghost use Rattle.tl_memory.specs.code.Writers.{writes_but, writes_outrun};
 
 use crate::early::OutrunAccess;
 use crate::free::{Freedom, needs};
@@ -26,7 +26,7 @@ pub struct PendingAccess<const W: usize> {
 
 /// Appends the writes of the accesses whose answers outran their requests.
 pub fn append_outrun(writes: &mut Vec<Write>, outrun: &[OutrunAccess]) -> Result<(), AllocError>
-    ensures { OnOk result (writes.new.items ≡ writes.old.items ++ map (λ x. x.write) outrun.now) }
+    ensures { OnOk result (writes.new.items ≡ writes.old.items ++ writes_outrun outrun.now) }
 {
     for access in outrun {
         writes.push(access.write)?;
@@ -43,7 +43,7 @@ fn writes_of_others<const W: usize>(
     source: u8,
 ) -> Result<Vec<Write>, AllocError>
     ensures { IfOk result (λ writes. writes.items ≡ writes_but link.0 source accesses.now
-        ++ map (λ x. x.write) outrun.now) }
+        ++ writes_outrun outrun.now) }
 {
     let mut writes = Vec::new(alloc);
     for access in accesses {

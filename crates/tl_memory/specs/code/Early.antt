@@ -1,5 +1,5 @@
 -- How unfinished messages that may be answered early are kept, and the accesses whose answers outran their requests.
-use Rattle.std.specs.Prelude.{ℕ, Bool, true, false, not, [], ◌∷◌, ◌==◌, ◌&&◌, ◌||◌, ◌-◌, ◌^◌, if◌then◌else◌, List, filter, find}
+use Rattle.std.specs.Prelude.{ℕ, Bool, true, false, not, [], ◌∷◌, ◌==◌, ◌&&◌, ◌||◌, ◌-◌, ◌^◌, if◌then◌else◌, List, find}
 use Rattle.std.specs.Prelude.{Option, Some, None}
 use Rattle.tl_beat.specs.declared.beat.Beat.{Beat}
 use Rattle.tl_beat.specs.declared.beat.Beat.TheVariants as beat
@@ -7,6 +7,7 @@ use Rattle.tl_beat.specs.declared.beat.BeatA.{BeatA}
 use Rattle.tl_beat.specs.declared.beat.BeatC.{BeatC}
 use Rattle.tl_beat.specs.declared.beat.BeatD.{BeatD}
 use Rattle.tl_rules.specs.statement.History.{block_at, is_grant, is_release}
+unfoldable use Rattle.tl_memory.specs.code.Writers.{picked}
 use Rattle.tl_memory.specs.declared.early.Asking.{Asking}
 use Rattle.tl_memory.specs.declared.early.Doubt.{Doubt}
 use Rattle.tl_memory.specs.declared.early.Doubt.TheVariants as doubt
@@ -28,7 +29,7 @@ outrun_in link source accesses = find (is_outrun_of link source) accesses
 
 -- the others
 abbrev pub outrun_but : ℕ → ℕ → List OutrunAccess → List OutrunAccess
-outrun_but link source accesses = filter (λ access. not (is_outrun_of link source access)) accesses
+outrun_but link source accesses = picked (λ access. not (is_outrun_of link source access)) (λ access. access) accesses
 
 -- ---- the unfinished messages with one more beat
 

@@ -2,7 +2,7 @@
 use Rattle.tl_memory.proofs.Imports.{Beat, BeatA, BeatC, BeatD, History, grown, unfinished, block_at, begins, ends}
 use Rattle.std.proofs.Common.{◌≡◌, ℕ, Bool, true, false, not, cond, ◌&&◌, ◌||◌, List, [], ◌∷◌, refl, sym, ap, ap₂, ◌∙◌}
 use Rattle.std.proofs.Common.{subst, inl, inr}
-use Rattle.std.specs.Prelude.{if◌then◌else◌, Option, Some, None, ◌==◌}
+use Rattle.std.specs.Prelude.{if◌then◌else◌, is_none, is_some, Option, Some, None, ◌==◌}
 use Rattle.std.proofs.lemmas.Bool.{cases_Bool, cases_eq, eq-eqb, eqb-true, ne_eqb}
 use Rattle.tl_beat.specs.declared.beat.{BeatB.BeatB, BeatE.BeatE}
 use Rattle.tl_beat.specs.declared.channel.Channel.{Channel}
@@ -23,8 +23,10 @@ use Rattle.tl_forgiving.proofs.Implied.{first, not-false, second, test-fails}
 use Rattle.tl_forgiving.proofs.Lawful.{AreLawful, begun-lawfully}
 use Rattle.tl_forgiving.proofs.Releases.{acknowledged, awaited}
 unfoldable use Rattle.tl_bytes.specs.statement.Early.{reported_since}
-use Rattle.tl_bytes.specs.statement.Early.{acknowledges_sink, ends_report}
-use Rattle.tl_memory.specs.code.Early.{asking_after, asking_of, is_acknowledged, is_doubtful, is_unacknowledged}
+use Rattle.tl_bytes.specs.statement.Early.{is_overtaken}
+use Rattle.tl_rules.specs.statement.Conformance.{comes_in_grant, comes_in_release}
+use Rattle.tl_memory.specs.code.Early.{asking_after, asking_of, grants_with, is_acknowledged, is_doubtful, is_in_doubt, is_unacknowledged}
+use Rattle.tl_memory.specs.code.Early.{releases_with}
 use Rattle.tl_memory.specs.code.Elsewhere.{IsConcerned}
 use Rattle.tl_memory.specs.code.Early as code
 use Rattle.tl_memory.specs.code.Early.{granting_after, granting_or, overtaken, released, releasing_after, releasing_or}
@@ -505,3 +507,83 @@ module _ {w : ℕ} (l : Liberties) (x : BeatD w) (t : History w) (ordered : brok
       go false e false f burst o k = rw f (other e f)
       go false e true f (Nothing none) o k = rw (f, fresh o k none) (begun none e f)
       go false e true f (Earlier z rest burst alike) o k = rw f (goes o k z rest burst alike e f)
+
+-- ---- what is known of the messages that a beat may answer
+
+one-of : (a b c : ℕ) → a ≡ b → (a == c) ≡ (b == c)
+one-of a b c e = ap (λ n. n == c) e
+
+pub grants-with : {w : ℕ} (o : Option Granting) (sink : ℕ) (t : History w) → KnowsGranting o t
+    → is_some (grants_with o sink) ≡ comes_in_grant sink (unfinished Channel.D t)
+grants-with {w} None sink t k = go (unfinished Channel.D t) refl
+  where
+    go : (burst : List (Beat w)) → unfinished Channel.D t ≡ burst → false ≡ comes_in_grant sink burst
+    go [] e = refl
+    go (Beat.A z ∷ rest) e = refl
+    go (Beat.B z ∷ rest) e = refl
+    go (Beat.C z ∷ rest) e = refl
+    go (Beat.D z ∷ rest) e = rw (k z rest e) refl
+    go (Beat.E z ∷ rest) e = refl
+grants-with (Some g) sink t k = rw (k.2, k.3) (either (g.sink == sink) g.block ∙ one-of g.sink k.0.sink sink k.4.sink_is)
+  where
+    either : (b : Bool) (n : ℕ) → is_some (if b then Some n else None) ≡ b
+    either true n = refl
+    either false n = refl
+
+pub releases-with : {w : ℕ} (o : Option Releasing) (source : ℕ) (t : History w) → KnowsReleasing o t
+    → is_some (releases_with o source) ≡ comes_in_release source (unfinished Channel.C t)
+releases-with {w} None source t k = go (unfinished Channel.C t) refl
+  where
+    go : (burst : List (Beat w)) → unfinished Channel.C t ≡ burst → false ≡ comes_in_release source burst
+    go [] e = refl
+    go (Beat.A z ∷ rest) e = refl
+    go (Beat.B z ∷ rest) e = refl
+    go (Beat.C z ∷ rest) e = rw (k z rest e) refl
+    go (Beat.D z ∷ rest) e = refl
+    go (Beat.E z ∷ rest) e = refl
+releases-with (Some r) source t k =
+    rw (k.2, k.3) (either (r.source == source) r.block ∙ one-of r.source k.0.source source k.4.source_is)
+  where
+    either : (b : Bool) (n : ℕ) → is_some (if b then Some n else None) ≡ b
+    either true n = refl
+    either false n = refl
+
+-- whether the later beats of a Grant are in doubt
+pub doubt-is : {w : ℕ} (l : Liberties) (o : Option Granting) (x : BeatD w) (block : ℕ) (t : History w)
+    → broken_in_order_under l (Beat.D x) t ≡ None → KnowsGranting o t → is_grant x.opcode ≡ true
+    → asks_for block (request_of x.source t) ≡ true → is_overtaken block x t ≡ is_in_doubt o
+doubt-is {w} l o x block t ordered k grant own = go (before-d l t x ordered) o k
+  where
+    same_block : (q : Option (BeatA w)) (a b : ℕ) → asks_for a q ≡ true → asks_for b q ≡ true → a ≡ b
+    same_block None a b e f = absurd cc
+    same_block (Some y) a b e f = sym (eqb-true (block_at y.address) a e) ∙ eqb-true (block_at y.address) b f
+
+    by_doubt : (d : Doubt) (reported : Bool) → (is_unacknowledged d ≡ false → reported ≡ is_doubtful d)
+        → (not (is_unacknowledged d) && reported) ≡ is_doubtful d
+    by_doubt Doubt.Unacknowledged reported e = refl
+    by_doubt Doubt.Acknowledged reported e = e refl
+    by_doubt Doubt.Overtaken reported e = e refl
+
+    goes : (o : Option Granting) → KnowsGranting o t → (z : BeatD w) (rest : List (Beat w))
+        → unfinished Channel.D t ≡ Beat.D z ∷ rest → IsSameD x z → is_overtaken block x t ≡ is_in_doubt o
+    goes None k z rest burst alike = absurd (differs (sym grant ∙ ap is_grant alike.opcode ∙ k z rest burst))
+    goes (Some g) k z rest burst alike =
+        let same : k.0 ≡ z = same-d (head-is (sym k.2 ∙ burst)) in
+        let is : IsGranting g z t = subst (λ v. IsGranting g v t) same k.4 in
+        let of_block : g.block ≡ block = same_block (request_of x.source t) g.block block
+        (ap (λ s. asks_for g.block (request_of s t)) alike.source ∙ is.of_block) own in
+        rw (burst, ← of_block, is.waits_is, alike.sink)
+        (by_doubt g.doubt (reported_since g.block z.sink t) is.reported_is)
+
+    fresh : (o : Option Granting) → KnowsGranting o t → unfinished Channel.D t ≡ [] → is_overtaken block x t ≡ is_in_doubt o
+    fresh None k none = rw none refl
+    fresh (Some r) k none = absurd (no-head (sym none ∙ k.2))
+
+    go : Before Beat.D (λ z. IsSameD x z) (unfinished Channel.D t) → (o : Option Granting) → KnowsGranting o t
+        → is_overtaken block x t ≡ is_in_doubt o
+    go (Nothing none) o k = fresh o k none
+    go (Earlier z rest burst alike) o k = goes o k z rest burst alike
+
+pub none-some : {X : Type 0} (o : Option X) → is_none o ≡ not (is_some o)
+none-some None = refl
+none-some (Some x) = refl

@@ -124,19 +124,3 @@ held-unshown block link (Beat.E y) t e = refl
 pub none-before : {w : ℕ} (n : ℕ) (burst : List (Beat w)) → n ≡ length burst → (n == 0) ≡ is_empty burst
 none-before n [] e = rw e refl
 none-before n (x ∷ burst) e = ne_eqb n 0 (λ none. absurd (omega (arith, e, none)))
-
--- beats of the other channels all do
-pub others-pass : {w : ℕ} (x : Beat w) (past : History w) → ((y : BeatA w) → x ≡ Beat.A y → ⊥)
-    → ((y : BeatC w) → x ≡ Beat.C y → ⊥) → ((y : BeatD w) → x ≡ Beat.D y → ⊥) → true ≡ passes_by x past
-others-pass (Beat.A y) past a c d = absurd (a y refl)
-others-pass (Beat.C y) past a c d = absurd (c y refl)
-others-pass (Beat.D y) past a c d = absurd (d y refl)
-others-pass v past a c d = refl
-
--- and leave what is held
-pub others-hold : {w : ℕ} (x : Beat w) (past : History w) → ((y : BeatA w) → x ≡ Beat.A y → ⊥)
-    → ((y : BeatC w) → x ≡ Beat.C y → ⊥) → ((y : BeatD w) → x ≡ Beat.D y → ⊥) → false ≡ changes_held x past
-others-hold (Beat.A y) past a c d = absurd (a y refl)
-others-hold (Beat.C y) past a c d = absurd (c y refl)
-others-hold (Beat.D y) past a c d = absurd (d y refl)
-others-hold v past a c d = refl

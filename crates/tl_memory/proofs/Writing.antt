@@ -210,7 +210,7 @@ outrun-write block (x ∷ outrun) (y ∷ accesses) are place byte lt =
     any false v e = refl
 outrun-write block v u are place byte lt = absurd are
 
-reached-here : (block place : ℕ) (accesses : List Outrun) → place < 64 → AllReachInside accesses
+pub reached-here : (block place : ℕ) (accesses : List Outrun) → place < 64 → AllReachInside accesses
     → is_outrun (64 * block + place) (filter (outruns_in block) accesses) ≡ is_outrun (64 * block + place) accesses
 reached-here block place [] lt inside = refl
 reached-here block place (x ∷ accesses) lt inside =

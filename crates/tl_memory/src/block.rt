@@ -75,7 +75,9 @@ impl<const W: usize> BlockState<W> {
     ghost use Rattle.tl_memory.specs.statement.Expecting.{ExpectsAgain};
     ghost use Rattle.tl_memory.specs.statement.Known.{AllWriteInside, KnowsState, KnowsUnseen, free_for, freedom};
     ghost use Rattle.tl_memory.specs.statement.Known.{open_for};
-    ghost use Rattle.tl_memory.specs.statement.Known.{is_to};
+    ghost use Rattle.tl_bytes.specs.statement.Early.{outrun_accesses};
+    ghost use Rattle.tl_memory.specs.code.Elsewhere.{LeavesOutrun};
+    ghost use Rattle.tl_memory.specs.statement.Known.{KnowsOutrun, is_to};
 
     /// A block before the trace: its bytes may have any value, no access to it is pending, and it is free.
     pub fn new(alloc: Global) -> Self
@@ -205,6 +207,7 @@ impl<const W: usize> BlockState<W> {
             filter (is_to block) (pending_accesses (x ∷ t))
             ≡ filter (keeps gone) (filter (is_to block) (pending_accesses t)) →
             AllWriteInside (pending_accesses (x ∷ t)) →
+            KnowsOutrun (unwrap_or outrun self.now.outrun).items block (outrun_accesses (x ∷ t)) →
             KnowsUnseen (with_next self.now next) n block x t) }
     {
         let accesses = self.renewed(alloc, gone)?;
@@ -235,7 +238,7 @@ impl<const W: usize> BlockState<W> {
     ) -> Result<NextState<W>, AllocError>
         ensures { IfOk result (λ next. (n block : ℕ) (x : Link × Beat W) (t : Trace W) →
             KnowsState self.now n block t → tells block x.1 (on_link x.0.0 t) ≡ true →
-            pending_accesses (x ∷ t) ≡ pending_accesses t → moment ≡ length t → AreCarried values.now x t →
+            pending_accesses (x ∷ t) ≡ pending_accesses t → LeavesOutrun block x t → moment ≡ length t → AreCarried values.now x t →
             KnowsUnseen (with_next self.now next) n block x t) }
     {
         let bytes = BlockBytes::told(alloc, values, moment)?;

@@ -12,8 +12,10 @@ use Rattle.tl_rules.specs.statement.History.{asks_for, block_at, is_grant, is_re
 unfoldable use Rattle.tl_rules.specs.statement.History.{request_of}
 use Rattle.tl_bytes.specs.statement.Free.{may_hold}
 use Rattle.tl_bytes.specs.statement.Shown.{shows}
-use Rattle.tl_bytes.specs.statement.Bytes.{Access, access_writes, ends_request, is_of, pending_accesses, tells}
-use Rattle.tl_memory.specs.statement.Known.{AllWriteInside, is_to}
+use Rattle.tl_bytes.specs.statement.Bytes.{Access, access_writes, ends_request, is_of, is_settled, pending_accesses}
+use Rattle.tl_bytes.specs.statement.Bytes.{tells}
+unfoldable use Rattle.tl_bytes.specs.statement.Early.{outrun_accesses}
+use Rattle.tl_memory.specs.statement.Known.{AllReachInside, AllWriteInside, is_to, outruns_in}
 
 -- the access, if there is one, doesn't write the byte at an address
 abbrev pub WritesNot : {w : ℕ} → ℕ → Option (Access w) → Type 0
@@ -32,6 +34,12 @@ NoneIsTo link source block [] = ⊤
 NoneIsTo link source block (access ∷ accesses) =
     (is_of link source access ≡ true → is_to block access ≡ false) × NoneIsTo link source block accesses
 
+-- the accesses to the block whose answers outran their requests are the same with the beat; each reaches bytes of its own
+-- block alone
+pub record LeavesOutrun {w : ℕ} (block : ℕ) (x : Link × Beat w) (t : Trace w) : Type 0 where
+  pub stay : filter (outruns_in block) (outrun_accesses (x ∷ t)) ≡ filter (outruns_in block) (outrun_accesses t)
+  pub reach_inside : AllReachInside (outrun_accesses (x ∷ t))
+
 -- The beat shows nothing of the block and leaves its bytes, and the same accesses to the block are pending; each
 -- that is pending writes in its own block alone.
 pub record IsElsewhere {w : ℕ} (block : ℕ) (x : Link × Beat w) (t : Trace w) : Type 0 where
@@ -39,6 +47,8 @@ pub record IsElsewhere {w : ℕ} (block : ℕ) (x : Link × Beat w) (t : Trace w
   pub keeps : (place : ℕ) → place < 64 → KeepsByte (64 * block + place) x.0.0 x.1 t
   pub pending_stay : filter (is_to block) (pending_accesses (x ∷ t)) ≡ filter (is_to block) (pending_accesses t)
   pub inside : AllWriteInside (pending_accesses (x ∷ t))
+  pub unsettled : (place : ℕ) → place < 64 → is_settled (64 * block + place) x t ≡ false
+  pub outrun : LeavesOutrun block x t
 
 -- its link may hold as much of the block with the beat as before it
 abbrev pub LeavesHeld : {w : ℕ} → ℕ → Link × Beat w → Trace w → Type 0

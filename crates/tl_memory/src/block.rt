@@ -14,7 +14,7 @@ ghost use Rattle.tl_rules.specs.statement.Conformance.{Trace, on_link};
 ghost use Rattle.tl_rules.specs.statement.History.{block_at};
 ghost use Rattle.tl_bytes.specs.statement.Bytes.{asks, ends_request, is_of, pending_accesses, tells};
 ghost use Rattle.tl_bytes.specs.statement.Free.{is_free};
-ghost use Rattle.tl_bytes.specs.statement.Known.{AreCarried, KnowsBlock, KnowsGrant};
+ghost use Rattle.tl_bytes.specs.statement.Known.{AreCarried, KnowsBlock, KnowsGrant, NoneSettled};
 ghost use Rattle.tl_memory.specs.code.Elsewhere.{IsElsewhere};
 ghost use Rattle.tl_memory.specs.code.Writers.{AreRenewed, found_by, keeps, staying};
 ghost use Rattle.tl_bytes.specs.statement.Known.{tellings_of};
@@ -260,6 +260,7 @@ impl<const W: usize> BlockState<W> {
             KnowsState self.now n block t → tells block (beat.D y.now) (on_link link.0 t) ≡ false →
             ends_request y.now (on_link link.0 t) ≡ true →
             AnyIsTo block (find (is_of link.0 y.now.source) (pending_accesses t)) →
+            NoneSettled block (link, beat.D y.now) t →
             KnowsMessage brought.now (unfinished channel.D (on_link link.0 t)) →
             HasRoom (beat.D y.now) (unfinished channel.D (on_link link.0 t)) → moment ≡ length t →
             KnowsBlock (unwrap_or bytes self.now.bytes) n block ((link, beat.D y.now) ∷ t)) }
@@ -292,6 +293,7 @@ impl<const W: usize> BlockState<W> {
             KnowsState self.now n block t → tells block (beat.D y.now) (on_link link.0 t) ≡ false →
             ends_request y.now (on_link link.0 t) ≡ true →
             AnyIsTo block (find (is_of link.0 y.now.source) (pending_accesses t)) →
+            NoneSettled block (link, beat.D y.now) t → LeavesOutrun block (link, beat.D y.now) t →
             KnowsMessage brought.now (unfinished channel.D (on_link link.0 t)) →
             HasRoom (beat.D y.now) (unfinished channel.D (on_link link.0 t)) → moment ≡ length t →
             KnowsUnseen (with_next self.now next) n block (link, beat.D y.now) t) }

@@ -5,7 +5,7 @@ use Rattle.tl_memory.proofs.Imports.{tells, IsElsewhere, LeavesHeld, PassesBy, W
 use Rattle.tl_memory.proofs.Imports.{all_liberties, is_to, OpA, begins}
 use Rattle.std.proofs.Common.{◌≡◌, ℕ, Bool, true, false, not, ◌&&◌, ◌||◌, ◌+◌, ◌*◌, ◌/◌, ◌<◌, List, [], ◌∷◌}
 use Rattle.std.proofs.Common.{refl, sym, ap, ◌∙◌, inl, inr}
-use Rattle.std.specs.Prelude.{if◌then◌else◌, filter, find, ◌==◌, Option, Some, None}
+use Rattle.std.specs.Prelude.{is_some, if◌then◌else◌, filter, find, ◌==◌, Option, Some, None}
 use Rattle.std.proofs.lemmas.Bool.{and_parts, cases_Bool, eq-eqb}
 use Rattle.tl_beat.{specs.declared.beat.BeatB.BeatB, specs.declared.beat.BeatE.BeatE}
 use Rattle.tl_params.specs.declared.perm.Perm.{Perm}
@@ -15,6 +15,8 @@ use Rattle.tl_bytes.specs.statement.Bytes.{all_but, asks, is_put}
 use Rattle.tl_memory.specs.code.{Passing.acquires_from_none, Taking.AreContinued, Taking.asked_now}
 use Rattle.tl_memory.{specs.code.Elsewhere.NoneIsTo, proofs.Keeping.inside-kept, proofs.Writing.apart}
 use Rattle.tl_memory.proofs.Elsewhere.{held-kept}
+use Rattle.tl_bytes.specs.statement.Early.{is_outrun_of}
+unfoldable use Rattle.tl_bytes.specs.statement.Early.{outrun_accesses}
 
 -- ---- requests
 
@@ -126,10 +128,10 @@ acquire-elsewhere block link y t inside acquires =
     go false e = refl
 
 pub pending-asked : {w : ℕ} (link : Link) (y : BeatA w) (t : Trace w)
-    → asks y (on_link link.0 t) ≡ true → pending_accesses ((link, Beat.A y) ∷ t)
-    ≡ asked_now link.0 y t ∷ all_but link.0 y.source (pending_accesses t)
+    → asks y (on_link link.0 t) ≡ true → is_some (find (is_outrun_of link.0 y.source) (outrun_accesses t)) ≡ false
+    → pending_accesses ((link, Beat.A y) ∷ t) ≡ asked_now link.0 y t ∷ all_but link.0 y.source (pending_accesses t)
 unfolding pending_accesses
-pending-asked link y t asked = rw asked refl
+pending-asked link y t asked none = rw (asked, none) refl
 
 -- ---- beats that neither ask nor answer
 

@@ -55,7 +55,7 @@ blocks-first {w} b n none unmet = record {
 kept-stays : {w : ℕ} (o : Option (BlockState w)) (n block : ℕ) (x : Link × Beat w) (t : Trace w)
     → PassesBy block x t → KnowsKept o n block t → KnowsKept o n block (x ∷ t)
 kept-stays None n block x t passes known = (
-  λ place lt. byte-kept n block place x t lt passes.elsewhere.quiet (passes.elsewhere.keeps place lt)
+  λ place lt. byte-kept n block place x t lt passes.elsewhere.quiet (passes.elsewhere.keeps place lt) (passes.elsewhere.unsettled place lt)
       ∙ known.0 place lt,
   λ s new. stays s n block x t passes (known.1 s new),
 )

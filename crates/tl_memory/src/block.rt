@@ -1,7 +1,7 @@
 //! The state of a block.
 
 ghost use Rattle.std.specs.Prelude.{ℕ, suc, true, false, not, None, [], ◌∷◌, ◌≡◌, ◌≤◌, ◌&&◌, ◌-◌, length, find, IfOk};
-ghost use Rattle.std.specs.Prelude.{if◌then◌else◌, filter, unwrap_or};
+ghost use Rattle.std.specs.Prelude.{if◌then◌else◌, filter, is_some, unwrap_or};
 ghost use Rattle.tl_beat.specs.declared.beat.Beat.{Beat};
 ghost use Rattle.tl_beat.specs.declared.beat.Beat.TheVariants as beat;
 ghost use Rattle.tl_beat.specs.declared.beat.BeatD.{BeatD};
@@ -75,7 +75,7 @@ impl<const W: usize> BlockState<W> {
     ghost use Rattle.tl_memory.specs.statement.Expecting.{ExpectsAgain};
     ghost use Rattle.tl_memory.specs.statement.Known.{AllWriteInside, KnowsState, KnowsUnseen, free_for, freedom};
     ghost use Rattle.tl_memory.specs.statement.Known.{open_for};
-    ghost use Rattle.tl_bytes.specs.statement.Early.{outrun_accesses};
+    ghost use Rattle.tl_bytes.specs.statement.Early.{is_outrun_of, outrun_accesses};
     ghost use Rattle.tl_memory.specs.code.Elsewhere.{LeavesOutrun};
     ghost use Rattle.tl_memory.specs.statement.Known.{KnowsOutrun, is_to};
 
@@ -356,7 +356,8 @@ impl<const W: usize> BlockState<W> {
         requires small { y.now.size ≤ 6 }
         ensures { IfOk result (λ next. (n block : ℕ) (t : Trace W) → KnowsState self.now n block t →
             KnowsMessage brought.now (beat.A y.now ∷ unfinished channel.A (on_link link.0 t)) →
-            IsRequested link.0 y.now t → asks y.now (on_link link.0 t) ≡ true → block_at y.now.address ≡ block →
+            IsRequested link.0 y.now t → asks y.now (on_link link.0 t) ≡ true →
+            is_some (find (is_outrun_of link.0 y.now.source) (outrun_accesses t)) ≡ false → block_at y.now.address ≡ block →
             moment ≡ suc (length t) →
             KnowsState (with_next self.now next) n block ((link, beat.A y.now) ∷ t)) }
     {

@@ -90,9 +90,9 @@ module _ {w : ℕ} (l : Liberties) (late : l.early ≡ false) where
   unfolding broken_order_under
   begun-whole x t ordered now other =
       let has : (pending (RequestSource x.source) t && (not (not l.early && comes_in_request x.source
-          (unfinished Channel.A t)) && admits x.opcode (request_of x.source t))) ≡ true =
-          rw other at (not-false (has_request_under l x t)
-          (test-fails (not (has_request_under l x t)) H2 _ (begun-lawfully l (Beat.D x) t ordered now))) in
+      (unfinished Channel.A t)) && admits x.opcode (request_of x.source t))) ≡ true =
+      rw other at (not-false (has_request_under l x t)
+      (test-fails (not (has_request_under l x t)) H2 _ (begun-lawfully l (Beat.D x) t ordered now))) in
       let rest = second (pending (RequestSource x.source) t) _ has in
       record {
         waits = first (pending (RequestSource x.source) t) _ has;

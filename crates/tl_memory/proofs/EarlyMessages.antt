@@ -78,37 +78,55 @@ pub releasing-a : {w : ℕ} (o : Option Releasing) (x : BeatA w) (t : History w)
     → KnowsReleasing o (Beat.A x ∷ t)
 unfolding unfinished release_of
 releasing-a None x t k = k
-releasing-a (Some r) x t k = (k.0, k.1, k.2, k.3, record {
-  source_is = k.4.source_is;
-  block_is = k.4.block_is;
-  of_block = k.4.of_block;
-  waits_is = pending-quiet (ReleaseOf r.block) (Beat.A x) t refl refl ∙ k.4.waits_is;
-  pends = λ n. pending-quiet (ReleaseSource k.0.source) (Beat.A x) t refl refl ∙ k.4.pends n;
-})
+releasing-a (Some r) x t k = (
+  k.0,
+  k.1,
+  k.2,
+  k.3,
+  record {
+    source_is = k.4.source_is;
+    block_is = k.4.block_is;
+    of_block = k.4.of_block;
+    waits_is = pending-quiet (ReleaseOf r.block) (Beat.A x) t refl refl ∙ k.4.waits_is;
+    pends = λ n. pending-quiet (ReleaseSource k.0.source) (Beat.A x) t refl refl ∙ k.4.pends n;
+  },
+)
 
 pub releasing-b : {w : ℕ} (o : Option Releasing) (x : BeatB w) (t : History w) → KnowsReleasing o t
     → KnowsReleasing o (Beat.B x ∷ t)
 unfolding unfinished release_of
 releasing-b None x t k = k
-releasing-b (Some r) x t k = (k.0, k.1, k.2, k.3, record {
-  source_is = k.4.source_is;
-  block_is = k.4.block_is;
-  of_block = k.4.of_block;
-  waits_is = pending-quiet (ReleaseOf r.block) (Beat.B x) t refl refl ∙ k.4.waits_is;
-  pends = λ n. pending-quiet (ReleaseSource k.0.source) (Beat.B x) t refl refl ∙ k.4.pends n;
-})
+releasing-b (Some r) x t k = (
+  k.0,
+  k.1,
+  k.2,
+  k.3,
+  record {
+    source_is = k.4.source_is;
+    block_is = k.4.block_is;
+    of_block = k.4.of_block;
+    waits_is = pending-quiet (ReleaseOf r.block) (Beat.B x) t refl refl ∙ k.4.waits_is;
+    pends = λ n. pending-quiet (ReleaseSource k.0.source) (Beat.B x) t refl refl ∙ k.4.pends n;
+  },
+)
 
 pub releasing-e : {w : ℕ} (o : Option Releasing) (x : BeatE) (t : History w) → KnowsReleasing o t
     → KnowsReleasing o (Beat.E x ∷ t)
 unfolding unfinished release_of
 releasing-e None x t k = k
-releasing-e (Some r) x t k = (k.0, k.1, k.2, k.3, record {
-  source_is = k.4.source_is;
-  block_is = k.4.block_is;
-  of_block = k.4.of_block;
-  waits_is = pending-quiet (ReleaseOf r.block) (Beat.E x) t refl refl ∙ k.4.waits_is;
-  pends = λ n. pending-quiet (ReleaseSource k.0.source) (Beat.E x) t refl refl ∙ k.4.pends n;
-})
+releasing-e (Some r) x t k = (
+  k.0,
+  k.1,
+  k.2,
+  k.3,
+  record {
+    source_is = k.4.source_is;
+    block_is = k.4.block_is;
+    of_block = k.4.of_block;
+    waits_is = pending-quiet (ReleaseOf r.block) (Beat.E x) t refl refl ∙ k.4.waits_is;
+    pends = λ n. pending-quiet (ReleaseSource k.0.source) (Beat.E x) t refl refl ∙ k.4.pends n;
+  },
+)
 
 module _ {w : ℕ} (l : Liberties) (level : Level) (t : History w) (lawful : AreLawful l level t) where
   -- what a beat of channel D leaves of it that is no ReleaseAck, or not the last
@@ -116,19 +134,25 @@ module _ {w : ℕ} (l : Liberties) (level : Level) (t : History w) (lawful : Are
       → KnowsReleasing o t → KnowsReleasing o (Beat.D x ∷ t)
   unfolding unfinished release_of
   releasing-still None x other k = k
-  releasing-still (Some r) x other k = (k.0, k.1, k.2, k.3, record {
-    source_is = k.4.source_is;
-    block_is = k.4.block_is;
-    of_block = k.4.of_block;
-    waits_is = pending-closed (ReleaseOf r.block) (Beat.D x) t refl
-        ∙ unclosed (ends (Beat.D x) t) (is_release_ack x.opcode) (releases r.block (release_of x.source t))
-        (pending (ReleaseOf r.block) t) other
-        ∙ k.4.waits_is;
-    pends = λ n. pending-closed (ReleaseSource k.0.source) (Beat.D x) t refl
-        ∙ unclosed (ends (Beat.D x) t) (is_release_ack x.opcode) (x.source == k.0.source)
-        (pending (ReleaseSource k.0.source) t) other
-        ∙ k.4.pends n;
-  })
+  releasing-still (Some r) x other k = (
+    k.0,
+    k.1,
+    k.2,
+    k.3,
+    record {
+      source_is = k.4.source_is;
+      block_is = k.4.block_is;
+      of_block = k.4.of_block;
+      waits_is = pending-closed (ReleaseOf r.block) (Beat.D x) t refl
+          ∙ unclosed (ends (Beat.D x) t) (is_release_ack x.opcode) (releases r.block (release_of x.source t))
+          (pending (ReleaseOf r.block) t) other
+          ∙ k.4.waits_is;
+      pends = λ n. pending-closed (ReleaseSource k.0.source) (Beat.D x) t refl
+          ∙ unclosed (ends (Beat.D x) t) (is_release_ack x.opcode) (x.source == k.0.source)
+          (pending (ReleaseSource k.0.source) t) other
+          ∙ k.4.pends n;
+    },
+  )
     where
       unclosed : (last ack own before : Bool) → (last && ack) ≡ false
           → cond (last && (ack && own)) false before ≡ before
@@ -156,21 +180,33 @@ module _ {w : ℕ} (l : Liberties) (level : Level) (t : History w) (lawful : Are
   unfolding unfinished release_of
   releasing-acked None x ordered ack last k = k
   releasing-acked (Some r) x ordered ack last k = elim (cases_Bool (r.source == x.source)) [
-    | inl own ↦ rw own (k.0, k.1, k.2, k.3, record {
+    | inl own ↦ rw own (
+      k.0,
+      k.1,
+      k.2,
+      k.3,
+      record {
         source_is = k.4.source_is;
         block_is = k.4.block_is;
         of_block = k.4.of_block;
         waits_is = pending-closed (ReleaseOf r.block) (Beat.D x) t refl ∙ rw (last, ack, closes own) refl;
         pends = λ n. absurd (differs n);
-      })
-    | inr other ↦ rw other (k.0, k.1, k.2, k.3, record {
+      },
+    )
+    | inr other ↦ rw other (
+      k.0,
+      k.1,
+      k.2,
+      k.3,
+      record {
         source_is = k.4.source_is;
         block_is = k.4.block_is;
         of_block = k.4.of_block;
         waits_is = pending-closed (ReleaseOf r.block) (Beat.D x) t refl ∙ stays other;
         pends = λ n. pending-closed (ReleaseSource k.0.source) (Beat.D x) t refl
             ∙ rw (last, ack, apart other) (k.4.pends n);
-      })
+      },
+    )
   ]
     where
       closes : (r.source == x.source) ≡ true → releases r.block (release_of x.source t) ≡ true
@@ -197,27 +233,39 @@ module _ {w : ℕ} (l : Liberties) (level : Level) (t : History w) (lawful : Are
       → is_release x.opcode ≡ true
       → KnowsReleasing (Some (record { source = x.source; block = block_at x.address; answered = false })) (Beat.C x ∷ t)
   unfolding unfinished pending release_of
-  releasing-begun x none more kind = (x, unfinished Channel.C t, rw more refl, kind, record {
-    source_is = refl;
-    block_is = refl;
-    of_block = rw (none, kind, eq-eqb x.source x.source refl)
-        (eq-eqb (block_at x.address) (block_at x.address) refl);
-    waits_is = rw (none, kind, eq-eqb (block_at x.address) (block_at x.address) refl) refl;
-    pends = λ n. rw (none, kind, eq-eqb x.source x.source refl) refl;
-  })
+  releasing-begun x none more kind = (
+    x,
+    unfinished Channel.C t,
+    rw more refl,
+    kind,
+    record {
+      source_is = refl;
+      block_is = refl;
+      of_block = rw (none, kind, eq-eqb x.source x.source refl)
+          (eq-eqb (block_at x.address) (block_at x.address) refl);
+      waits_is = rw (none, kind, eq-eqb (block_at x.address) (block_at x.address) refl) refl;
+      pends = λ n. rw (none, kind, eq-eqb x.source x.source refl) refl;
+    },
+  )
 
   releasing-goes_on : (r : Releasing) (x z : BeatC w) (rest : List (Beat w)) → unfinished Channel.C t ≡ Beat.C z ∷ rest
       → completes (Beat.C x) (unfinished Channel.C t) ≡ false → is_release x.opcode ≡ true → IsSameC x z
       → IsReleasing r z t → KnowsReleasing (Some r) (Beat.C x ∷ t)
   unfolding unfinished release_of
-  releasing-goes_on r x z rest burst more kind alike k = (x, unfinished Channel.C t, rw more refl, kind, record {
-    source_is = k.source_is ∙ sym alike.source;
-    block_is = k.block_is ∙ ap block_at (sym alike.address);
-    of_block = rw burst (ap (λ s. releases r.block (release_of s t)) alike.source ∙ k.of_block);
-    waits_is = quiet-later (ReleaseOf r.block) (Beat.C x) t refl (ap is_empty burst) ∙ k.waits_is;
-    pends = λ n. quiet-later (ReleaseSource x.source) (Beat.C x) t refl (ap is_empty burst)
-        ∙ ap (λ s. pending (ReleaseSource s) t) alike.source ∙ k.pends n;
-  })
+  releasing-goes_on r x z rest burst more kind alike k = (
+    x,
+    unfinished Channel.C t,
+    rw more refl,
+    kind,
+    record {
+      source_is = k.source_is ∙ sym alike.source;
+      block_is = k.block_is ∙ ap block_at (sym alike.address);
+      of_block = rw burst (ap (λ s. releases r.block (release_of s t)) alike.source ∙ k.of_block);
+      waits_is = quiet-later (ReleaseOf r.block) (Beat.C x) t refl (ap is_empty burst) ∙ k.waits_is;
+      pends = λ n. quiet-later (ReleaseSource x.source) (Beat.C x) t refl (ap is_empty burst)
+          ∙ ap (λ s. pending (ReleaseSource s) t) alike.source ∙ k.pends n;
+    },
+  )
 
   -- a beat of channel D
   pub releasing-d : (o : Option Releasing) (x : BeatD w) → broken_in_order_under l (Beat.D x) t ≡ None
@@ -276,14 +324,20 @@ pub granting-b : {w : ℕ} (o : Option Granting) (x : BeatB w) (t : History w) �
     → KnowsGranting o (Beat.B x ∷ t)
 unfolding unfinished request_of grant_sink reported_since
 granting-b None x t k = k
-granting-b (Some g) x t k = (k.0, k.1, k.2, k.3, record {
-  sink_is = k.4.sink_is;
-  asked = pending-quiet (RequestSource k.0.source) (Beat.B x) t refl refl ∙ k.4.asked;
-  of_block = k.4.of_block;
-  last_is = k.4.last_is;
-  waits_is = pending-quiet (GrantAckOf g.block) (Beat.B x) t refl refl ∙ k.4.waits_is;
-  reported_is = k.4.reported_is;
-})
+granting-b (Some g) x t k = (
+  k.0,
+  k.1,
+  k.2,
+  k.3,
+  record {
+    sink_is = k.4.sink_is;
+    asked = pending-quiet (RequestSource k.0.source) (Beat.B x) t refl refl ∙ k.4.asked;
+    of_block = k.4.of_block;
+    last_is = k.4.last_is;
+    waits_is = pending-quiet (GrantAckOf g.block) (Beat.B x) t refl refl ∙ k.4.waits_is;
+    reported_is = k.4.reported_is;
+  },
+)
 
 -- with a report of its block it is overtaken, if its GrantAck came before
 pub granting-c : {w : ℕ} (o : Option Granting) (x : BeatC w) (t : History w) → KnowsGranting o t
@@ -301,14 +355,20 @@ granting-c {w} (Some g) x t k = go (ends (Beat.C x) t) refl ((g.block == block_a
         → (is_unacknowledged d ≡ false → ((ends (Beat.C x) t && (block_at x.address == g.block))
         || reported_since g.block k.0.sink t) ≡ is_doubtful d)
         → KnowsGranting (Some (record { sink = g.sink; block = g.block; doubt = d })) (Beat.C x ∷ t)
-    with_doubt d same reports = (k.0, k.1, k.2, k.3, record {
-      sink_is = k.4.sink_is;
-      asked = pending-quiet (RequestSource k.0.source) (Beat.C x) t refl refl ∙ k.4.asked;
-      of_block = k.4.of_block;
-      last_is = k.4.last_is;
-      waits_is = pending-quiet (GrantAckOf g.block) (Beat.C x) t refl refl ∙ k.4.waits_is ∙ sym same;
-      reported_is = reports;
-    })
+    with_doubt d same reports = (
+      k.0,
+      k.1,
+      k.2,
+      k.3,
+      record {
+        sink_is = k.4.sink_is;
+        asked = pending-quiet (RequestSource k.0.source) (Beat.C x) t refl refl ∙ k.4.asked;
+        of_block = k.4.of_block;
+        last_is = k.4.last_is;
+        waits_is = pending-quiet (GrantAckOf g.block) (Beat.C x) t refl refl ∙ k.4.waits_is ∙ sym same;
+        reported_is = reports;
+      },
+    )
 
     turned : (a b : ℕ) → (a == b) ≡ (b == a)
     turned a b = elim (cases_eq a b) [
@@ -354,15 +414,26 @@ pub granting-e : {w : ℕ} (o : Option Granting) (x : BeatE) (t : History w) →
 unfolding unfinished request_of grant_sink reported_since
 granting-e None x t k = k
 granting-e {w} (Some g) x t k = elim (cases_Bool (g.sink == x.sink)) [
-  | inl own ↦ rw own (k.0, k.1, k.2, k.3, record {
+  | inl own ↦ rw own (
+    k.0,
+    k.1,
+    k.2,
+    k.3,
+    record {
       sink_is = k.4.sink_is;
       asked = pending-quiet (RequestSource k.0.source) (Beat.E x) t refl refl ∙ k.4.asked;
       of_block = k.4.of_block;
       last_is = k.4.last_is;
       waits_is = pending-closed (GrantAckOf g.block) (Beat.E x) t refl ∙ rw (one_beat, k.4.last_is, same own) refl;
       reported_is = λ n. rw (turned own) refl;
-    })
-  | inr other ↦ rw other (k.0, k.1, k.2, k.3, record {
+    },
+  )
+  | inr other ↦ rw other (
+    k.0,
+    k.1,
+    k.2,
+    k.3,
+    record {
       sink_is = k.4.sink_is;
       asked = pending-quiet (RequestSource k.0.source) (Beat.E x) t refl refl ∙ k.4.asked;
       of_block = k.4.of_block;
@@ -370,7 +441,8 @@ granting-e {w} (Some g) x t k = elim (cases_Bool (g.sink == x.sink)) [
       waits_is = pending-closed (GrantAckOf g.block) (Beat.E x) t refl ∙ rw (k.4.last_is, apart other)
           (never (ends (Beat.E x) t) (pending (GrantAckOf g.block) t)) ∙ k.4.waits_is;
       reported_is = λ n. rw (away other) (k.4.reported_is n);
-    })
+    },
+  )
 ]
   where
     one_beat : ends (Beat.E x) t ≡ true
@@ -402,14 +474,20 @@ granting-a {w} l (Some g) x t ordered k = go (begins (Beat.A x) t) refl (x.sourc
     with_asked : request_of k.0.source (Beat.A x ∷ t) ≡ request_of k.0.source t
         → pending (RequestSource k.0.source) (Beat.A x ∷ t) ≡ pending (RequestSource k.0.source) t
         → KnowsGranting (Some g) (Beat.A x ∷ t)
-    with_asked asks waits = (k.0, k.1, k.2, k.3, record {
-      sink_is = k.4.sink_is;
-      asked = waits ∙ k.4.asked;
-      of_block = ap (asks_for g.block) asks ∙ k.4.of_block;
-      last_is = k.4.last_is;
-      waits_is = pending-quiet (GrantAckOf g.block) (Beat.A x) t refl refl ∙ k.4.waits_is;
-      reported_is = k.4.reported_is;
-    })
+    with_asked asks waits = (
+      k.0,
+      k.1,
+      k.2,
+      k.3,
+      record {
+        sink_is = k.4.sink_is;
+        asked = waits ∙ k.4.asked;
+        of_block = ap (asks_for g.block) asks ∙ k.4.of_block;
+        last_is = k.4.last_is;
+        waits_is = pending-quiet (GrantAckOf g.block) (Beat.A x) t refl refl ∙ k.4.waits_is;
+        reported_is = k.4.reported_is;
+      },
+    )
 
     go : (now : Bool) → begins (Beat.A x) t ≡ now → (own : Bool) → (x.source == k.0.source) ≡ own
         → KnowsGranting (Some g) (Beat.A x ∷ t)
@@ -443,27 +521,39 @@ module _ {w : ℕ} (l : Liberties) (x : BeatD w) (t : History w) (ordered : brok
       → asks_for b (request_of x.source t) ≡ true
       → KnowsGranting (Some (record { sink = x.sink; block = b; doubt = Doubt.Unacknowledged })) (Beat.D x ∷ t)
   unfolding unfinished request_of grant_sink pending
-  granting-begun b none more grant own = (x, unfinished Channel.D t, rw more refl, grant, record {
-    sink_is = refl;
-    asked = still-asked more (answers (ap is_empty none) grant);
-    of_block = own;
-    last_is = rw (none, grant, own) refl;
-    waits_is = rw (none, grant, own) refl;
-    reported_is = λ n. absurd (differs n);
-  })
+  granting-begun b none more grant own = (
+    x,
+    unfinished Channel.D t,
+    rw more refl,
+    grant,
+    record {
+      sink_is = refl;
+      asked = still-asked more (answers (ap is_empty none) grant);
+      of_block = own;
+      last_is = rw (none, grant, own) refl;
+      waits_is = rw (none, grant, own) refl;
+      reported_is = λ n. absurd (differs n);
+    },
+  )
 
   granting-goes_on : (g : Granting) (z : BeatD w) (rest : List (Beat w)) → unfinished Channel.D t ≡ Beat.D z ∷ rest
       → ends (Beat.D x) t ≡ false → is_grant x.opcode ≡ true → IsSameD x z → IsGranting g z t
       → KnowsGranting (Some g) (Beat.D x ∷ t)
   unfolding unfinished request_of grant_sink reported_since
-  granting-goes_on g z rest burst more grant alike k = (x, unfinished Channel.D t, rw more refl, grant, record {
-    sink_is = k.sink_is ∙ sym alike.sink;
-    asked = still-asked more (ap (λ s. pending (RequestSource s) t) alike.source ∙ k.asked);
-    of_block = ap (λ s. asks_for g.block (request_of s t)) alike.source ∙ k.of_block;
-    last_is = rw burst (k.last_is ∙ ap (λ s. Some s) (sym alike.sink));
-    waits_is = quiet-later (GrantAckOf g.block) (Beat.D x) t refl (ap is_empty burst) ∙ k.waits_is;
-    reported_is = λ n. ap (λ s. reported_since g.block s t) alike.sink ∙ k.reported_is n;
-  })
+  granting-goes_on g z rest burst more grant alike k = (
+    x,
+    unfinished Channel.D t,
+    rw more refl,
+    grant,
+    record {
+      sink_is = k.sink_is ∙ sym alike.sink;
+      asked = still-asked more (ap (λ s. pending (RequestSource s) t) alike.source ∙ k.asked);
+      of_block = ap (λ s. asks_for g.block (request_of s t)) alike.source ∙ k.of_block;
+      last_is = rw burst (k.last_is ∙ ap (λ s. Some s) (sym alike.sink));
+      waits_is = quiet-later (GrantAckOf g.block) (Beat.D x) t refl (ap is_empty burst) ∙ k.waits_is;
+      reported_is = λ n. ap (λ s. reported_since g.block s t) alike.sink ∙ k.reported_is n;
+    },
+  )
 
   pub granting-d : (o : Option Granting) (block : Option ℕ) → IsConcerned block (Beat.D x) t → KnowsGranting o t
       → KnowsGranting (granting_after o x block (completes (Beat.D x) (unfinished Channel.D t))) (Beat.D x ∷ t)

@@ -141,7 +141,13 @@ impl<const W: usize> BlockState<W> {
         let Some(access) = find(accesses, link, source) else {
             return Ok(None);
         };
-        let renewed = access.renewed(alloc, self.free, &self.bytes, accesses, self.outrun.as_slice())?;
+        let renewed = access.renewed(
+            alloc,
+            self.free,
+            &self.bytes,
+            accesses,
+            self.outrun.as_slice(),
+        )?;
         Ok(Some(Expected {
             address: renewed.writer.asked.request.address,
             size: renewed.writer.asked.request.size,
@@ -339,7 +345,14 @@ impl<const W: usize> BlockState<W> {
             return Ok(PendingAccess::new(alloc, &writer, windows));
         };
         let writer = Writer::new(link, y, brought, first.writer.asked.moment);
-        first.grown(alloc, &writer, self.free, &self.bytes, accesses, self.outrun.as_slice())
+        first.grown(
+            alloc,
+            &writer,
+            self.free,
+            &self.bytes,
+            accesses,
+            self.outrun.as_slice(),
+        )
     }
 
     /// The change by a beat of the request of an access to the block, at this moment. `brought` are the bytes of the
@@ -412,11 +425,13 @@ impl<const W: usize> BlockState<W> {
     fn put(&mut self, next: Option<NextState<W>>)
         ensures { self.new ≡ put_next self.old next.entry }
     {
-        if let Some(NextState {
-            bytes,
-            accesses,
-            outrun,
-        }) = next
+        if let Some(
+            NextState {
+                bytes,
+                accesses,
+                outrun,
+            },
+        ) = next
         {
             self.put_bytes(bytes);
             self.put_outrun(outrun);

@@ -12,7 +12,7 @@ use tl_beat::beat::Link;
 use tl_bytes::known_bytes::KnownBytes;
 use tl_bytes::write::Write;
 
-/// The unfinished request on channel A of a link: its source, and where its bytes are.
+/// The unfinished request on channel A of a link: its source, its address and its size.
 #[derive(Clone, Copy, Debug, PartialEq, Eq)]
 pub struct Asking {
     pub source: u8,
@@ -28,7 +28,7 @@ pub struct Releasing {
     pub answered: bool,
 }
 
-/// What came for an unfinished Grant since its first beat.
+/// What an unfinished Grant has been followed by since its first beat.
 #[derive(Clone, Copy, Debug, PartialEq, Eq)]
 pub enum Doubt {
     /// No GrantAck.

@@ -27,8 +27,8 @@ use tl_beat::opcode::OpD;
 use tl_rules::key::block_at;
 use tl_rules::kind::{is_grant, is_release, is_release_ack};
 
-/// The unfinished messages of a link on channels A, C and D, which carry bytes to memory and back. What an answer must
-/// know that comes before they are complete is kept beside them.
+/// The unfinished messages of a link on channels A, C and D, which carry bytes to memory and back, and the fields of them
+/// that an early answer depends on.
 #[derive(Clone, Copy)]
 pub struct LinkMessages {
     pub a: CarriedMessage,
@@ -369,12 +369,7 @@ impl LinkState {
     }
 
     /// Takes a beat. `begun` are the bytes that the response may bring that begins with it.
-    pub fn take<const W: usize>(
-        &mut self,
-        begun: Option<Expected>,
-        block: Option<u32>,
-        x: &Beat<W>,
-    )
+    pub fn take<const W: usize>(&mut self, begun: Option<Expected>, block: Option<u32>, x: &Beat<W>)
         requires { IsWidth W }
         ensures { (levels : List Level) (n : ℕ) (link : Link) (t : Trace W) →
             KnowsLink self.old n link.0 t → AreLegal levels t → IsLegal levels (link, x.now) t →

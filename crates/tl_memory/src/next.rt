@@ -53,7 +53,13 @@ pub fn after_request<const W: usize>(
         return Ok(None);
     }
     if let Some(access) = state.outrun_of(link, y.source) {
-        return after_outrun_request(alloc, state, &access, brought.completes(&Beat::A(*y)), moment);
+        return after_outrun_request(
+            alloc,
+            state,
+            &access,
+            brought.completes(&Beat::A(*y)),
+            moment,
+        );
     }
     let all = brought.with(&Beat::A(*y));
     Ok(Some(state.asked(alloc, link, y, &all, moment)?))

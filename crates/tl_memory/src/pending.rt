@@ -88,7 +88,13 @@ impl<const W: usize> PendingAccess<W> {
         let opcode = asked.request.opcode;
         let mut read = self.read.copy(alloc)?;
         if both(!is_put(opcode), free.is_open_for(needs(opcode))) {
-            let writes = writes_of_others(alloc, accesses, outrun, asked.link, asked.request.source)?;
+            let writes = writes_of_others(
+                alloc,
+                accesses,
+                outrun,
+                asked.link,
+                asked.request.source,
+            )?;
             read.find(bytes, writes.as_slice())?;
         }
         Ok(PendingAccess {

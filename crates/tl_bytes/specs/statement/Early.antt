@@ -23,8 +23,8 @@ abbrev pub ends_request : {w : ℕ} → BeatD w → History w → Bool
 ends_request x past =
     (not (is_release_ack x.opcode) && ends (beat.D x) past) && not (comes_in_request x.source (unfinished channel.A past))
 
--- An access whose answer began before its request was complete, and where its bytes are. From the first beat of its
--- answer until both are complete it may write anything there. `answered` says that its answer is complete.
+-- An access whose answer began before its request was complete, with the address and size of its request. From the first
+-- beat of its answer until both are complete it may write anything there. `answered` says that its answer is complete.
 pub record Outrun : Type 0 where
   pub link : ℕ
   pub source : ℕ

@@ -155,7 +155,7 @@ pub record KnowsAccesses {w : ℕ} (pending : List (PendingAccess w)) (admits : 
 
 -- ---- accesses whose answers outran their requests
 
--- this is the access, and it may write any values where it reaches the block
+-- this is the access; in the block it may write any values to the bytes that it reaches
 pub record IsOutrun (kept : OutrunAccess) (block : ℕ) (access : Outrun) : Type 0 where
   pub link_is : kept.link.0 ≡ access.link
   pub source_is : kept.source ≡ access.source

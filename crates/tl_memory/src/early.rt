@@ -28,7 +28,7 @@ pub struct Releasing {
     pub answered: bool,
 }
 
-/// What an unfinished Grant has been followed by since its first beat.
+/// Whether the GrantAck of an unfinished Grant came, and a report of the block after it.
 #[derive(Clone, Copy, Debug, PartialEq, Eq)]
 pub enum Doubt {
     /// No GrantAck.

@@ -20,7 +20,7 @@ ghost use Rattle.tl_rules.specs.code.Open.{open_request};
 ghost use Rattle.tl_rules.specs.statement.Conformance.{Trace, on_link};
 ghost use Rattle.tl_monitor.specs.statement.Granting.{coming_on};
 ghost use Rattle.tl_monitor.specs.statement.Knows.{begins_on, request_on};
-ghost use Rattle.tl_together.specs.code.Windows.{asked_at};
+ghost use Rattle.tl_together.specs.statement.Asked.{asked_at};
 
 use crate::fault::JudgeFault;
 use crate::judge::{Judge, answered, asked_in};

@@ -32,7 +32,7 @@ use Rattle.tl_explain.proofs.follows.Links.{record_kept}
 use Rattle.tl_explain.proofs.Sayings.{held_told-none, saying_kept-none}
 use Rattle.tl_rules.specs.declared.past.Request.{Request}
 use Rattle.tl_rules.specs.statement.Windows.{needs}
-use Rattle.tl_together.specs.code.Windows.{asked_at}
+use Rattle.tl_together.specs.statement.Asked.{asked_at}
 use Rattle.tl_witness.specs.code.Witness.{IsFresh, KnowsWitness, Records}
 use Rattle.tl_witness.specs.declared.witness.Witness.{Witness}
 use Rattle.tl_witness.specs.statement.Grounds.{access_text, asked_line, conflict_by, conflicts_text, holder_text}

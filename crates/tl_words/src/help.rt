@@ -62,7 +62,7 @@ pub const TOOL: &str =
   F1 to F6      the line is not a beat
   F7            the first line is not a header
   F8            the line is not an event (`run`)
-  F9            a wide trace has too many blocks, sources or sinks (`monitor`, `coherent`)
+  F9            a wide trace has too many blocks, sources or sinks (`monitor`, `coherent`, `cover`)
   L1 to L7      the beat is not legal by itself
   S1            the beat does not continue its burst
   H1 to H13     the beat breaks the order of messages
@@ -253,6 +253,7 @@ pub const CHART: &str = outcomes_of_a_trace!(
 pub const COVER: &str = outcomes_of_a_trace!(
     "Situations are counted up to that line. `tltool explain FILE` says why it is at fault.\n",
     ;
+    "  F9   more than 2^26 blocks, 256 sources of a link or 256 sinks\n",
     ;
     "\n  tltool cover two_caches.trace",
     "\n  tltool cover --json two_caches.trace wrong_report.trace",

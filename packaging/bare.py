@@ -43,7 +43,7 @@ def make_room(fresh):
     on_host("rm", "-rf", ROOM)
     ROOM.mkdir(parents=True)
     on_host("tar", "-xpf", KEPT, "-C", ROOM)
-    tests = [ROOT / "benches/tests" / name for name in ("test_monitor.c", "test_judge.c", "test_clocked.py")]
+    tests = [ROOT / "benches/tests" / name for name in ("want.h", "test_monitor.c", "test_judge.c", "test_clocked.py")]
     on_host("cp", TARBALL, WHEEL, *DEBS, *tests, ROOM / "root")
 
 

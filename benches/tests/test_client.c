@@ -1,17 +1,9 @@
 /* A client from C at each width: a block is acquired, written and probed away, and the proved monitor
    judges each beat; then every way to be refused. It is built with the sanitizers too. */
+#include "want.h"
 #include <hefrudyl.h>
 #include <stdio.h>
 #include <string.h>
-
-static int failures;
-
-static void want(int holds, const char *what) {
-  if (!holds) {
-    printf("wrong: %s\n", what);
-    failures++;
-  }
-}
 
 static tl_client opened(uint8_t level, uint8_t width) {
   tl_client client = {0};

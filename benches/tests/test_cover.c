@@ -1,17 +1,9 @@
 /* A cover from C: what it counts, where a situation came first, the bins of each link, what a broken rule leaves, and
    what is refused. It is built with the address and undefined-behaviour sanitizers too. */
+#include "want.h"
 #include <hefrudyl.h>
 #include <stdio.h>
 #include <string.h>
-
-static int failures;
-
-static void want(int holds, const char *what) {
-  if (!holds) {
-    printf("wrong: %s\n", what);
-    failures++;
-  }
-}
 
 static const uint8_t levels[1] = {TL_C};
 static const tl_beat acquire = {

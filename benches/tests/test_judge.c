@@ -1,16 +1,8 @@
 /* The judge of all links from C: two writers of one block, stale bytes, an access beside a writer, and what is
    refused. It is built with the address and undefined-behaviour sanitizers too. */
+#include "want.h"
 #include <hefrudyl.h>
 #include <stdio.h>
-
-static int failures;
-
-static void want(int holds, const char *what) {
-  if (!holds) {
-    printf("wrong: %s\n", what);
-    failures++;
-  }
-}
 
 static const uint8_t levels[2] = {TL_C, TL_C};
 static const tl_beat grant = {.channel = TL_CHANNEL_D, .opcode = TL_D_Grant, .param = 0, .size = 6};

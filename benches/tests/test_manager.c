@@ -1,18 +1,10 @@
 /* A manager and two clients from C at each width and under both profiles: a block is written by one
    client and read by the other, each beat judged by the proved monitor, until nothing waits; then every
    way to be refused. It is built with the sanitizers too. */
+#include "want.h"
 #include <hefrudyl.h>
 #include <stdio.h>
 #include <string.h>
-
-static int failures;
-
-static void want(int holds, const char *what) {
-  if (!holds) {
-    printf("wrong: %s\n", what);
-    failures++;
-  }
-}
 
 static const tl_link_config links[2] = {{TL_C, 2}, {TL_C, 2}};
 

@@ -1,17 +1,9 @@
 /* The library from C: a trace of one link of level C, every way to be refused, and a beat of each
    field out of range. It is built with the address and undefined-behaviour sanitizers too. */
+#include "want.h"
 #include <hefrudyl.h>
 #include <stdio.h>
 #include <string.h>
-
-static int failures;
-
-static void want(int holds, const char *what) {
-  if (!holds) {
-    printf("wrong: %s\n", what);
-    failures++;
-  }
-}
 
 static const tl_beat acquire = {.channel = TL_CHANNEL_A, .opcode = TL_A_AcquireBlock, .param = 1, .size = 6, .source = 2, .address = 0x80, .mask = 0xff};
 static const tl_beat grant = {.channel = TL_CHANNEL_D, .opcode = TL_D_GrantData, .param = 0, .size = 6, .source = 2, .sink = 3};

@@ -1,19 +1,11 @@
 /* Wide beats from C: bursts at each width, names that are long, limits of names, and every way to be refused. It is built with
    the address and undefined-behaviour sanitizers too. With REFUSALS the library's memory is this file's, and it is refused once,
    at each place in turn. */
+#include "want.h"
 #include <hefrudyl.h>
 #include <stdio.h>
 #include <stdlib.h>
 #include <string.h>
-
-static int failures;
-
-static void want(int holds, const char *what) {
-  if (!holds) {
-    printf("wrong: %s\n", what);
-    failures++;
-  }
-}
 
 static const uint8_t levels[2] = {TL_C, TL_C};
 static const uint8_t widths[5] = {4, 8, 16, 32, 64};

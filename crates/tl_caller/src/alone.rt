@@ -2,10 +2,8 @@
 
 ghost use Rattle.std.specs.Prelude.{◌≡◌, IfSome, true};
 ghost use Rattle.tl_beat.specs.statement.Width.{IsWidth};
-ghost use Rattle.tl_params.specs.declared.config.Config.{Config};
 ghost use Rattle.tl_coherence.specs.statement.Draining.{grown_to};
-ghost use Rattle.tl_coherence.specs.statement.Log.{Log};
-ghost use Rattle.tl_world.specs.statement.World.{IsReached, IsWorld};
+ghost use Rattle.tl_world.specs.statement.World.{IsWorld, OnEachLog};
 ghost use Rattle.tl_caller.specs.Alone.{IsBroughtAlone};
 
 use tl_client::agent::Agent;
@@ -27,9 +25,8 @@ fn ask_alone<const W: usize, A: Agent<W>, D: Directory>(
 ) -> Option<Perm>
     requires { IsWidth W }
     ensures world { IsWorld A.represents A.terms D.perm_of world.old }
-    ensures brought { (config : Config) (log : Log W) →
-        IsReached A.represents A.terms D.perm_of config world.old log →
-        IfSome result (IsBroughtAlone config client operation.entry block) }
+    ensures brought { OnEachLog A.represents A.terms D.perm_of world.old (λ config log.
+        IfSome result (IsBroughtAlone config client operation.entry block)) }
 {
     world.drain();
     match world.step(Event::Ask { client, operation }) {
@@ -51,9 +48,8 @@ pub fn acquire_alone<const W: usize, A: Agent<W>, D: Directory>(
     grow: Grow,
 ) -> Option<Perm>
     requires { IsWidth W }
-    ensures { (config : Config) (log : Log W) →
-        IsReached A.represents A.terms D.perm_of config world.old log →
-        IfSome result (λ held. grown_to config.profile grow held ≡ true) }
+    ensures { OnEachLog A.represents A.terms D.perm_of world.old (λ config log.
+        IfSome result (λ held. grown_to config.profile grow held ≡ true)) }
 {
     ask_alone(world, client, Op::Acquire { block, grow }, block)
 }

@@ -2,12 +2,11 @@
 
 ghost use Rattle.std.specs.Prelude.{◌∷◌, ◌++◌, ◌≡◌, ◌≤◌, All, filter, length, true};
 ghost use Rattle.tl_beat.specs.statement.Width.{IsWidth};
-ghost use Rattle.tl_params.specs.declared.config.Config.{Config};
 ghost use Rattle.tl_coherence.specs.declared.event.Event.TheVariants.{Deliver};
 ghost use Rattle.tl_coherence.specs.statement.Draining.{beats_moved, is_delivery, is_moving};
 ghost use Rattle.tl_coherence.specs.statement.Load.{load};
 ghost use Rattle.tl_coherence.specs.statement.Log.{Log, logged};
-ghost use Rattle.tl_world.specs.statement.World.{IsReached};
+ghost use Rattle.tl_world.specs.statement.World.{IsContinued, IsReached, OnEachLog};
 ghost use Rattle.tl_caller.specs.Promised.{Delivered};
 
 use tl_beat::beat::Link;
@@ -23,9 +22,8 @@ pub fn deliver_once<const W: usize, A: Agent<W>, D: Directory>(
     link: Link,
     channel: Channel,
 ) -> Outcome<W>
-    ensures { (config : Config) (log : Log W) →
-        IsReached A.represents A.terms D.perm_of config world.old log →
-        Delivered config log link channel result }
+    ensures { OnEachLog A.represents A.terms D.perm_of world.old (λ config log.
+        Delivered config log link channel result) }
 {
     world.step(Event::Deliver { link, channel })
 }
@@ -38,11 +36,9 @@ pub fn deliver_all<const W: usize, A: Agent<W>, D: Directory>(
 ) -> u64
     requires deliveries { All (λ event. is_delivery event ≡ true) deliveries.now }
     requires number { length deliveries.now ≡ length outcomes.old }
-    ensures load { (config : Config) (log : Log W) →
-        IsReached A.represents A.terms D.perm_of config world.old log → result ≡ load log }
-    ensures happened { (config : Config) (log : Log W) →
-        IsReached A.represents A.terms D.perm_of config world.old log →
-        IsReached A.represents A.terms D.perm_of config world.new (logged deliveries.now outcomes.new log) }
+    ensures load { OnEachLog A.represents A.terms D.perm_of world.old (λ config log. result ≡ load log) }
+    ensures happened { IsContinued A.represents A.terms D.perm_of world.old world.new
+        (λ _. logged deliveries.now outcomes.new) }
     ensures bound { length (filter is_moving outcomes.new) ≤ result }
 {
     let load = world.load();
@@ -64,10 +60,9 @@ fn moves<const W: usize, A: Agent<W>, D: Directory>(
     channel: Channel,
 ) -> bool
     requires { IsWidth W }
-    ensures { (config : Config) (log : Log W) →
-        IsReached A.represents A.terms D.perm_of config world.old log →
+    ensures { OnEachLog A.represents A.terms D.perm_of world.old (λ config log.
         (o : Outcome W) × (result ≡ is_moving o)
-        × IsReached A.represents A.terms D.perm_of config world.new ((Deliver link channel, o) ∷ log) }
+        × IsReached A.represents A.terms D.perm_of config world.new ((Deliver link channel, o) ∷ log)) }
 {
     is_moving(&world.step(Event::Deliver { link, channel }))
 }
@@ -79,12 +74,10 @@ pub fn deliver_each<const W: usize, A: Agent<W>, D: Directory>(
     deliveries: &[(Link, Channel)],
 ) -> (u64, u64)
     requires { IsWidth W }
-    ensures load { (config : Config) (log : Log W) →
-        IsReached A.represents A.terms D.perm_of config world.old log → result.1 ≡ load log }
-    ensures moved { (config : Config) (log : Log W) →
-        IsReached A.represents A.terms D.perm_of config world.old log →
+    ensures load { OnEachLog A.represents A.terms D.perm_of world.old (λ config log. result.1 ≡ load log) }
+    ensures moved { OnEachLog A.represents A.terms D.perm_of world.old (λ config log.
         (more : Log W) × IsReached A.represents A.terms D.perm_of config world.new (more ++ log)
-        × (length more ≡ length deliveries.now) × (result.0 ≡ beats_moved more) }
+        × (length more ≡ length deliveries.now) × (result.0 ≡ beats_moved more)) }
     ensures bound { result.0 ≤ result.1 }
 {
     let load = world.load();

@@ -123,9 +123,9 @@ pub trait Agent<const W: usize>: Drop {
         .0
     }
 
-    /// Takes a beat, stalls it or refuses it as `offer` does, with a compact answer. Writes the bytes of the answer, of
-    /// a copy or of a response, into `bytes`.
-    fn answer(
+    /// Takes a beat, stalls it or refuses it as `offer` does, with a compact answer, but writes the bytes of the answer,
+    /// of a copy or of a response, into `bytes`.
+    fn offer_into(
         &mut self,
         channel: Channel,
         beat: &Beat<W>,

@@ -111,15 +111,15 @@ impl<const W: usize> Agent<W> for AnyClient<W> {
         }
     }
 
-    fn answer(
+    fn offer_into(
         &mut self,
         channel: Channel,
         beat: &Beat<W>,
         bytes: &mut [u8; 64],
     ) -> Result<Answer, Rule> {
         match self {
-            AnyClient::Caching(client) => client.answer(channel, beat, bytes),
-            AnyClient::Plain(client) => client.answer(channel, beat, bytes),
+            AnyClient::Caching(client) => client.offer_into(channel, beat, bytes),
+            AnyClient::Plain(client) => client.offer_into(channel, beat, bytes),
         }
     }
 

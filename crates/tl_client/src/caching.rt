@@ -121,7 +121,7 @@ impl<const W: usize> Agent<W> for Caching<W> {
         beat: &Beat<W>,
     ) -> Result<(Verdict, Option<Message<W>>), Rule> {
         let mut bytes = [0; 64];
-        let answer = self.answer(channel, beat, &mut bytes);
+        let answer = self.offer_into(channel, beat, &mut bytes);
         tell(answer, &bytes)
     }
 
@@ -146,7 +146,7 @@ impl<const W: usize> Agent<W> for Caching<W> {
         }
     }
 
-    fn answer(
+    fn offer_into(
         &mut self,
         channel: Channel,
         beat: &Beat<W>,

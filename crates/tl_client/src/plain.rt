@@ -181,7 +181,7 @@ impl<const W: usize> Agent<W> for Plain<W> {
         beat: &Beat<W>,
     ) -> Result<(Verdict, Option<Message<W>>), Rule> {
         let mut bytes = [0; 64];
-        let answer = self.answer(channel, beat, &mut bytes);
+        let answer = self.offer_into(channel, beat, &mut bytes);
         tell(answer, &bytes)
     }
 
@@ -203,7 +203,7 @@ impl<const W: usize> Agent<W> for Plain<W> {
         Reply::Busy(Busy::B4)
     }
 
-    fn answer(
+    fn offer_into(
         &mut self,
         channel: Channel,
         beat: &Beat<W>,

@@ -93,32 +93,17 @@ impl<const W: usize, D: Directory> Manager<W, D> {
     {
         // A field is named so that the prover has the invariant of the manager here.
         let _ = &self.state;
-        match self.answer(link, channel, beat)? {
-            None => Ok(Taken::Stalled),
-            Some(outbox) => Ok(Taken::Sent(outbox.handed())),
+        let mut outbox = Outbox::Nothing;
+        if self.offer_into(link, channel, beat, &mut outbox)? {
+            Ok(Taken::Sent(outbox.handed()))
+        } else {
+            Ok(Taken::Stalled)
         }
     }
 
-    /// `offer` with the messages in compact form; `None` for a beat that must wait.
-    pub fn answer(
-        &mut self,
-        link: Link,
-        channel: Channel,
-        beat: &Beat<W>,
-    ) -> Result<Option<Outbox<W>>, Rule>
-        ensures answer { (config : Config) (e : End W) → Knows D.perm_of self.old config e →
-            sent_of result ≡ (offered config link channel beat.now e).0 }
-        ensures after { (config : Config) (e : End W) → Knows D.perm_of self.old config e →
-            Knows D.perm_of self.new config (offered config link channel beat.now e).1 }
-    {
-        let _ = &self.state;
-        let mut outbox = Outbox::Nothing;
-        let taken = self.answer_into(link, channel, beat, &mut outbox)?;
-        if taken { Ok(Some(outbox)) } else { Ok(None) }
-    }
-
-    /// `answer` that writes the messages into `outbox`; false for a beat that must wait.
-    pub fn answer_into(
+    /// Takes a beat, stalls it or refuses it as `offer` does, but writes the messages into `outbox`, in compact form.
+    /// Returns false for a beat that must wait.
+    pub fn offer_into(
         &mut self,
         link: Link,
         channel: Channel,

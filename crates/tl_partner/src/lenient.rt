@@ -86,7 +86,7 @@ impl<const W: usize, D: Directory> Lenient<W, D> {
         let mut outbox = Outbox::Nothing;
         let _ = self
             .manager
-            .answer_into(link, Channel::C, &release, &mut outbox);
+            .offer_into(link, Channel::C, &release, &mut outbox);
     }
 
     /// Offers a beat, and gives each Probe that is handed out the source of its link.

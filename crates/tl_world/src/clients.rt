@@ -65,7 +65,7 @@ pub fn ask_store_at<const W: usize, A: Agent<W>>(
 }
 
 /// Offers a beat to one client, which gives a compact answer, and leaves the others.
-pub fn answer_at<const W: usize, A: Agent<W>>(
+pub fn offer_at<const W: usize, A: Agent<W>>(
     clients: &mut Vec<A>,
     i: usize,
     channel: Channel,
@@ -76,7 +76,7 @@ pub fn answer_at<const W: usize, A: Agent<W>>(
     ensures { IsOffered A.represents A.terms clients.old.items clients.new.items i channel beat.now
         (told_by result bytes.new) }
 {
-    clients[i].answer(channel, beat, bytes)
+    clients[i].offer_into(channel, beat, bytes)
 }
 
 /// Lets one client take a beat that continues a message, and leaves the others. Returns whether it took it.

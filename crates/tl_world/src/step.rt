@@ -14,7 +14,7 @@ ghost use Rattle.tl_coherence.specs.declared.event.Event.TheVariants.{Ask, Deliv
 ghost use Rattle.tl_world.specs.statement.Answered.{answered};
 ghost use Rattle.tl_coherence.specs.declared.event.Outcome.TheVariants as outcome;
 
-use crate::clients::{answer_at, ask_at, ask_load_at, ask_store_at, goes_on_at};
+use crate::clients::{ask_at, ask_load_at, ask_store_at, goes_on_at, offer_at};
 use crate::network::Network;
 use crate::rings::Rings;
 use tl_beat::beat::{Beat, Link};
@@ -192,7 +192,7 @@ impl<const W: usize, A: Agent<W>, D: Directory> Network<W, A, D> {
             return;
         }
         let mut bytes = [0; 64];
-        match answer_at(&mut self.clients, client, channel, beat, &mut bytes) {
+        match offer_at(&mut self.clients, client, channel, beat, &mut bytes) {
             Err(_) => *outcome = refused(),
             Ok(answer) => {
                 if stays(answer, &bytes) {
@@ -224,7 +224,7 @@ impl<const W: usize, A: Agent<W>, D: Directory> Network<W, A, D> {
             return;
         }
         let mut outbox = Outbox::Nothing;
-        match self.manager.answer_into(link, channel, beat, &mut outbox) {
+        match self.manager.offer_into(link, channel, beat, &mut outbox) {
             Err(_) => *outcome = refused(),
             Ok(false) => *outcome = Outcome::Stalled,
             Ok(true) => {

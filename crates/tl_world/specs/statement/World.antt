@@ -44,6 +44,18 @@ pub record IsReached {w : ℕ} {A M : Type 0} (knows : A → Endpoint w → Type
   pub shallow : (link : ℕ) (ch : Channel)
       → deepest config log link ch ≤ capacity (64 / w) (sources_of (terms_at config link)) config.trackers ch
 
+-- This holds of each configuration, and of each log of it that leads to this state.
+abbrev pub OnEachLog : {w : ℕ} {A M : Type 0} → (A → Endpoint w → Type 0) → (A → EndConfig) → (M → ℕ → ℕ → Perm)
+    → WorldState w A M → (Config → Log w → Type 0) → Type 0
+OnEachLog {w} knows terms perm_of state holds_of = (config : Config) (log : Log w)
+    → IsReached knows terms perm_of config state log → holds_of config log
+
+-- Each log that leads to the state `before`, continued in this way, leads to the state `after`.
+abbrev pub IsContinued : {w : ℕ} {A M : Type 0} → (A → Endpoint w → Type 0) → (A → EndConfig) → (M → ℕ → ℕ → Perm)
+    → WorldState w A M → WorldState w A M → (Config → Log w → Log w) → Type 0
+IsContinued knows terms perm_of before after continued = OnEachLog knows terms perm_of before
+    (λ config log. IsReached knows terms perm_of config after (continued config log))
+
 -- some log of some configuration leads to this state
 unfoldable pub IsWorld : {w : ℕ} {A M : Type 0} → (A → Endpoint w → Type 0) → (A → EndConfig) → (M → ℕ → ℕ → Perm)
     → WorldState w A M → Type 0

@@ -12,32 +12,32 @@ returns-in_default g c = λ config s h up room.
 pub returns-then-stays : goal.returns-then-stays
 returns-then-stays g c = λ config s h up room.
     steps-stayed g.A.Agent.represents g.A.Agent.terms g.D.Directory.perm_of config c.args.self.now _ s c.args.link
-    c.args.channel c.in-Some.beat.now _ (told_by c.answer_at.result c.answer_at.new.bytes) h c.requires.inside
+    c.args.channel c.in-Some.beat.now _ (told_by c.offer_at.result c.offer_at.new.bytes) h c.requires.inside
     (first-brought g.A.Agent.represents g.A.Agent.terms g.D.Directory.perm_of config c.args.self.now s c.args.link
     c.args.channel c.in-Some.beat.now h
-    c.requires.inside c.in-Some.ensures.there) up (rw (c.from-client.ensures, c.if-goes_on_at.ensures.unchanged) at c.answer_at.ensures) refl
-    (verdict_of c.in-Ok.answer c.answer_at.new.bytes)
-    (message_of c.in-Ok.answer c.answer_at.new.bytes) (search rules) (search rules) refl
+    c.requires.inside c.in-Some.ensures.there) up (rw (c.from-client.ensures, c.if-goes_on_at.ensures.unchanged) at c.offer_at.ensures) refl
+    (verdict_of c.in-Ok.answer c.offer_at.new.bytes)
+    (message_of c.in-Ok.answer c.offer_at.new.bytes) (search rules) (search rules) refl
 
 pub returns-in-Err : goal.returns-in-Err
 returns-in-Err g c = λ config s h up room. rw c.refused.ensures (
     steps-refused g.A.Agent.represents g.A.Agent.terms g.D.Directory.perm_of config c.args.self.now _ s c.args.link
-    c.args.channel c.in-Some.beat.now _ (told_by c.answer_at.result c.answer_at.new.bytes) h c.requires.inside
+    c.args.channel c.in-Some.beat.now _ (told_by c.offer_at.result c.offer_at.new.bytes) h c.requires.inside
     (first-brought g.A.Agent.represents g.A.Agent.terms g.D.Directory.perm_of config c.args.self.now s c.args.link
     c.args.channel c.in-Some.beat.now h
-    c.requires.inside c.in-Some.ensures.there) up (rw (c.from-client.ensures, c.if-goes_on_at.ensures.unchanged) at c.answer_at.ensures) refl
+    c.requires.inside c.in-Some.ensures.there) up (rw (c.from-client.ensures, c.if-goes_on_at.ensures.unchanged) at c.offer_at.ensures) refl
     c.in-Err.field-0 (search rules) refl)
 
 pub returns-else-stays : goal.returns-else-stays
 returns-else-stays g c = λ config s h up room.
     rw c.write_outcome.ensures
     (steps-taken g.A.Agent.represents g.A.Agent.terms g.D.Directory.perm_of config c.args.self.now _ s c.args.link
-    c.args.channel c.in-Some.beat.now _ (told_by c.answer_at.result c.answer_at.new.bytes) h c.requires.inside
+    c.args.channel c.in-Some.beat.now _ (told_by c.offer_at.result c.offer_at.new.bytes) h c.requires.inside
     (first-brought g.A.Agent.represents g.A.Agent.terms g.D.Directory.perm_of config c.args.self.now s c.args.link
     c.args.channel c.in-Some.beat.now h
-    c.requires.inside c.in-Some.ensures.there) up (rw (c.from-client.ensures, c.if-goes_on_at.ensures.unchanged) at c.answer_at.ensures) refl
-    c.drop_first-in-Ok.new.self (verdict_of c.in-Ok.answer c.answer_at.new.bytes)
-    (message_of c.in-Ok.answer c.answer_at.new.bytes) (search rules)
+    c.requires.inside c.in-Some.ensures.there) up (rw (c.from-client.ensures, c.if-goes_on_at.ensures.unchanged) at c.offer_at.ensures) refl
+    c.drop_first-in-Ok.new.self (verdict_of c.in-Ok.answer c.offer_at.new.bytes)
+    (message_of c.in-Ok.answer c.offer_at.new.bytes) (search rules)
     (search rules) c.drop_first-in-Ok.ensures.kept c.send_answer.ensures.kept c.drop_first-in-Ok.ensures.moved
     c.send_answer.ensures.moved room)
 

@@ -14,33 +14,33 @@ returns-in_default g c = λ config s h down room.
 pub returns-in-Err : goal.returns-in-Err
 returns-in-Err g c = λ config s h down room. rw c.refused.ensures (
     manager-refused g.A.Agent.represents g.A.Agent.terms g.D.Directory.perm_of config c.args.self.now _ s c.args.link
-    c.args.channel c.in-Some.beat.now _ (sent_of (written c.answer_into.new.outbox c.answer_into.result)) h
+    c.args.channel c.in-Some.beat.now _ (sent_of (written c.offer_into.new.outbox c.offer_into.result)) h
     c.requires.inside
     (first-brought g.A.Agent.represents g.A.Agent.terms g.D.Directory.perm_of config c.args.self.now s c.args.link
     c.args.channel c.in-Some.beat.now h c.requires.inside c.in-Some.ensures.there) down refl
-    (rw c.if-goes_on.ensures.unchanged at c.answer_into.ensures.answer)
-    (rw c.if-goes_on.ensures.unchanged at c.answer_into.ensures.after) c.in-Err.field-0 (search rules) refl)
+    (rw c.if-goes_on.ensures.unchanged at c.offer_into.ensures.answer)
+    (rw c.if-goes_on.ensures.unchanged at c.offer_into.ensures.after) c.in-Err.field-0 (search rules) refl)
 
 pub returns-in-Ok-false : goal.returns-in-Ok-false
 returns-in-Ok-false g c = λ config s h down room.
     manager-stayed g.A.Agent.represents g.A.Agent.terms g.D.Directory.perm_of config c.args.self.now _ s c.args.link
-    c.args.channel c.in-Some.beat.now _ (sent_of (written c.answer_into.new.outbox c.answer_into.result)) h
+    c.args.channel c.in-Some.beat.now _ (sent_of (written c.offer_into.new.outbox c.offer_into.result)) h
     c.requires.inside
     (first-brought g.A.Agent.represents g.A.Agent.terms g.D.Directory.perm_of config c.args.self.now s c.args.link
     c.args.channel c.in-Some.beat.now h c.requires.inside c.in-Some.ensures.there) down refl
-    (rw c.if-goes_on.ensures.unchanged at c.answer_into.ensures.answer)
-    (rw c.if-goes_on.ensures.unchanged at c.answer_into.ensures.after) (search rules) refl
+    (rw c.if-goes_on.ensures.unchanged at c.offer_into.ensures.answer)
+    (rw c.if-goes_on.ensures.unchanged at c.offer_into.ensures.after) (search rules) refl
 
 pub returns-in-Ok-true : goal.returns-in-Ok-true
 returns-in-Ok-true g c = λ config s h down room.
     manager-sent g.A.Agent.represents g.A.Agent.terms g.D.Directory.perm_of config c.args.self.now _ s c.args.link
-    c.args.channel c.in-Some.beat.now _ (sent_of (written c.answer_into.new.outbox c.answer_into.result)) h
+    c.args.channel c.in-Some.beat.now _ (sent_of (written c.offer_into.new.outbox c.offer_into.result)) h
     c.requires.inside
     (first-brought g.A.Agent.represents g.A.Agent.terms g.D.Directory.perm_of config c.args.self.now s c.args.link
     c.args.channel c.in-Some.beat.now h c.requires.inside c.in-Some.ensures.there) down refl
-    (rw c.if-goes_on.ensures.unchanged at c.answer_into.ensures.answer)
-    (rw c.if-goes_on.ensures.unchanged at c.answer_into.ensures.after) c.drop_first-in-Ok-true.new.self
-    (messages_of c.answer_into.new.outbox)
+    (rw c.if-goes_on.ensures.unchanged at c.offer_into.ensures.answer)
+    (rw c.if-goes_on.ensures.unchanged at c.offer_into.ensures.after) c.drop_first-in-Ok-true.new.self
+    (messages_of c.offer_into.new.outbox)
     (search rules) c.drop_first-in-Ok-true.ensures.kept c.send_out.ensures.kept c.drop_first-in-Ok-true.ensures.moved c.send_out.ensures.moved
     room
 

@@ -1,6 +1,6 @@
 use Rattle.std.proofs.Common.{refl}
 use Rattle.tl_client.proofs.plain_client.Offers.{offered-refused, answered-taken, knows-refused, knows-taken}
-use Rattle.tl_client.proofs.plain.PlainAgent.answer.Goals as goal
+use Rattle.tl_client.proofs.plain.PlainAgent.offer_into.Goals as goal
 
 pub returns-in-Err-clause-answer : goal.returns-in-Err-clause-answer
 returns-in-Err-clause-answer g c =

@@ -1,6 +1,6 @@
 use Rattle.std.proofs.Common.{Ok, ap, ◌∙◌}
 use Rattle.tl_client.proofs.messages.Telling.{tellable}
-use Rattle.tl_client.proofs.agent.Agent.answer.Goals as goal
+use Rattle.tl_client.proofs.agent.Agent.offer_into.Goals as goal
 
 pub returns-clause-answer : goal.returns-clause-answer
 returns-clause-answer g c = λ e k.

@@ -1,7 +1,7 @@
 use Rattle.std.proofs.Common.{refl, ap}
 use Rattle.tl_manager.specs.statement.Offer
 use Rattle.tl_manager.proofs.calls.Offered.{offered-broken, offered-waits, offered-passes, manager-after}
-use Rattle.tl_manager.proofs.manager.Manager.answer_into.Goals as goal
+use Rattle.tl_manager.proofs.manager.Manager.offer_into.Goals as goal
 
 pub invariant_of-self-in-Ok-Passes : goal.invariant_of-self-in-Ok-Passes
 invariant_of-self-in-Ok-Passes g c =

@@ -2,7 +2,7 @@ use Rattle.std.proofs.Common.{rules, sym}
 use Rattle.tl_client.specs.code.KnowsCaching.{caching_terms}
 use Rattle.tl_client.specs.statement.Answer.{told}
 use Rattle.tl_client.proofs.caching_client.Judged.{knows-took, lawful}
-use Rattle.tl_client.proofs.caching.CachingAgent.answer.Goals as goal
+use Rattle.tl_client.proofs.caching.CachingAgent.offer_into.Goals as goal
 
 pub returns-in-Ok-false-clause-answer : goal.returns-in-Ok-false-clause-answer
 returns-in-Ok-false-clause-answer g c = λ e k.

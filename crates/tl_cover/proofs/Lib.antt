@@ -1,5 +1,6 @@
 pub mod Lists
 pub mod Pasts
+pub mod Groups
 pub mod Changed
 pub mod Rows
 pub mod Counted

@@ -18,7 +18,7 @@ pub first_half : (p q : Bool) → (p && q) ≡ true → p ≡ true
 first_half true q e = refl
 first_half false q e = absurd cc
 
-second_half : (p q : Bool) → (p && q) ≡ true → q ≡ true
+pub second_half : (p q : Bool) → (p && q) ≡ true → q ≡ true
 second_half true q e = e
 second_half false q e = absurd cc
 

@@ -7,9 +7,11 @@ use Rattle.tl_beat.specs.declared.beat.Beat.{Beat}
 use Rattle.tl_beat.specs.declared.beat.Link.{Link}
 use Rattle.tl_cover.proofs.Changed.{changed_next, long_next}
 use Rattle.tl_cover.specs.code.Covering.{noted_if, opening_of, row_with, unseen}
+use Rattle.tl_cover.specs.code.Groups.{Fits, groups_in, is_rising}
 use Rattle.tl_cover.specs.declared.row.Row.{Row}
 use Rattle.tl_cover.specs.declared.scene.Scene.{Scene}
 use Rattle.tl_cover.specs.declared.situation.Situation.{Situation}
+use Rattle.tl_cover.specs.declared.stretch.TheConstants.{OF_ALL, OF_BINS}
 use Rattle.tl_cover.specs.statement.Bins.{all_bins}
 use Rattle.tl_cover.specs.statement.Covered.{all_situations, covered, lines, occurs_on, row_of, row_on, table}
 use Rattle.tl_cover.specs.statement.Scene.{scene}
@@ -59,16 +61,30 @@ module _ {w : ℕ} (l : Liberties) (n : ℕ) (x : Link × Beat w) (t : Trace w)
       → new ≡ rows_by at (x ∷ t) all
   rows_more all line opening old new at_line from before now = now ∙ rw (at_line, from, before) (rows_from all)
 
+-- the rows have the stretches of their lists
+module _ {w : ℕ} (l : Liberties) (n : ℕ) (t : Trace w) (rows : List Row) where
+  all_fit : rows ≡ covered l n t → Fits 0 OF_ALL rows
+  unfolding groups_in is_rising
+  all_fit is = rw is (record { groups = refl; rising = refl })
+
+  bins_fit : (i : ℕ) → rows ≡ table l n i t → Fits 0 OF_BINS rows
+  unfolding groups_in is_rising
+  bins_fit i is = rw is (record { groups = refl; rising = refl })
+
 module _ {w : ℕ} (l : Liberties) (n : ℕ) (x : Link × Beat w) (t : Trace w) (line : ℕ) (opening : Option Scene)
     (old new : List Row) where
   pub rows_counted : line ≡ length t + 2 → opening ≡ opening_of l n x.0.0 x.1 t → old ≡ covered l n t
-      → new ≡ map (row_with line x.1 opening) old → new ≡ covered l n (x ∷ t)
-  rows_counted = rows_more l n x t (occurs l n) (λ s. refl) all_situations line opening old new
+      → (Fits 0 OF_ALL old → new ≡ map (row_with line x.1 opening) old) → new ≡ covered l n (x ∷ t)
+  rows_counted at_line from before now =
+      rows_more l n x t (occurs l n) (λ s. refl) all_situations line opening old new at_line from before
+      (now (all_fit l n t old before))
 
   -- and those of its link
   pub table_counted : line ≡ length t + 2 → opening ≡ opening_of l n x.0.0 x.1 t → old ≡ table l n x.0.0 t
-      → new ≡ map (row_with line x.1 opening) old → new ≡ table l n x.0.0 (x ∷ t)
-  table_counted = rows_more l n x t (occurs_on l n x.0.0) here all_bins line opening old new
+      → (Fits 0 OF_BINS old → new ≡ map (row_with line x.1 opening) old) → new ≡ table l n x.0.0 (x ∷ t)
+  table_counted at_line from before now =
+      rows_more l n x t (occurs_on l n x.0.0) here all_bins line opening old new at_line from before
+      (now (bins_fit l n t old x.0.0 before))
     where
       same_number : (m : ℕ) → (m == m) ≡ true
       same_number m = grind arith

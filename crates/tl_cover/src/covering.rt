@@ -20,6 +20,7 @@ use crate::past::LinkPast;
 use crate::row::{LinkBin, Row, one_more};
 use crate::scene::{NOTHING, Scene, Standing, is_same};
 use crate::situation::Situation;
+use crate::stretch::OF_ALL;
 use std::alloc::{AllocError, Global};
 use tl_beat::beat::{Beat, Link};
 use tl_monitor::fault::MonitorFault;
@@ -274,7 +275,7 @@ impl<const W: usize> Covering<W> {
     {
         let last = self.monitor.begins(link, beat);
         self.line = one_more(self.line)?;
-        note_all(&mut self.rows, self.line, beat, opening)?;
+        note_all(&mut self.rows, &OF_ALL, self.line, beat, opening)?;
         self.pasts[usize::from(link.0)].take(self.line, opening, last, beat)
     }
 

@@ -25,6 +25,7 @@ use crate::counts::{new_rows, note_all};
 use crate::possible::is_possible;
 use crate::row::{LinkBin, Row};
 use crate::scene::{ProbeAt, Scene};
+use crate::stretch::OF_BINS;
 use crate::under_way::{UnderWay, is_of_grant};
 use std::alloc::{AllocError, Global};
 use tl_beat::beat::Beat;
@@ -336,6 +337,6 @@ impl LinkPast {
         note_release(&mut self.released, first, beat);
         self.newest = Some(beat.control());
         self.under_way = self.under_way.with(last, beat);
-        note_all(&mut self.rows, line, beat, opening)
+        note_all(&mut self.rows, &OF_BINS, line, beat, opening)
     }
 }

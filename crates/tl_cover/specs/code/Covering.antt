@@ -1,14 +1,16 @@
 -- What a covering has of a trace.
 use Rattle.std.specs.Prelude.{ℕ, Bool, ◌<◌, ◌≡◌, ◌+◌, ◌&&◌, List, [], ◌∷◌, length, map, if◌then◌else◌, slice_index_or, Option}
-use Rattle.std.specs.Prelude.{is_some}
+use Rattle.std.specs.Prelude.{◌++◌, drop, is_some, take}
 use Rattle.std.specs.Prelude.{Some, None, unwrap_or}
 use Rattle.tl_beat.specs.declared.beat.Beat.{Beat}
 use Rattle.tl_burst.specs.statement.Messages.{History}
+use Rattle.tl_cover.specs.code.Groups.{Fits}
 use Rattle.tl_cover.specs.code.Past.{KnowsPast, asked_next, found}
 use Rattle.tl_cover.specs.declared.past.LinkPast.{LinkPast}
 use Rattle.tl_cover.specs.declared.row.Row.{Row}
 use Rattle.tl_cover.specs.declared.scene.Scene.{Scene}
 use Rattle.tl_cover.specs.declared.situation.Situation.{Situation}
+use Rattle.tl_cover.specs.declared.stretch.TheConstants.{OF_BINS}
 use Rattle.tl_cover.specs.statement.Covered.{table}
 use Rattle.tl_cover.specs.statement.Scene.{probe_at, scene}
 use Rattle.tl_cover.specs.statement.Situations.{meets}
@@ -34,6 +36,10 @@ abbrev pub row_with : {w : ℕ} → ℕ → Beat w → Option Scene → Row → 
 row_with line x None r = r
 row_with line x (Some s) r = noted_if (meets r.situation x s) line r
 
+-- the rows up to this place with a message that begins with this beat in this line; the others without it
+abbrev pub noted_to : {w : ℕ} → ℕ → Beat w → Scene → ℕ → List Row → List Row
+noted_to line x s i rows = map (row_with line x (Some s)) (take i rows) ++ drop i rows
+
 -- what is known of the message that begins with a beat, where it begins one
 abbrev pub opening_of : {w : ℕ} → Liberties → ℕ → ℕ → Beat w → Trace w → Option Scene
 opening_of l n i x t = if begins x (on_link i t) then Some (scene l n i x t) else None
@@ -55,7 +61,7 @@ pub record Taken {w : ℕ} (old new : LinkPast) (line : ℕ) (opening : Option S
     pub probes : (k : ℕ) (h : History w) → found k new.probes.items
         ≡ asked_next x line (is_some opening && opens (ProbeOf k) x h) (last && closes (ProbeOf k) x h)
         (found k old.probes.items)
-    pub rows : new.rows.items ≡ map (row_with line x opening) old.rows.items
+    pub rows : Fits 0 OF_BINS old.rows.items → new.rows.items ≡ map (row_with line x opening) old.rows.items
     pub level : new.level ≡ old.level
 
 -- what is kept of each link is what it has carried

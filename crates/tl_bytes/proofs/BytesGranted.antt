@@ -6,7 +6,8 @@ use Rattle.std.specs.Prelude.{Some, None}
 use Rattle.tl_rules.{specs.statement.Admission.bytes_carried, specs.statement.Effect.effect}
 use Rattle.tl_rules.specs.statement.History.{grant_sink, pending, probe_of, release_of, request_of}
 use Rattle.tl_rules.specs.statement.Liberties.{held_under}
-use Rattle.tl_bytes.specs.statement.Free.{all_but_early}
+use Rattle.tl_bytes.specs.statement.Free.{all_liberties}
+use Rattle.tl_bytes.specs.statement.Early.{outrun_accesses}
 use Rattle.tl_bytes.specs.statement.Bytes.{carried_mask, each_from, before_last}
 use Rattle.tl_bytes.proofs.WorkedBeats.{put, done, get, found, acquire, acquire_unread, grant_beat, grant_unread}
 use Rattle.tl_bytes.proofs.WorkedBeats.{grant_ack, release_beat, four, spoilt, wide, given_back, untrue_from, untrue}
@@ -21,21 +22,21 @@ granted v = acquire 1 0 0 65535 ∷ four (grant_beat 1 1 0 1 (wide v))
 the_bytes_given_back : untrue (given_back (granted 9)) ≡ None
 unfolding untrue_from may_be may_read pending_accesses carried_byte bytes_carried carried_mask windows_since
     window_began last_window last_told each_from before_last effect unfinished on_link request_of release_of probe_of
-    grant_sink pending held_under all_but_early is_free
+    grant_sink pending held_under all_liberties is_free outrun_accesses
 the_bytes_given_back = refl
 
 -- and not those of the Grant before
 the_bytes_of_the_grant_before : untrue (given_back (granted 5)) ≡ Some 11
 unfolding untrue_from may_be may_read pending_accesses carried_byte bytes_carried carried_mask windows_since
     window_began last_window last_told each_from before_last effect unfinished on_link request_of release_of probe_of
-    grant_sink pending held_under all_but_early is_free
+    grant_sink pending held_under all_liberties is_free outrun_accesses
 the_bytes_of_the_grant_before = refl
 
 -- a Put that is pending may not have been performed
 a_put_to_come : untrue (given_back (put 0 0 4 (wide 7) 65535 ∷ granted 9)) ≡ None
 unfolding untrue_from may_be may_read pending_accesses carried_byte bytes_carried carried_mask windows_since
     window_began last_window last_told each_from before_last effect unfinished on_link request_of release_of probe_of
-    grant_sink pending held_under all_but_early is_free
+    grant_sink pending held_under all_liberties is_free outrun_accesses
 a_put_to_come = refl
 
 -- or may have been
@@ -43,14 +44,14 @@ a_put_that_was_performed : untrue
     (given_back (put 0 0 4 (wide 7) 65535 ∷ acquire 1 0 0 65535 ∷ grant_beat 1 1 0 1 (wide 7) ∷ [])) ≡ None
 unfolding untrue_from may_be may_read pending_accesses carried_byte bytes_carried carried_mask windows_since
     window_began last_window last_told each_from before_last effect unfinished on_link request_of release_of probe_of
-    grant_sink pending held_under all_but_early is_free
+    grant_sink pending held_under all_liberties is_free outrun_accesses
 a_put_that_was_performed = refl
 
 -- where it is answered it was
 a_put_that_is_lost : untrue (given_back (put 0 0 4 (wide 7) 65535 ∷ done 0 0 4 ∷ granted 9)) ≡ Some 13
 unfolding untrue_from may_be may_read pending_accesses carried_byte bytes_carried carried_mask windows_since
     window_began last_window last_told each_from before_last effect unfinished on_link request_of release_of probe_of
-    grant_sink pending held_under all_but_early is_free
+    grant_sink pending held_under all_liberties is_free outrun_accesses
 a_put_that_is_lost = refl
 
 -- a Put that is answered after the Grant may be in it
@@ -58,21 +59,21 @@ a_put_answered_late : untrue (given_back (put 0 0 4 (wide 7) 65535 ∷ granted 9
     ≡ None
 unfolding untrue_from may_be may_read pending_accesses carried_byte bytes_carried carried_mask windows_since
     window_began last_window last_told each_from before_last effect unfinished on_link request_of release_of probe_of
-    grant_sink pending held_under all_but_early is_free
+    grant_sink pending held_under all_liberties is_free outrun_accesses
 a_put_answered_late = refl
 
 -- what a Grant told the next one tells too
 the_bytes_granted : untrue (acquire 0 0 0 65535 ∷ four (grant_beat 0 1 0 0 (wide 5)) ++ granted 5) ≡ None
 unfolding untrue_from may_be may_read pending_accesses carried_byte bytes_carried carried_mask windows_since
     window_began last_window last_told each_from before_last effect unfinished on_link request_of release_of probe_of
-    grant_sink pending held_under all_but_early is_free
+    grant_sink pending held_under all_liberties is_free outrun_accesses
 the_bytes_granted = refl
 
 -- and nothing else
 bytes_that_were_never_granted : untrue (acquire 0 0 0 65535 ∷ four (grant_beat 0 1 0 0 (wide 5)) ++ granted 6) ≡ Some 6
 unfolding untrue_from may_be may_read pending_accesses carried_byte bytes_carried carried_mask windows_since
     window_began last_window last_told each_from before_last effect unfinished on_link request_of release_of probe_of
-    grant_sink pending held_under all_but_early is_free
+    grant_sink pending held_under all_liberties is_free outrun_accesses
 bytes_that_were_never_granted = refl
 
 -- the same with bytes 8 in its first beat, and 9 in the others
@@ -86,7 +87,7 @@ puts_answered_after_a_grant : untrue (given_back (put 0 0 4 (wide 7) 65535 ∷ p
     ++ done 0 0 4 ∷ done 0 1 4 ∷ get 0 0 4 65535 ∷ found 0 0 4 (wide 8) ∷ [])) ≡ None
 unfolding untrue_from may_be may_read pending_accesses carried_byte bytes_carried carried_mask windows_since
     window_began last_window last_told each_from before_last effect unfinished on_link request_of release_of probe_of
-    grant_sink pending held_under all_but_early is_free
+    grant_sink pending held_under all_liberties is_free outrun_accesses
 puts_answered_after_a_grant = refl
 
 -- and the other is gone
@@ -94,7 +95,7 @@ a_put_before_a_grant : untrue (given_back (put 0 0 4 (wide 7) 65535 ∷ put 0 1 
     ++ done 0 0 4 ∷ done 0 1 4 ∷ get 0 0 4 65535 ∷ found 0 0 4 (wide 7) ∷ [])) ≡ Some 20
 unfolding untrue_from may_be may_read pending_accesses carried_byte bytes_carried carried_mask windows_since
     window_began last_window last_told each_from before_last effect unfinished on_link request_of release_of probe_of
-    grant_sink pending held_under all_but_early is_free
+    grant_sink pending held_under all_liberties is_free outrun_accesses
 a_put_before_a_grant = refl
 
 -- corrupt data that are given back tell nothing
@@ -102,21 +103,21 @@ corrupt_data_given_back : untrue (acquire 0 1 0 65535 ∷ four (grant_beat 0 0 0
     (spoilt (release_beat 0 1 (wide 9))) ++ granted 3) ≡ None
 unfolding untrue_from may_be may_read pending_accesses carried_byte bytes_carried carried_mask windows_since
     window_began last_window last_told each_from before_last effect unfinished on_link request_of release_of probe_of
-    grant_sink pending held_under all_but_early is_free
+    grant_sink pending held_under all_liberties is_free outrun_accesses
 corrupt_data_given_back = refl
 
 -- corrupt data of a Grant aren't judged
 corrupt_data_granted : untrue (given_back (acquire 1 0 0 65535 ∷ four (spoilt (grant_beat 1 1 0 1 (wide 3))))) ≡ None
 unfolding untrue_from may_be may_read pending_accesses carried_byte bytes_carried carried_mask windows_since
     window_began last_window last_told each_from before_last effect unfinished on_link request_of release_of probe_of
-    grant_sink pending held_under all_but_early is_free
+    grant_sink pending held_under all_liberties is_free outrun_accesses
 corrupt_data_granted = refl
 
 -- one who writes the whole block unread may leave anything
 a_block_written_unread : untrue (given_back (acquire_unread 0 0 65535 ∷ grant_unread 0 0 0 ∷ granted 3)) ≡ None
 unfolding untrue_from may_be may_read pending_accesses carried_byte bytes_carried carried_mask windows_since
     window_began last_window last_told each_from before_last effect unfinished on_link request_of release_of probe_of
-    grant_sink pending held_under all_but_early is_free
+    grant_sink pending held_under all_liberties is_free outrun_accesses
 a_block_written_unread = refl
 
 -- ---- reads beside a writer
@@ -129,7 +130,7 @@ a_get_at_once : untrue (given_back (get 1 0 4 65535 ∷ granted_to_0 (wide 9) ++
     1 0 4 (wide 9) ∷ [])) ≡ None
 unfolding untrue_from may_be may_read pending_accesses carried_byte bytes_carried carried_mask windows_since
     window_began last_window last_told each_from before_last effect unfinished on_link request_of release_of probe_of
-    grant_sink pending held_under all_but_early is_free
+    grant_sink pending held_under all_liberties is_free outrun_accesses
 a_get_at_once = refl
 
 -- or it is performed late
@@ -137,7 +138,7 @@ a_get_late : untrue (given_back (get 1 0 4 65535 ∷ granted_to_0 (wide 9) ++ fo
     0 4 (wide 3) ∷ [])) ≡ None
 unfolding untrue_from may_be may_read pending_accesses carried_byte bytes_carried carried_mask windows_since
     window_began last_window last_told each_from before_last effect unfinished on_link request_of release_of probe_of
-    grant_sink pending held_under all_but_early is_free
+    grant_sink pending held_under all_liberties is_free outrun_accesses
 a_get_late = refl
 
 -- but what was told before it was asked it may not bring
@@ -146,5 +147,5 @@ a_get_too_early : untrue
     (wide 5) ∷ [])) ≡ Some 21
 unfolding untrue_from may_be may_read pending_accesses carried_byte bytes_carried carried_mask windows_since
     window_began last_window last_told each_from before_last effect unfinished on_link request_of release_of probe_of
-    grant_sink pending held_under all_but_early is_free
+    grant_sink pending held_under all_liberties is_free outrun_accesses
 a_get_too_early = refl

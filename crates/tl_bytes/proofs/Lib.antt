@@ -1,10 +1,13 @@
 pub mod Brought
+pub mod BytesEarly
 pub mod BytesGranted
 pub mod BytesRead
 pub mod Filled
 pub mod Finding
 pub mod KnownAt
+pub mod LateAnswers
 pub mod Offered
+pub mod OnTime
 pub mod Pending
 pub mod Reading
 pub mod Since

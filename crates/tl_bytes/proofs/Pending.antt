@@ -7,7 +7,9 @@ use Rattle.std.proofs.lemmas.Bool.{cases_eq, eq-eqb, eqb-true, and_parts}
 use Rattle.tl_beat.{specs.declared.beat.BeatA.BeatA, specs.declared.beat.BeatD.BeatD}
 use Rattle.tl_beat.{specs.declared.channel.Channel.Channel}
 use Rattle.tl_burst.specs.statement.Messages.{History}
-use Rattle.tl_bytes.specs.statement.Bytes.{all_but, asked_by, asked_since, asks, ends_request, is_of, pending_with}
+use Rattle.tl_bytes.specs.statement.Bytes.{all_but, asked_by, asked_since, asks_new, is_of, leaves_pending}
+use Rattle.tl_bytes.specs.statement.Bytes.{pending_with}
+use Rattle.tl_bytes.specs.statement.Early.{Outrun, outrun_accesses}
 use Rattle.tl_bytes.proofs.Finding.{find-left, find-left_out, same-some}
 
 -- the access with this source of the link is pending
@@ -18,7 +20,7 @@ IsPending c s p t = find (is_of c s) (pending_accesses t) ≡ Some p
 pub record IsAskedNow {w : ℕ} (c s : ℕ) (p : Access w) (y : Link × Beat w) (t : Trace w) : Type 0 where
   pub beat : BeatA w
   pub beat_is : y.1 ≡ Beat.A beat
-  pub asks_it : asks beat (on_link y.0.0 t) ≡ true
+  pub asks_it : asks_new y.0.0 beat (on_link y.0.0 t) (outrun_accesses t) ≡ true
   pub link_is : c ≡ y.0.0
   pub source_is : s ≡ beat.source
   pub access_is : p ≡ asked_by y.0.0 beat (Beat.A beat ∷ unfinished Channel.A (on_link y.0.0 t))
@@ -26,13 +28,13 @@ pub record IsAskedNow {w : ℕ} (c s : ℕ) (p : Access w) (y : Link × Beat w) 
 
 -- none is asked for with this source
 abbrev pub AsksNot : {w : ℕ} → ℕ → ℕ → Link × Beat w → Trace w → Type 0
-AsksNot {w} c s y t = (z : BeatA w) → y.1 ≡ Beat.A z → asks z (on_link y.0.0 t) ≡ true → c ≡ y.0.0 → s ≡ z.source → ⊥
+AsksNot {w} c s y t = (z : BeatA w) → y.1 ≡ Beat.A z → asks_new y.0.0 z (on_link y.0.0 t) (outrun_accesses t) ≡ true → c ≡ y.0.0 → s ≡ z.source → ⊥
 
--- the beat completes its answer
+-- the beat completes its answer, or the answer outruns the request
 pub record IsAnsweredNow {w : ℕ} (c s : ℕ) (y : Link × Beat w) (t : Trace w) : Type 0 where
   pub last : BeatD w
   pub beat_is : y.1 ≡ Beat.D last
-  pub completes : ends_request last (on_link y.0.0 t) ≡ true
+  pub completes : leaves_pending last (on_link y.0.0 t) ≡ true
   pub link_is : c ≡ y.0.0
   pub source_is : s ≡ last.source
 
@@ -90,20 +92,23 @@ pending-before {w} c s p y t is = go y.1 refl is
     past : History w
     past = on_link y.0.0 t
 
+    out : List Outrun
+    out = outrun_accesses t
+
     Result : Type 0
     Result = (IsPending c s p t × AsksNot c s y t) ⊎ IsAskedNow c s p y t
 
     same_a : {x z : BeatA w} → Beat.A x ≡ Beat.A z → x ≡ z
     same_a e = cc
 
-    asks_now : (z : BeatA w) → y.1 ≡ Beat.A z → (b : Bool) → asks z past ≡ b → (new : Access w)
+    asks_now : (z : BeatA w) → y.1 ≡ Beat.A z → (b : Bool) → asks_new y.0.0 z past out ≡ b → (new : Access w)
         → new ≡ asked_by y.0.0 z (Beat.A z ∷ unfinished Channel.A past)
         (asked_since (find (is_of y.0.0 z.source) before) (suc (length t)))
         → find (is_of c s) (if b then new ∷ all_but y.0.0 z.source before else before) ≡ Some p → Result
     asks_now z e false f new g is = inl (
       is,
       λ x h over link source. absurd (let no : true ≡ false =
-          sym over ∙ ap (λ v. asks v past) (same_a (sym h ∙ e)) ∙ f in cc),
+          sym over ∙ ap (λ v. asks_new y.0.0 v past out) (same_a (sym h ∙ e)) ∙ f in cc),
     )
     asks_now z e true f new g is = own ((y.0.0 == c) && (z.source == s)) refl
         (sym (found-asked c s y.0.0 z.source new before (ap (λ (q : Access w). q.link) g)
@@ -131,7 +136,7 @@ pending-before {w} c s p y t is = go y.1 refl is
               access_is = same-some new p is ∙ g;
             })
 
-    answers : (z : BeatD w) → y.1 ≡ Beat.D z → (b : Bool) → ends_request z past ≡ b
+    answers : (z : BeatD w) → y.1 ≡ Beat.D z → (b : Bool) → leaves_pending z past ≡ b
         → find (is_of c s) (if b then all_but y.0.0 z.source before else before) ≡ Some p → Result
     answers z e false f is = inl (is, λ x h. absurd (let no : Beat.A x ≡ Beat.D z = sym h ∙ e in cc))
     answers z e true f is = elim (cases_eq c y.0.0) [
@@ -146,9 +151,9 @@ pending-before {w} c s p y t is = go y.1 refl is
         never : AsksNot c s y t
         never x h = absurd (let no : Beat.A x ≡ Beat.D z = sym h ∙ e in cc)
 
-    go : (b : Beat w) → y.1 ≡ b → find (is_of c s) (pending_with y.0.0 b past (suc (length t)) before) ≡ Some p → Result
-    go (Beat.A z) e is = asks_now z e (asks z past) refl _ refl is
-    go (Beat.D z) e is = answers z e (ends_request z past) refl is
+    go : (b : Beat w) → y.1 ≡ b → find (is_of c s) (pending_with y.0.0 b past (suc (length t)) out before) ≡ Some p → Result
+    go (Beat.A z) e is = asks_now z e (asks_new y.0.0 z past out) refl _ refl is
+    go (Beat.D z) e is = answers z e (leaves_pending z past) refl is
     go (Beat.B z) e is = inl (is, λ x h. absurd (let no : Beat.A x ≡ Beat.B z = sym h ∙ e in cc))
     go (Beat.C z) e is = inl (is, λ x h. absurd (let no : Beat.A x ≡ Beat.C z = sym h ∙ e in cc))
     go (Beat.E z) e is = inl (is, λ x h. absurd (let no : Beat.A x ≡ Beat.E z = sym h ∙ e in cc))
@@ -165,10 +170,13 @@ pending-after {w} c s p y t is never = go y.1 refl
     past : History w
     past = on_link y.0.0 t
 
-    Result : Beat w → Type 0
-    Result b = (find (is_of c s) (pending_with y.0.0 b past (suc (length t)) before) ≡ Some p) ⊎ IsAnsweredNow c s y t
+    out : List Outrun
+    out = outrun_accesses t
 
-    asks_now : (z : BeatA w) → y.1 ≡ Beat.A z → (b : Bool) → asks z past ≡ b → (new : Access w) → new.link ≡ y.0.0
+    Result : Beat w → Type 0
+    Result b = (find (is_of c s) (pending_with y.0.0 b past (suc (length t)) out before) ≡ Some p) ⊎ IsAnsweredNow c s y t
+
+    asks_now : (z : BeatA w) → y.1 ≡ Beat.A z → (b : Bool) → asks_new y.0.0 z past out ≡ b → (new : Access w) → new.link ≡ y.0.0
         → new.request.source ≡ z.source
         → find (is_of c s) (if b then new ∷ all_but y.0.0 z.source before else before) ≡ Some p
     asks_now z e false f new g h = is
@@ -182,7 +190,7 @@ pending-after {w} c s p y t is never = go y.1 refl
             let both = and_parts (y.0.0 == c) (z.source == s) both_are in
             absurd (never z e f (sym (eqb-true y.0.0 c both.0)) (sym (eqb-true z.source s both.1)))
 
-    answers : (z : BeatD w) → y.1 ≡ Beat.D z → (b : Bool) → ends_request z past ≡ b
+    answers : (z : BeatD w) → y.1 ≡ Beat.D z → (b : Bool) → leaves_pending z past ≡ b
         → (find (is_of c s) (if b then all_but y.0.0 z.source before else before) ≡ Some p) ⊎ IsAnsweredNow c s y t
     answers z e false f = inl is
     answers z e true f = elim (cases_eq c y.0.0) [
@@ -194,8 +202,8 @@ pending-after {w} c s p y t is never = go y.1 refl
     ]
 
     go : (b : Beat w) → y.1 ≡ b → Result b
-    go (Beat.A z) e = inl (asks_now z e (asks z past) refl _ refl refl)
-    go (Beat.D z) e = answers z e (ends_request z past) refl
+    go (Beat.A z) e = inl (asks_now z e (asks_new y.0.0 z past out) refl _ refl refl)
+    go (Beat.D z) e = answers z e (leaves_pending z past) refl
     go v e = inl is
 
 -- when a pending access was first asked for

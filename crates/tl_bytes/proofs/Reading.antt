@@ -5,7 +5,8 @@ use Rattle.std.proofs.Common.{◌≡◌, ℕ, suc, false, ◌&&◌, ◌||◌, �
 use Rattle.std.proofs.Common.{refl, sym, ap, ◌∙◌, arith, Bool}
 use Rattle.std.proofs.lemmas.Bool.{le-leb, lt-leb}
 use Rattle.tl_rules.specs.statement.{History.block_at, Windows.needs}
-use Rattle.tl_bytes.specs.statement.Bytes.{may_find, may_grant, others, written_as}
+use Rattle.tl_bytes.specs.statement.Bytes.{may_find, may_grant, may_write, others}
+use Rattle.tl_bytes.specs.statement.Early.{outrun_accesses}
 use Rattle.tl_bytes.{specs.code.Tellings.left_as, specs.statement.Shown.is_window}
 use Rattle.tl_bytes.specs.statement.Known.{MayWrite, windowed}
 
@@ -27,7 +28,7 @@ read-next n access x t address v le = rw (le-leb access.asked (suc (length t)) l
 
 -- what it may find, by what is kept of the block and of the accesses that are pending beside it
 pub find-is : {w : ℕ} (n number : ℕ) (access : Access w) (t : Trace w) (block : BlockBytes) (writes : List Write)
-    (p v : ℕ) → KnowsBlock block n number t → MayWrite writes number (others access t) → p < 64
+    (p v : ℕ) → KnowsBlock block n number t → MayWrite writes number (others access t) (outrun_accesses t) → p < 64
     → (told_as v (tellings_of block p) || left_as p v writes) ≡ may_find n access t (64 * number + p) v
 find-is n number access t block writes p v k written lt =
     ap (λ l. told_as v l || left_as p v writes) (k.bytes_are p lt)
@@ -36,7 +37,7 @@ find-is n number access t block writes p v k written lt =
 -- what may be granted is what the bytes may be, and what accesses may write that have had a window
 pub granted-is : {w : ℕ} (n number : ℕ) (t : Trace w) (block : BlockBytes) (writes : List Write) (p v : ℕ) (now : Bool)
     → now ≡ (told_as v (tellings_of block p) || left_as p v writes) → KnowsBlock block n number t
-    → MayWrite writes number (windowed n number t) → p < 64 → now ≡ may_grant n t (64 * number + p) v
+    → MayWrite writes number (windowed n number t) (outrun_accesses t) → p < 64 → now ≡ may_grant n t (64 * number + p) v
 granted-is n number t block writes p v now all k written lt =
     all
     ∙ ap (λ l. told_as v l || left_as p v writes) (k.bytes_are p lt)
@@ -45,6 +46,6 @@ granted-is n number t block writes p v now all k written lt =
     block_of : (64 * number + p) / 64 ≡ number
     block_of = omega arith
 
-    of_block : written_as (64 * number + p) v (windowed n number t)
-        ≡ written_as (64 * number + p) v (windowed n ((64 * number + p) / 64) t)
-    of_block = ap (λ b. written_as (64 * number + p) v (windowed n b t)) (sym block_of)
+    of_block : may_write (64 * number + p) v (windowed n number t) (outrun_accesses t)
+        ≡ may_write (64 * number + p) v (windowed n ((64 * number + p) / 64) t) (outrun_accesses t)
+    of_block = ap (λ b. may_write (64 * number + p) v (windowed n b t) (outrun_accesses t)) (sym block_of)

@@ -15,9 +15,10 @@ use Rattle.tl_bytes.specs.statement.KnownBytes.{known_at}
 use Rattle.tl_bytes.specs.code.Tellings.{displaced, is_displaced, is_written, outlived, stays, telling_at, value_at}
 use Rattle.tl_bytes.specs.code.Tellings.{written_at}
 use Rattle.tl_bytes.specs.declared.standing.Standing.{Standing}
-use Rattle.tl_bytes.specs.statement.Bytes.{access_writes, after_write, could_be, ends_request, is_of, same_value, tells}
+use Rattle.tl_bytes.specs.statement.Bytes.{access_writes, after_settling, after_write, could_be, ends_request, is_of}
+use Rattle.tl_bytes.specs.statement.Bytes.{is_settled, same_value, tells}
 use Rattle.tl_bytes.specs.statement.Bytes.{told_too, value_left}
-use Rattle.tl_bytes.specs.statement.Known.{AreCarried, IsWrite, standing_of}
+use Rattle.tl_bytes.specs.statement.Known.{AnswersNone, AreCarried, IsSettling, IsWrite, NoneSettled, standing_of}
 
 -- ---- the list of tellings, place by place
 
@@ -226,6 +227,7 @@ by-standing n block access denied now t before =
 may_be-written : {w : ℕ} (n block p : ℕ) (link : Link) (y : BeatD w) (access : Access w) (t : Trace w) → p < 64
     → tells block (Beat.D y) (on_link link.0 t) ≡ false → ends_request y (on_link link.0 t) ≡ true
     → find (is_of link.0 y.source) (pending_accesses t) ≡ Some access
+    → is_settled (64 * block + p) (link, Beat.D y) t ≡ false
     → may_be n (64 * block + p) ((link, Beat.D y) ∷ t) ≡ (if access_writes (64 * block + p) access then by_standing
     (standing_of n block access y.denied t)
     (record {
@@ -234,8 +236,8 @@ may_be-written : {w : ℕ} (n block p : ℕ) (link : Link) (y : BeatD w) (access
     }) (may_be n (64 * block + p) t)
     else may_be n (64 * block + p) t)
 unfolding may_be
-may_be-written n block p link y access t lt quiet ended found =
-    rw (block-of block p lt, quiet, ended, found, block-of block p lt)
+may_be-written n block p link y access t lt quiet ended found none =
+    rw (block-of block p lt, quiet, none, ended, found, block-of block p lt)
     (ap (λ l. if access_writes (64 * block + p) access then l else may_be n (64 * block + p) t)
     (by-standing n block access y.denied (record {
       value = value_left access.request.opcode access (Beat.D y ∷ unfinished Channel.D (on_link link.0 t)) (64 * block + p);
@@ -262,17 +264,17 @@ pub written-is : {w : ℕ} (write : Write) (moment n block : ℕ) (s : Standing)
     p ≡ (if is_written write p then by_standing s (record { value = value_at write p; moment = moment })
     (tellings_of old p) else tellings_of old p)) → KnowsBlock old n block t
     → tells block (Beat.D y) (on_link link.0 t) ≡ false → ends_request y (on_link link.0 t) ≡ true
-    → find (is_of link.0 y.source) (pending_accesses t) ≡ Some access → s ≡ standing_of n block access y.denied t
-    → moment ≡ length t → IsWrite write block access (Beat.D y ∷ unfinished Channel.D (on_link link.0 t))
+    → find (is_of link.0 y.source) (pending_accesses t) ≡ Some access → NoneSettled block (link, Beat.D y) t
+    → s ≡ standing_of n block access y.denied t → moment ≡ length t → IsWrite write block access (Beat.D y ∷ unfinished Channel.D (on_link link.0 t))
     → KnowsBlock new n block ((link, Beat.D y) ∷ t)
 unfolding last_told
-written-is write moment n block s old new link y access t last items k quiet ended found stands now written =
+written-is write moment n block s old new link y access t last items k quiet ended found none stands now written =
     record {
       bytes_are = λ p lt. items p lt
           ∙ rw (stands, now, k.bytes_are p lt) (where_written (is_written write p) (value_at write p)
           (value_left access.request.opcode access (Beat.D y ∷ unfinished Channel.D (on_link link.0 t)) (64 * block + p))
           (standing_of n block access y.denied t) (length t) (may_be n (64 * block + p) t) (written p lt).1
-          ∙ rw ((written p lt).0) (sym (may_be-written n block p link y access t lt quiet ended found)));
+          ∙ rw ((written p lt).0) (sym (may_be-written n block p link y access t lt quiet ended found (none p lt))));
       last_is = rw (last, quiet) k.last_is;
     }
   where
@@ -281,6 +283,34 @@ written-is write moment n block s old new link y access t last items k quiet end
         ≡ (if b then by_standing s (record { value = v; moment = m }) before else before)
     where_written true u v s m before e = ap (λ z. by_standing s (record { value = z; moment = m }) before) (e refl)
     where_written false u v s m before e = refl
+
+-- the bytes that an access may have left whose answer outran its request
+pub settled-is : {w : ℕ} (write : Write) (moment n block : ℕ) (s : Standing) (old new : BlockBytes) (x : Link × Beat w)
+    (t : Trace w) → new.last ≡ old.last
+    → ((p : ℕ) → p < 64 → tellings_of new
+    p ≡ (if is_written write p then by_standing s (record { value = value_at write p; moment = moment })
+    (tellings_of old p) else tellings_of old p)) → KnowsBlock old n block t
+    → tells block x.1 (on_link x.0.0 t) ≡ false → AnswersNone x t → s ≡ Standing.Anywhere → moment ≡ length t
+    → IsSettling write block x t → KnowsBlock new n block (x ∷ t)
+unfolding last_told may_be
+settled-is write moment n block s old new x t last items k quiet none stands now written =
+    record {
+      bytes_are = λ p lt. items p lt
+          ∙ rw (now, k.bytes_are p lt) (where_settled (is_written write p) (value_at write p) (length t)
+          (may_be n (64 * block + p) t) s stands (written p lt).1 ∙ rw ((written p lt).0) (sym (settled_at p lt)));
+      last_is = rw (last, quiet) k.last_is;
+    }
+  where
+    where_settled : (b : Bool) (v : Option ℕ) (m : ℕ) (before : List Telling) (s : Standing) → s ≡ Standing.Anywhere
+        → (b ≡ true → v ≡ None) → (if b then by_standing s (record { value = v; moment = m }) before else before)
+        ≡ (if b then told_too (record { value = None; moment = m }) before else before)
+    where_settled true v m before s f e =
+        ap₂ (λ r z. by_standing r (record { value = z; moment = m }) before) f (e refl)
+    where_settled false v m before s f e = refl
+
+    settled_at : (p : ℕ) → p < 64 → may_be n (64 * block + p) (x ∷ t)
+        ≡ after_settling (64 * block + p) x t (may_be n (64 * block + p) t)
+    settled_at p lt = rw (block-of block p lt, quiet, none n (64 * block + p) (may_be n (64 * block + p) t)) refl
 
 -- what is kept of a place with what is written in the one window that has been open since a moment
 pub written-within : (write : Write) (moment since p : ℕ) (old new : BlockBytes) → p < 64

@@ -173,6 +173,38 @@ release_beat link source bytes = (
   }),
 )
 
+abbrev pub release_ack : {w : ℕ} → ℕ → ℕ → Link × Beat w
+release_ack link source = (
+  record { 0 = link },
+  Beat.D (record {
+    opcode = OpD.ReleaseAck;
+    param = 0;
+    size = 6;
+    source = source;
+    sink = 0;
+    denied = false;
+    lanes = None;
+    corrupt = false;
+    carries = refl;
+  }),
+)
+
+-- a Probe's answer without data: all that was held is given up
+abbrev pub given_up : {w : ℕ} → ℕ → Link × Beat w
+given_up link = (
+  record { 0 = link },
+  Beat.C (record {
+    opcode = OpC.ProbeAck;
+    param = 1;
+    size = 6;
+    source = 0;
+    address = 0;
+    lanes = None;
+    corrupt = false;
+    carries = refl;
+  }),
+)
+
 -- a Probe that leaves Trunk, and data that answer it
 abbrev pub probe_to_trunk : {w : ℕ} → ℕ → Link × Beat w
 probe_to_trunk link = (

@@ -1,4 +1,5 @@
 pub mod Bytes
+pub mod Early
 pub mod Free
 pub mod Known
 pub mod KnownBytes

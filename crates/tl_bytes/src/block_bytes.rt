@@ -11,6 +11,8 @@ ghost use Rattle.tl_burst.specs.statement.Messages.{unfinished};
 ghost use Rattle.tl_rules.specs.statement.Conformance.{Trace, on_link};
 ghost use Rattle.tl_bytes.specs.statement.Bytes as bytes;
 ghost use Rattle.tl_bytes.specs.statement.Bytes.{Access, ends_request, is_of, pending_accesses, tells, told_as};
+ghost use Rattle.tl_bytes.specs.statement.Early.{outrun_accesses};
+ghost use Rattle.tl_bytes.specs.declared.standing.Standing.TheVariants as stands;
 
 use crate::known_bytes::KnownBytes;
 use crate::latest::Latest;
@@ -34,7 +36,8 @@ pub struct BlockBytes {
 
 impl BlockBytes {
     ghost use Rattle.tl_bytes.specs.statement.Known.{AreCarried, IsWrite, KnowsBlock, KnowsWindows};
-    ghost use Rattle.tl_bytes.specs.statement.Known.{MayWrite, standing_of, windowed};
+    ghost use Rattle.tl_bytes.specs.statement.Known.{AnswersNone, IsSettling, MayWrite, NoneSettled, standing_of};
+    ghost use Rattle.tl_bytes.specs.statement.Known.{windowed};
 
     /// A block before the trace: its bytes may have any value.
     pub fn new(alloc: Global) -> Self
@@ -74,7 +77,7 @@ impl BlockBytes {
     /// window.
     pub fn may_grant(&self, place: u8, byte: u8, writes: &[Write]) -> bool
         ensures { (w n block : ℕ) (t : Trace w) → KnowsBlock self.now n block t →
-            MayWrite writes.now block (windowed n block t) → place < 64 →
+            MayWrite writes.now block (windowed n block t) (outrun_accesses t) → place < 64 →
             result ≡ bytes.may_grant n t (64 * block + place) byte }
     {
         self.may_be(place, byte) || is_left_as(writes, place, byte)
@@ -116,8 +119,8 @@ impl BlockBytes {
         })
     }
 
-    /// The block after an access with this write; `moment` is the number of beats before the last one of its answer.
-    /// The error means that there is no memory left.
+    /// The block after an access with this write; `moment` is the number of beats before the last one of its answer, or
+    /// of its request if the answer was complete before. The error means that there is no memory left.
     pub fn with(
         &self,
         alloc: Global,
@@ -125,14 +128,21 @@ impl BlockBytes {
         standing: Standing,
         moment: u64,
     ) -> Result<Self, AllocError>
-        ensures { IfOk result (λ b. (w n block : ℕ) (link : Link) (y : BeatD w) (access : Access w) (t : Trace w) →
+        ensures answered { IfOk result (λ b. (w n block : ℕ) (link : Link) (y : BeatD w) (access : Access w)
+            (t : Trace w) →
             KnowsBlock self.now n block t →
             tells block (beat.D y) (on_link link.0 t) ≡ false →
             ends_request y (on_link link.0 t) ≡ true →
             find (is_of link.0 y.source) (pending_accesses t) ≡ Some access →
+            NoneSettled block (link, beat.D y) t →
             standing ≡ standing_of n block access y.denied t → moment ≡ length t →
             IsWrite write.now block access (beat.D y ∷ unfinished channel.D (on_link link.0 t)) →
             KnowsBlock b n block ((link, beat.D y) ∷ t)) }
+        ensures settled { IfOk result (λ b. (w n block : ℕ) (x : Link × Beat w) (t : Trace w) →
+            KnowsBlock self.now n block t →
+            tells block x.1 (on_link x.0.0 t) ≡ false → AnswersNone x t →
+            standing ≡ stands.Anywhere → moment ≡ length t → IsSettling write.now block x t →
+            KnowsBlock b n block (x ∷ t)) }
     {
         let since = match standing {
             Standing::Told => return self.copy(alloc),

@@ -6,6 +6,7 @@ ghost use Rattle.tl_rules.specs.statement.Conformance.{Trace};
 ghost use Rattle.tl_bytes.specs.code.Tellings.{leaves, left_as, telling_at};
 ghost use Rattle.tl_bytes.specs.code.Possible as code;
 ghost use Rattle.tl_bytes.specs.statement.Bytes.{Access, could_be, may_read, told_as};
+ghost use Rattle.tl_bytes.specs.statement.Early.{outrun_accesses};
 ghost use Rattle.tl_bytes.specs.statement.Known as known;
 ghost use Rattle.tl_bytes.specs.statement.Known.{tellings_at, tellings_of};
 
@@ -153,7 +154,7 @@ impl ReadBytes {
     /// The bytes that may be granted. The error means that there is no memory left.
     pub fn granted(alloc: Global, block: &BlockBytes, writes: &[Write]) -> Result<Self, AllocError>
         ensures { IfOk result (λ read. (w n number : ℕ) (t : Trace w) → KnowsBlock block.now n number t →
-            MayWrite writes.now number (windowed n number t) → KnowsGrant read n number t) }
+            MayWrite writes.now number (windowed n number t) (outrun_accesses t) → KnowsGrant read n number t) }
     {
         let mut read = ReadBytes::none(alloc);
         read.find(block, writes)?;

@@ -1,15 +1,17 @@
 -- No two accesses that are pending have the same source on a link, where no beat broke a rule: so all with the
 -- source of a response are the request that it answers.
-use Rattle.tl_memory.proofs.Imports.{Beat, BeatA, Link, IsWidth, Level, open_request, Request, Trace}
+use Rattle.tl_memory.proofs.Imports.{Beat, BeatA, Link, IsWidth, Level, Request, Trace}
 use Rattle.tl_memory.proofs.Imports.{on_link, Access, is_access, is_of, pending_accesses, AreLegal, IsLegal}
 use Rattle.std.proofs.Common.{◌≡◌, ℕ, suc, Bool, true, false, not, ◌&&◌, List, [], ◌∷◌, length, Some, refl, sym}
 use Rattle.std.proofs.Common.{ap, ◌∙◌, inl, inr}
 use Rattle.std.specs.Prelude.{if◌then◌else◌, ◌==◌, filter, find, ⊤}
 use Rattle.std.proofs.lemmas.Bool.{and_parts, cases_Bool, eq-eqb, eqb-true}
-use Rattle.tl_bytes.{specs.statement.Bytes.all_but, specs.statement.Bytes.pending_with, proofs.Finding.find-left}
+use Rattle.tl_bytes.{specs.statement.Bytes.all_but, specs.statement.Bytes.pending_with, proofs.Finding.find-left, proofs.Finding.same-some}
+use Rattle.tl_rules.specs.code.Tables.{kept_request}
+unfoldable use Rattle.tl_bytes.specs.statement.Early.{outrun_accesses}
 use Rattle.tl_memory.specs.code.Taking.{AreAsked, AreContinued}
 use Rattle.tl_memory.proofs.Answering.{fields_of, kept-same}
-use Rattle.tl_memory.proofs.OpenAccesses.{is-fine, legal-on, pending-open, same_asked}
+use Rattle.tl_memory.proofs.OpenAccesses.{is-fine, legal-on, pending-open}
 
 -- each of these is the first of all with its source on its link
 abbrev pub AreFirst : {w : ℕ} → List (Access w) → List (Access w) → Type 0
@@ -100,8 +102,8 @@ are-first {w} (x ∷ t) = go x.1 (are-first t)
     answers false source first = first
 
     go : (b : Beat w) → AreFirst before before
-        → AreFirst (pending_with x.0.0 b (on_link x.0.0 t) (suc (length t)) before)
-        (pending_with x.0.0 b (on_link x.0.0 t) (suc (length t)) before)
+        → AreFirst (pending_with x.0.0 b (on_link x.0.0 t) (suc (length t)) (outrun_accesses t) before)
+        (pending_with x.0.0 b (on_link x.0.0 t) (suc (length t)) (outrun_accesses t) before)
     go (Beat.A z) first = asked _ _ z.source refl refl first
     go (Beat.D z) first = answers _ z.source first
     go v first = first
@@ -115,9 +117,9 @@ found-first c s access all same first =
     ∙ ap (λ m. find (is_of access.link m) all) (sym (eqb-true access.request.source s both.1)) ∙ first
 
 module _ {w : ℕ} (levels : List Level) (width : IsWidth w) where
-  -- all with a source are its open request
+  -- all with a source are the request that is kept
   asked-of : (c s : ℕ) (asked : Request) (t : Trace w) (all accesses : List (Access w)) → AreLegal levels t
-      → open_request s (on_link c t) ≡ Some asked → all ≡ pending_accesses t → AreFirst all accesses
+      → kept_request s (on_link c t) ≡ Some asked → all ≡ pending_accesses t → AreFirst all accesses
       → AreAsked c s asked accesses
   asked-of c s asked t all [] legal opened is first = tt
   asked-of c s asked t all (access ∷ accesses) legal opened is first = (
@@ -125,7 +127,7 @@ module _ {w : ℕ} (levels : List Level) (width : IsWidth w) where
         let found : find (is_of c s) (pending_accesses t) ≡ Some access =
         found-first c s access (pending_accesses t) same (rw is at first.0) in
         let k = pending-open levels c s access t width legal found in
-        let one : k.asked ≡ asked = same_asked s asked k.asked (on_link c t) opened k.is_kept in (
+        let one : k.asked ≡ asked = same-some asked k.asked (sym opened ∙ k.is_kept) in (
           ap is_access (sym k.opcode_is) ∙ k.accesses,
           sym k.opcode_is ∙ ap (λ (r : Request). r.opcode) one,
           sym k.block_is ∙ ap (λ (r : Request). r.block) one,
@@ -134,7 +136,7 @@ module _ {w : ℕ} (levels : List Level) (width : IsWidth w) where
   )
 
   pub are-asked : (c s : ℕ) (asked : Request) (t : Trace w) → AreLegal levels t
-      → open_request s (on_link c t) ≡ Some asked → AreAsked c s asked (pending_accesses t)
+      → kept_request s (on_link c t) ≡ Some asked → AreAsked c s asked (pending_accesses t)
   are-asked c s asked t legal opened =
       asked-of c s asked t (pending_accesses t) (pending_accesses t) legal opened refl (are-first t)
 

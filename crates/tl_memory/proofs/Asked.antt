@@ -1,17 +1,24 @@
 -- What is kept of a block, with a beat with which an access to it is asked for.
-use Rattle.tl_memory.proofs.Imports.{Beat, BeatA, Link, Trace, on_link, block_at, Access, may_find, may_read}
+use Rattle.tl_memory.proofs.Imports.{Beat, BeatA, ends, Link, Trace, on_link, block_at, Access, may_find, may_read}
 use Rattle.tl_memory.proofs.Imports.{is_of, pending_accesses, KnowsBlock, AreRenewed, found_by, keeps, staying, BlockState}
 use Rattle.tl_memory.proofs.Imports.{PendingAccess, may_bring, AllWriteInside, AnyIsTo, AreKnown, is_to, KeepsFound, KnowsAccess}
 use Rattle.tl_memory.proofs.Imports.{KnowsAccesses, KnowsState, WritesInside, LeavesHeld, open_for}
 use Rattle.std.proofs.Common.{◌≡◌, ℕ, suc, Bool, true, false, ◌&&◌, ◌||◌, ◌+◌, ◌*◌, ◌/◌, ◌≤◌, List, [], ◌∷◌, length}
 use Rattle.std.proofs.Common.{refl, sym, ap, ap₂, subst, ◌∙◌, arith, inl, inr}
-use Rattle.std.specs.Prelude.{filter, find, None, Option, Some}
+use Rattle.std.specs.Prelude.{filter, find, if◌then◌else◌, is_some, None, Option, Some}
 use Rattle.std.proofs.lemmas.Bool.{cases_Bool, eq-eqb}
 use Rattle.std.proofs.Math.Nat.{mul-suc}
 use Rattle.tl_params.specs.declared.perm.Perm.{Perm}
 use Rattle.tl_rules.specs.statement.Windows.{needs}
 use Rattle.tl_bytes.specs.declared.{read_bytes.ReadBytes.ReadBytes, windows.WritingWindows.WritingWindows}
+use Rattle.tl_bytes.specs.statement.Early.{if_answered, is_outrun_of, reaches_byte, settled_by}
+unfoldable use Rattle.tl_bytes.specs.statement.Early.{outrun_accesses}
+use Rattle.tl_bytes.specs.statement.Bytes.{is_settled}
 use Rattle.tl_bytes.proofs.Since.{same_after}
+use Rattle.tl_memory.specs.code.Elsewhere.{LeavesOutrun}
+use Rattle.tl_memory.specs.statement.Known.{AllReachInside}
+use Rattle.tl_memory.proofs.Elsewhere.{outrun-stays}
+use Rattle.tl_memory.proofs.Bearing.{leaves-request, leaves-still}
 use Rattle.tl_bytes.specs.statement.{Known.KnowsWindows, Shown.is_window, Shown.shows}
 use Rattle.tl_bytes.specs.statement.Bytes.{is_put}
 use Rattle.tl_memory.specs.code.Taking.{AreContinued, none_shown, with_next}
@@ -106,7 +113,7 @@ first-access own admits writer windows n block access x t same same_windows is l
 pub grown-access : {w : ℕ} (old : BlockState w) (first own : PendingAccess w) (writer : Writer w) (n block : ℕ)
     (p q : Access w) (x : Link × Beat w) (t : Trace w) → KnowsState old n block t
     → KnowsAccess first (open_for old.free) n block p t
-    → IsGrown writer (found_by old.free old.bytes old.accesses.items) first own → IsAlike p q → IsWriter writer q
+    → IsGrown writer (found_by old.free old.bytes old.accesses.items old.outrun.items) first own → IsAlike p q → IsWriter writer q
     → IsLawful q → block_at q.request.address ≡ block → LeavesHeld block x t
     → shows block x.1 (on_link x.0.0 t) ≡ false
     → KnowsAccess own (open_for (none_shown old.free)) n block q (x ∷ t)
@@ -129,9 +136,9 @@ grown-access {w} old first own writer n block p q x t k one grown alike is lawfu
     renewed = record { writer = first.writer; windows = first.windows; read = own.read }
 
     kept : is_put p.request.opcode ≡ false → KeepsFound own.read false n block p t
-    kept other = found-kept n block old.free old.bytes old.accesses.items first renewed p t
+    kept other = found-kept n block old.free old.bytes old.accesses.items old.outrun.items first renewed p t
         (record { writer_is = refl; windows_are = refl; read_is = grown.read_is }) k.bytes_are k.accesses_are
-        one.asked_is other (one.found_is other)
+        k.outrun_are one.asked_is other (one.found_is other)
 
 -- the accesses with the one that is asked for
 asked-more : {w : ℕ} (admits : Perm → Bool) (n block : ℕ) (first : PendingAccess w) (more : List (PendingAccess w))
@@ -148,15 +155,15 @@ asked-more admits n block first more access left x t pending to inside all k are
 -- the block, which stays as free as it was
 pub asked-state : {w : ℕ} (old : BlockState w) (next : NextState w) (gone : Option (Link × ℕ)) (n block : ℕ)
     (first : PendingAccess w) (more : List (PendingAccess w)) (access : Access w) (x : Link × Beat w) (t : Trace w)
-    → KnowsState old n block t → next.bytes ≡ None → next.accesses.items ≡ first ∷ more
+    → KnowsState old n block t → next.bytes ≡ None → next.outrun ≡ None → next.accesses.items ≡ first ∷ more
     → pending_accesses (x ∷ t) ≡ access ∷ filter (keeps gone) (pending_accesses t)
     → is_to block access ≡ true → WritesInside access → LeavesHeld block x t
     → shows block x.1 (on_link x.0.0 t) ≡ false → KnowsBlock old.bytes n block (x ∷ t)
-    → KnowsAccess first (open_for (none_shown old.free)) n block access (x ∷ t)
-    → AreRenewed (found_by old.free old.bytes old.accesses.items) (staying gone old.accesses.items) more
+    → LeavesOutrun block x t → KnowsAccess first (open_for (none_shown old.free)) n block access (x ∷ t)
+    → AreRenewed (found_by old.free old.bytes old.accesses.items old.outrun.items) (staying gone old.accesses.items) more
     → KnowsState (with_next old next) n block (x ∷ t)
-asked-state {w} old next gone n block first more access x t k none items pending to inside same unshown bytes one
-    renewed = record {
+asked-state {w} old next gone n block first more access x t k none nothing items pending to inside same unshown bytes
+    leaves one renewed = record {
       bytes_are = rw none bytes;
       accesses_are = rw items (asked-more admits n block first more access (filter (keeps gone) (pending_accesses t)) x t
           pending to inside (inside-kept (keeps gone) (pending_accesses t) k.accesses_are.inside) one
@@ -164,8 +171,9 @@ asked-state {w} old next gone n block first more access x t k none items pending
           (sym (filters-swap (is_to block) (keeps gone) (pending_accesses t)))
           (settled-each n block x t admits more (filter (keeps gone) (filter (is_to block) (pending_accesses t)))
           (λ given. asked-window old n block given x t k same unshown) (free-kept n Perm.Trunk block x t same)
-          (copied-each n block old.free old.bytes old.accesses.items t k.bytes_are k.accesses_are gone
-          old.accesses.items more (filter (is_to block) (pending_accesses t)) k.accesses_are.accesses_are renewed))));
+          (copied-each n block old.free old.bytes old.accesses.items old.outrun.items t k.bytes_are k.accesses_are
+          k.outrun_are gone old.accesses.items more (filter (is_to block) (pending_accesses t)) k.accesses_are.accesses_are renewed))));
+      outrun_are = rw nothing (outrun-stays block old.outrun.items x t leaves k.outrun_are);
       free_is = λ given. hidden old.free given ∙ k.free_is given ∙ sym (free-kept n given block x t same);
       last_is = λ off. k.last_is off ∙ sym (last-kept n block x t (free-kept n Perm.Trunk block x t same)
           (sym (k.free_is Perm.Trunk) ∙ off));
@@ -173,3 +181,31 @@ asked-state {w} old next gone n block first more access x t k none items pending
   where
     admits : Perm → Bool
     admits = open_for (none_shown old.free)
+
+-- ---- a request that no answer outran
+
+none-found-so : {X : Type 0} (o : Option X) → is_some o ≡ false → o ≡ None
+none-found-so None e = refl
+none-found-so (Some x) e = absurd cc
+
+settles-nothing : {w : ℕ} (link : Link) (y : BeatA w) (t : Trace w)
+    → is_some (find (is_outrun_of link.0 y.source) (outrun_accesses t)) ≡ false
+    → settled_by link.0 (Beat.A y) (on_link link.0 t) (outrun_accesses t) ≡ None
+settles-nothing link y t none =
+    rw (none-found-so (find (is_outrun_of link.0 y.source) (outrun_accesses t)) none)
+    (either (ends (Beat.A y) (on_link link.0 t)))
+  where
+    either : (b : Bool) → (if b then if_answered None else None) ≡ None
+    either true = refl
+    either false = refl
+
+pub unsettled-asked : {w : ℕ} (link : Link) (y : BeatA w) (t : Trace w) (address : ℕ)
+    → is_some (find (is_outrun_of link.0 y.source) (outrun_accesses t)) ≡ false
+    → is_settled address (link, Beat.A y) t ≡ false
+unsettled-asked link y t address none = ap (reaches_byte address) (settles-nothing link y t none)
+
+pub leaves-asked : {w : ℕ} (block : ℕ) (link : Link) (y : BeatA w) (t : Trace w)
+    → is_some (find (is_outrun_of link.0 y.source) (outrun_accesses t)) ≡ false → AllReachInside (outrun_accesses t)
+    → LeavesOutrun block (link, Beat.A y) t
+leaves-asked block link y t none inside =
+    leaves-still block (link, Beat.A y) t (leaves-request link y t None (settles-nothing link y t none)) inside

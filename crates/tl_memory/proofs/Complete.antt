@@ -1,7 +1,7 @@
 -- What is known of an access that is asked for, where no beat of its link broke a rule.
 use Rattle.tl_memory.proofs.Imports.{Beat, BeatA, OpA, first_if, a_carries_data, IsWidth, MessageA, bit, data_beats}
 use Rattle.tl_memory.proofs.Imports.{reaches, History, burst_length, unfinished, Level, L1, L2, L3, base_of}
-use Rattle.tl_memory.proofs.Imports.{AreTyped, all_but_early, broken_after_under, is_legal_under, block_at, ends, a_has_param, a_has_size}
+use Rattle.tl_memory.proofs.Imports.{AreTyped, all_liberties, broken_after_under, is_legal_under, block_at, ends, a_has_param, a_has_size}
 use Rattle.tl_memory.proofs.Imports.{a_of_level, base_in_memory, asked_by, is_access, writes, AreWide, WritesInside}
 use Rattle.tl_bytes.specs.statement.Bytes.{asks, is_put}
 use Rattle.std.proofs.Common.{◌≡◌, ℕ, zero, suc, Bool, true, false, not, ◌||◌, ◌+◌, ◌*◌, ◌/◌, ◌%◌, ◌^◌, ◌<◌, ◌≤◌, List, ◌∷◌}
@@ -138,7 +138,7 @@ put_inside {w} m x is put written room =
         → x / 64 ≡ address / 64
     in_same_block address x base place e lt = omega (arith, e, lt)
 
-reached_inside : (address size x : ℕ) → size ≤ 6 → is_aligned address size ≡ true → reaches address size x ≡ true
+pub reached_inside : (address size x : ℕ) → size ≤ 6 → is_aligned address size ≡ true → reaches address size x ≡ true
     → x / 64 ≡ address / 64
 reached_inside address size x le aligned reached =
     let both = and_parts (nat_le address x) (nat_lt x (address + 2 ^ size)) reached in
@@ -150,8 +150,8 @@ reached_inside address size x le aligned reached =
 -- ---- an access that is asked for
 
 module _ {w : ℕ} (l : Level) (link : ℕ) (x : BeatA w) (t : History w) (moment : ℕ) (is : IsWidth w)
-    (typed : AreTyped (Beat.A x ∷ unfinished Channel.A t)) (legal : is_legal_under all_but_early l t ≡ true)
-    (fine : broken_after_under all_but_early l (Beat.A x) t ≡ None) where
+    (typed : AreTyped (Beat.A x ∷ unfinished Channel.A t)) (legal : is_legal_under all_liberties l t ≡ true)
+    (fine : broken_after_under all_liberties l (Beat.A x) t ≡ None) where
   abbrev burst : List (Beat w)
   burst = Beat.A x ∷ unfinished Channel.A t
 

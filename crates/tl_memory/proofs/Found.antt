@@ -2,13 +2,17 @@
 use Rattle.tl_memory.proofs.Imports.{Link, Beat, Trace, on_link, is_free, Access, may_find}
 use Rattle.tl_memory.proofs.Imports.{KnowsBlock, may_bring, PendingAccess, IsAsked, KnowsAccesses, Freedom}
 use Rattle.tl_memory.proofs.Imports.{IsRenewed, found_by, free_for, freedom, open_for, KeepsFound}
-use Rattle.std.proofs.Common.{◌≡◌, ℕ, zero, suc, Bool, true, false, ◌&&◌, ◌||◌, ◌+◌, ◌*◌, ◌/◌, ◌<◌, ◌≤◌, ◌∷◌, length}
+use Rattle.std.proofs.Common.{◌≡◌, ℕ, zero, suc, Bool, true, false, ◌&&◌, ◌||◌, ◌+◌, ◌*◌, ◌/◌, ◌<◌, ◌≤◌, ◌∷◌, ◌++◌, length}
 use Rattle.std.proofs.Common.{refl, sym, ap, ap₂, ◌∙◌, arith, List}
 use Rattle.tl_params.specs.declared.perm.Perm.{Perm}
 use Rattle.tl_rules.specs.statement.{Conformance.same_perm, Windows.needs}
 use Rattle.tl_bytes.{specs.declared.block_bytes.BlockBytes.BlockBytes, specs.declared.read_bytes.ReadBytes.ReadBytes}
 use Rattle.tl_bytes.{specs.code.Tellings.left_as, specs.statement.Known.tellings_of}
 use Rattle.tl_bytes.specs.statement.{Bytes.is_put, Bytes.told_as, Shown.is_window, Shown.shows}
+use Rattle.tl_memory.specs.code.Writers.{writes_outrun}
+use Rattle.tl_memory.specs.declared.early.OutrunAccess.{OutrunAccess}
+use Rattle.tl_memory.specs.statement.Known.{KnowsOutrun}
+unfoldable use Rattle.tl_bytes.specs.statement.Early.{outrun_accesses}
 use Rattle.tl_bytes.proofs.Reading.{find-is, nothing-yet, read-next}
 use Rattle.tl_memory.{specs.code.Taking.none_shown, specs.code.Writers.writes_but, proofs.Writing.others-may-write}
 
@@ -65,18 +69,20 @@ freedom-is n block Perm.None x t = sym (none-free n block (x ∷ t))
 
 -- it is kept before the block changes
 pub found-kept : {w : ℕ} (n block : ℕ) (free : Freedom) (bytes : BlockBytes) (pending : List (PendingAccess w))
-    (old new : PendingAccess w) (access : Access w) (t : Trace w) → IsRenewed (found_by free bytes pending) old new
-    → KnowsBlock bytes n block t → KnowsAccesses pending (open_for free) n block t t → IsAsked old.writer.asked access
+    (outrun : List OutrunAccess) (old new : PendingAccess w) (access : Access w) (t : Trace w)
+    → IsRenewed (found_by free bytes pending outrun) old new
+    → KnowsBlock bytes n block t → KnowsAccesses pending (open_for free) n block t t
+    → KnowsOutrun outrun block (outrun_accesses t) → IsAsked old.writer.asked access
     → is_put access.request.opcode ≡ false
     → KeepsFound old.read (open_for free (needs access.request.opcode)) n block access t
     → KeepsFound new.read false n block access t
-found-kept n block free bytes pending old new access t r known all asked other found p v lt =
+found-kept n block free bytes pending outrun old new access t r known all out asked other found p v lt =
     let a = 64 * block + p in
     let admitted = open_for free (needs access.request.opcode) in
-    let writes = writes_but old.writer.asked.link.0 old.writer.asked.request.source pending in
+    let writes = writes_but old.writer.asked.link.0 old.writer.asked.request.source pending ++ writes_outrun outrun in
     found p v lt ∙ turned (admitted && may_find n access t a v) (may_bring old.read p v)
     ∙ ap (λ b. may_bring old.read p v || (admitted && b)) (sym (find-is n block access t bytes writes p v known
-    (others-may-write n block old.writer.asked access t pending asked all) lt))
+    (others-may-write n block old.writer.asked access t pending outrun asked all out) lt))
     ∙ ap (λ o. may_bring old.read p v || (open_for free (needs o)
     && (told_as v (tellings_of bytes p) || left_as p v writes))) (sym asked.opcode_is)
     ∙ sym (r.read_is (ap is_put asked.opcode_is ∙ other) p v lt)

@@ -48,4 +48,4 @@ unfoldable pub use Rattle.tl_rules.specs.statement.Liberties.{broken_after_under
 pub use Rattle.tl_rules.specs.statement.History.{begins, block_at, ends, is_grant, is_release_ack}
 unfoldable pub use Rattle.tl_rules.specs.statement.History.{request_of}
 pub use Rattle.tl_rules.specs.statement.Legality.{a_has_param, a_has_size, a_of_level}
-unfoldable pub use Rattle.tl_bytes.specs.statement.Free.{all_but_early, is_free}
+unfoldable pub use Rattle.tl_bytes.specs.statement.Free.{all_liberties, is_free}

@@ -11,6 +11,9 @@ use Rattle.std.{proofs.lemmas.Slice.Zip.all_zipped_more, proofs.Math.ListN.drop_
 use Rattle.tl_params.specs.declared.perm.Perm.{Perm}
 use Rattle.tl_rules.specs.statement.Windows.{needs}
 use Rattle.tl_bytes.{specs.declared.block_bytes.BlockBytes.BlockBytes, specs.statement.Shown.is_window}
+use Rattle.tl_memory.specs.declared.early.OutrunAccess.{OutrunAccess}
+use Rattle.tl_memory.specs.statement.Known.{KnowsOutrun}
+unfoldable use Rattle.tl_bytes.specs.statement.Early.{outrun_accesses}
 use Rattle.tl_bytes.proofs.Since.{same_after}
 use Rattle.tl_memory.specs.code.Writers.{AreWatched, is_named, picked, stays}
 use Rattle.tl_memory.proofs.{Found.found-kept, Found.found-settled, Writing.named, Writing.one_kept, Writing.one_left}
@@ -151,10 +154,11 @@ module _ {w : ℕ} (gone : Option (Link × ℕ)) (more : PendingAccess w → ℕ
   copied-left i xs copies x are is lt off =
       rw (← one_left (stays gone) (λ x. x) i xs x x is lt off) are
 
-module _ {w : ℕ} (n block : ℕ) (free : Freedom) (bytes : BlockBytes) (all : List (PendingAccess w)) (t : Trace w)
-    (known : KnowsBlock bytes n block t) (k : KnowsAccesses all (open_for free) n block t t) where
+module _ {w : ℕ} (n block : ℕ) (free : Freedom) (bytes : BlockBytes) (all : List (PendingAccess w))
+    (outrun : List OutrunAccess) (t : Trace w) (known : KnowsBlock bytes n block t)
+    (k : KnowsAccesses all (open_for free) n block t t) (out : KnowsOutrun outrun block (outrun_accesses t)) where
   -- a copy has what the access may have found
-  pub kept-one : (old new : PendingAccess w) (access : Access w) → IsRenewed (found_by free bytes all) old new
+  pub kept-one : (old new : PendingAccess w) (access : Access w) → IsRenewed (found_by free bytes all outrun) old new
       → KnowsAccess old (open_for free) n block access t → KnowsAccess new closed n block access t
   kept-one old new access r one = record {
     asked_is = rw r.writer_is one.asked_is;
@@ -162,15 +166,15 @@ module _ {w : ℕ} (n block : ℕ) (free : Freedom) (bytes : BlockBytes) (all : 
     write_is = rw r.writer_is one.write_is;
     before = one.before;
     windows_are = rw r.windows_are one.windows_are;
-    found_is = λ other. found-kept n block free bytes all old new access t r known k one.asked_is other
+    found_is = λ other. found-kept n block free bytes all outrun old new access t r known k out one.asked_is other
         (one.found_is other);
   }
 
   copied-step : (b c : Bool) (z : PendingAccess w) (rest new : List (PendingAccess w))
       (y : Access w) (accesses : List (Access w)) → b ≡ c
-      → AreRenewed (found_by free bytes all) (if b then z ∷ rest else rest) new
+      → AreRenewed (found_by free bytes all outrun) (if b then z ∷ rest else rest) new
       → KnowsAccess z (open_for free) n block y t → ((more : List (PendingAccess w))
-      → AreRenewed (found_by free bytes all) rest more → AreKnown more closed n block accesses t)
+      → AreRenewed (found_by free bytes all outrun) rest more → AreKnown more closed n block accesses t)
       → AreKnown new closed n block (if c then y ∷ accesses else accesses) t
   copied-step true true z rest [] y accesses e copied one more = absurd copied
   copied-step true true z rest (first ∷ new) y accesses e copied one more =
@@ -181,7 +185,7 @@ module _ {w : ℕ} (n block : ℕ) (free : Freedom) (bytes : BlockBytes) (all : 
   -- the copies of those that stay
   pub copied-each : (gone : Option (Link × ℕ)) (old new : List (PendingAccess w)) (accesses : List (Access w))
       → AreKnown old (open_for free) n block accesses t
-      → AreRenewed (found_by free bytes all) (staying gone old) new
+      → AreRenewed (found_by free bytes all outrun) (staying gone old) new
       → AreKnown new closed n block (filter (keeps gone) accesses) t
   unfolding picked
   copied-each gone [] [] [] are copied = tt

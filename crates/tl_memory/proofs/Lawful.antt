@@ -1,6 +1,6 @@
 -- What is known of a beat that breaks no rule after those before it on its link.
 use Rattle.tl_memory.proofs.Imports.{Beat, BeatA, OpA, first_if, IsWidth, History, breaks_burst, channel_of, unfinished}
-use Rattle.tl_memory.proofs.Imports.{is_empty, is_small, Level, L1, L2, L3, all_but_early, broken_after_under, is_legal_under, begins}
+use Rattle.tl_memory.proofs.Imports.{is_empty, is_small, Level, L1, L2, L3, all_liberties, broken_after_under, is_legal_under, begins}
 use Rattle.tl_memory.proofs.Imports.{a_has_param, a_has_size, a_of_level}
 use Rattle.std.proofs.Common.{◌≡◌, ℕ, Bool, true, false, ◌||◌, ◌^◌, ◌<◌, ◌≤◌, List, [], ◌∷◌, Option, Some, None, refl}
 use Rattle.std.proofs.Common.{sym, ◌∙◌, arith}
@@ -23,43 +23,43 @@ none_is : {X : Type 0} (o : Option X) → is_none o ≡ true → o ≡ None
 none_is None e = refl
 none_is (Some x) e = absurd cc
 
-pub legal-parts : {w : ℕ} (l : Level) (x : Beat w) (t : History w) → is_legal_under all_but_early l (x ∷ t) ≡ true
-    → (broken_after_under all_but_early l x t ≡ None) × (is_legal_under all_but_early l t ≡ true)
+pub legal-parts : {w : ℕ} (l : Level) (x : Beat w) (t : History w) → is_legal_under all_liberties l (x ∷ t) ≡ true
+    → (broken_after_under all_liberties l x t ≡ None) × (is_legal_under all_liberties l t ≡ true)
 unfolding is_legal_under
 legal-parts l x t e =
-    let both = and_parts (is_none (broken_after_under all_but_early l x t)) (is_legal_under all_but_early l t) e in
-    (none_is (broken_after_under all_but_early l x t) both.0, both.1)
+    let both = and_parts (is_none (broken_after_under all_liberties l x t)) (is_legal_under all_liberties l t) e in
+    (none_is (broken_after_under all_liberties l x t) both.0, both.1)
 
-both_given : {w : ℕ} (o : Option Rule) (x : Beat w) (t : History w) → broken_given_under all_but_early o x t ≡ None
-    → (o ≡ None) × (broken_in_order_under all_but_early x t ≡ None)
+both_given : {w : ℕ} (o : Option Rule) (x : Beat w) (t : History w) → broken_given_under all_liberties o x t ≡ None
+    → (o ≡ None) × (broken_in_order_under all_liberties x t ≡ None)
 both_given None x t e = (refl, e)
 both_given (Some r) x t e = absurd cc
 
-pub by_itself : {w : ℕ} (l : Level) (x : Beat w) (t : History w) → broken_after_under all_but_early l x t ≡ None
-    → illegal_under all_but_early l (channel_of x) x ≡ None
+pub by_itself : {w : ℕ} (l : Level) (x : Beat w) (t : History w) → broken_after_under all_liberties l x t ≡ None
+    → illegal_under all_liberties l (channel_of x) x ≡ None
 unfolding broken_after_under
-by_itself l x t e = (both_given (illegal_under all_but_early l (channel_of x) x) x t e).0
+by_itself l x t e = (both_given (illegal_under all_liberties l (channel_of x) x) x t e).0
 
-in_order : {w : ℕ} (l : Level) (x : Beat w) (t : History w) → broken_after_under all_but_early l x t ≡ None
-    → broken_in_order_under all_but_early x t ≡ None
+in_order : {w : ℕ} (l : Level) (x : Beat w) (t : History w) → broken_after_under all_liberties l x t ≡ None
+    → broken_in_order_under all_liberties x t ≡ None
 unfolding broken_after_under
-in_order l x t e = (both_given (illegal_under all_but_early l (channel_of x) x) x t e).1
+in_order l x t e = (both_given (illegal_under all_liberties l (channel_of x) x) x t e).1
 
 -- it goes on as the burst that is unfinished
-pub goes_on : {w : ℕ} (l : Level) (x : Beat w) (t : History w) → broken_after_under all_but_early l x t ≡ None
+pub goes_on : {w : ℕ} (l : Level) (x : Beat w) (t : History w) → broken_after_under all_liberties l x t ≡ None
     → breaks_burst x (unfinished (channel_of x) t) ≡ false
 goes_on {w} l x t e = go (unfinished (channel_of x) t) (in_order l x t e)
   where
     go : (burst : List (Beat w))
-        → (if is_empty burst then broken_order_under all_but_early x t else first_if (breaks_burst x burst) S1 None) ≡ None
+        → (if is_empty burst then broken_order_under all_liberties x t else first_if (breaks_burst x burst) S1 None) ≡ None
         → breaks_burst x burst ≡ false
     go [] e = refl
     go (y ∷ burst) e = (next_rule (breaks_burst x (y ∷ burst)) S1 None e).0
 
 -- where it is the first, it breaks no rule of the order
-pub begun_in_order : {w : ℕ} (l : Level) (x : Beat w) (t : History w) → broken_after_under all_but_early l x t ≡ None
-    → begins x t ≡ true → broken_order_under all_but_early x t ≡ None
-begun_in_order {w} l x t e first = go (broken_order_under all_but_early x t) _ (begins x t) first (in_order l x t e)
+pub begun_in_order : {w : ℕ} (l : Level) (x : Beat w) (t : History w) → broken_after_under all_liberties l x t ≡ None
+    → begins x t ≡ true → broken_order_under all_liberties x t ≡ None
+begun_in_order {w} l x t e first = go (broken_order_under all_liberties x t) _ (begins x t) first (in_order l x t e)
   where
     go : (o rest : Option Rule) (b : Bool) → b ≡ true → (if b then o else rest) ≡ None → o ≡ None
     go o rest true e h = h
@@ -93,12 +93,12 @@ pub record IsRequest (w : ℕ) (l : Level) (opcode : OpA) (param size address ma
 
 -- no liberty changes the rules of a request by itself
 request_alone : {w : ℕ} (l : Level) (x : BeatA w)
-    → illegal_under all_but_early l Channel.A (Beat.A x) ≡ illegal l Channel.A (Beat.A x)
+    → illegal_under all_liberties l Channel.A (Beat.A x) ≡ illegal l Channel.A (Beat.A x)
 unfolding illegal illegal_under
 request_alone l x = refl
 
 pub is-request : {w : ℕ} (l : Level) (x : BeatA w) → IsWidth w
-    → illegal_under all_but_early l Channel.A (Beat.A x) ≡ None
+    → illegal_under all_liberties l Channel.A (Beat.A x) ≡ None
     → IsRequest w l x.opcode x.param x.size x.address x.mask
 is-request {w} l x is e =
     let parts = both_none (a_control w l x.opcode x.param x.size x.address)
@@ -118,20 +118,20 @@ is-request {w} l x is e =
       small = request_small w x.size l x.opcode is sized;
     }
 
-of_size : {w : ℕ} (l : Level) (x : Beat w) → illegal_under all_but_early l (channel_of x) x ≡ None
+of_size : {w : ℕ} (l : Level) (x : Beat w) → illegal_under all_liberties l (channel_of x) x ≡ None
     → breaks_l3 l x ≡ false
 unfolding illegal_under
 of_size l x e =
     let one = next_rule (breaks_l1 l (channel_of x) x) L1 _ e in
     let seven = next_rule (breaks_l7 x) L7 _ one.1 in
-    let two = next_rule (breaks_l2_under all_but_early x) L2 _ seven.1 in
+    let two = next_rule (breaks_l2_under all_liberties x) L2 _ seven.1 in
     (next_rule (breaks_l3 l x) L3 _ two.1).0
 
 block_small : (size : ℕ) → not (size == 6) ≡ false → size ≤ 6
 block_small size e = let h = eqb-true size 6 (not-false (size == 6) e) in omega (arith, h)
 
 -- a message may have its size
-pub small : {w : ℕ} (l : Level) (x : Beat w) → IsWidth w → illegal_under all_but_early l (channel_of x) x ≡ None
+pub small : {w : ℕ} (l : Level) (x : Beat w) → IsWidth w → illegal_under all_liberties l (channel_of x) x ≡ None
     → is_small x ≡ true
 small l (Beat.A x) is e = le-leb x.size 6 (is-request l x is e).small
 small l (Beat.B x) is e = le-leb x.size 6 (block_small x.size (of_size l (Beat.B x) e))

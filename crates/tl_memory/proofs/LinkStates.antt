@@ -1,5 +1,5 @@
 -- What is kept of a link, with one more beat of any link.
-use Rattle.tl_memory.proofs.Imports.{Beat, BeatD, Link, on, unfinished, Level, base_of, Trace, IsLegal}
+use Rattle.tl_memory.proofs.Imports.{IsWidth, Beat, BeatD, Link, on, unfinished, Level, base_of, Trace, IsLegal}
 use Rattle.tl_memory.proofs.Imports.{on_link, begins, block_at, Access, KnowsGrant, Expected, LinkState}
 use Rattle.tl_memory.proofs.Imports.{ExpectsResponse, Expects, is_to, AreLegal, KnowsLink}
 use Rattle.std.proofs.Common.{◌≡◌, ℕ, Bool, true, false, ◌+◌, ◌*◌, ◌≤◌, List, [], ◌∷◌, length, Option, Some, None, refl}
@@ -49,15 +49,15 @@ link-first s n link messages = record {
 }
 
 -- of another link
-pub link-elsewhere : {w : ℕ} (levels : List Level) (s : LinkState) (n c : ℕ) (x : Link × Beat w)
+pub link-elsewhere : {w : ℕ} (levels : List Level) (is : IsWidth w) (s : LinkState) (n c : ℕ) (x : Link × Beat w)
     (t : Trace w) → AreLegal levels t → IsLegal levels x t → (x.0.0 ≡ c → ⊥) → KnowsLink s n c t
     → KnowsLink s n c (x ∷ t)
-link-elsewhere levels s n c x t legal fine other k = record {
+link-elsewhere levels is s n c x t legal fine other k = record {
   messages_are = subst (λ h. KnowsMessages s.messages h) (sym (other-link c x t other)) k.messages_are;
-  expected_is = expected-off levels c n x t legal fine s.expected k.expected_is (λ own. absurd (other own));
+  expected_is = expected-off levels is c n x t legal fine s.expected k.expected_is (λ own. absurd (other own));
 }
 
-module _ {w : ℕ} (levels : List Level) (old new : LinkState) (n : ℕ) (link : Link) (x : Beat w)
+module _ {w : ℕ} (levels : List Level) (width : IsWidth w) (old new : LinkState) (n : ℕ) (link : Link) (x : Beat w)
     (t : Trace w)
     (k : KnowsLink old n link.0 t) (legal : AreLegal levels t) (fine : IsLegal levels (link, x) t)
     (messages : KnowsMessages new.messages (x ∷ on_link link.0 t)) where
@@ -71,7 +71,7 @@ module _ {w : ℕ} (levels : List Level) (old new : LinkState) (n : ℕ) (link :
   pub link-other : ((y : BeatD w) → x ≡ Beat.D y → ⊥) → new.expected ≡ old.expected
       → KnowsLink new n link.0 ((link, x) ∷ t)
   link-other other same = known (subst (λ e. KnowsExpected e n link.0 ((link, x) ∷ t)) (sym same)
-      (expected-off levels link.0 n (link, x) t legal fine old.expected k.expected_is (λ own. off x other)))
+      (expected-off levels width link.0 n (link, x) t legal fine old.expected k.expected_is (λ own. off x other)))
     where
       off : (b : Beat w) → ((y : BeatD w) → b ≡ Beat.D y → ⊥) → on Channel.D b ≡ false
       off (Beat.D y) other = absurd (other y refl)
@@ -85,7 +85,7 @@ module _ {w : ℕ} (levels : List Level) (old new : LinkState) (n : ℕ) (link :
   link-begins y begun is same none first = known
       (subst (λ v. KnowsExpected new.expected n link.0 ((link, v) ∷ t)) (sym is)
       (subst (λ e. KnowsExpected e n link.0 ((link, Beat.D y) ∷ t)) (sym same)
-      (expected-on levels link n y t legal fine_d begun
+      (expected-on levels link n y t legal fine_d width begun
       (expects-begun levels link n y t legal fine_d begun first none))))
     where
       fine_d : IsLegal levels (link, Beat.D y) t
@@ -97,7 +97,7 @@ module _ {w : ℕ} (levels : List Level) (old new : LinkState) (n : ℕ) (link :
   link-goes_on y is same some = known
       (subst (λ v. KnowsExpected new.expected n link.0 ((link, v) ∷ t)) (sym is)
       (subst (λ e. KnowsExpected e n link.0 ((link, Beat.D y) ∷ t)) (sym same)
-      (expected-on levels link n y t legal fine_d old.expected
+      (expected-on levels link n y t legal fine_d width old.expected
       (expects-later levels link n y t legal fine_d old.expected k.expected_is some))))
     where
       fine_d : IsLegal levels (link, Beat.D y) t

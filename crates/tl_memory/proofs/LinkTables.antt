@@ -1,5 +1,5 @@
 -- What is known of all links, with one more beat.
-use Rattle.tl_memory.proofs.Imports.{Beat, Link, Level, Trace, IsLegal, LinkState, AreLegal, KnowsLink}
+use Rattle.tl_memory.proofs.Imports.{IsWidth, Beat, Link, Level, Trace, IsLegal, LinkState, AreLegal, KnowsLink}
 use Rattle.std.proofs.Common.{◌≡◌, ℕ, suc, zero, pred, List, [], ◌∷◌, ◌++◌, ◌<◌, ◌⊎◌, length, inl, inr, refl, sym, ap}
 use Rattle.std.proofs.Common.{◌∙◌, Some, None, slice_get, slice_set, arith}
 use Rattle.std.proofs.lemmas.List.{length-set}
@@ -68,16 +68,16 @@ state-there levels l x t k fine none = elim (slice_get_cases l.states.items x.0.
   | inr past ↦ absurd (omega (arith, link-there _ levels x t fine, past.0, k.count_is))
 ]
 
-pub links-taken : {w : ℕ} (levels : List Level) (l new : Links) (old next : LinkState) (n : ℕ)
+pub links-taken : {w : ℕ} (levels : List Level) (is : IsWidth w) (l new : Links) (old next : LinkState) (n : ℕ)
     (link : Link) (x : Beat w) (t : Trace w)
     → new.states.items ≡ slice_set l.states.items link.0 next → slice_get l.states.items link.0 ≡ Some old
     → AreLegal levels t → IsLegal levels (link, x) t → KnowsLinks l n t
     → (KnowsLink old n link.0 t → KnowsLink next n link.0 ((link, x) ∷ t)) → KnowsLinks new n ((link, x) ∷ t)
-links-taken levels l new old next n link x t set there legal fine k taken = record {
+links-taken levels is l new old next n link x t set there legal fine k taken = record {
   count_is = ap length set ∙ length-set l.states.items link.0 next ∙ k.count_is;
   states_are = λ c s e. elim (found-set l.states.items link.0 c next s (rw set at e)) [
     | inl here ↦ rw (here.0, here.1) (taken (k.states_are link.0 old there))
-    | inr apart ↦ link-elsewhere levels s n c (link, x) t legal fine (λ own. apart.0 (sym own))
+    | inr apart ↦ link-elsewhere levels is s n c (link, x) t legal fine (λ own. apart.0 (sym own))
         (k.states_are c s apart.1)
   ];
 }

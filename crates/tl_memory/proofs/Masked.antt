@@ -48,7 +48,7 @@ reach-bit : (size address p : ℕ) → (size ≡ 2) ⊎ (size ≡ 3) → address
 reach-bit size address p (inl two) room = rw two (ones-bit (address % 64) 4 p (rw two at room))
 reach-bit size address p (inr three) room = rw three (ones-bit (address % 64) 8 p (rw three at room))
 
-in-place : (address n p : ℕ) → (nat_le (address % 64) p && nat_lt p (address % 64 + n))
+pub in-place : (address n p : ℕ) → (nat_le (address % 64) p && nat_lt p (address % 64 + n))
     ≡ (nat_le address (64 * (address / 64) + p) && nat_lt (64 * (address / 64) + p) (address + n))
 in-place address n p = elim (cases_lt p (address % 64)) [
   | inl below ↦ rw (

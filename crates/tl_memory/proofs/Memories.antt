@@ -1,8 +1,8 @@
 -- What is known of the bytes of memory, with one more beat.
-use Rattle.tl_memory.proofs.Imports.{Beat, BeatA, BeatD, Link, IsWidth, History, Level, open_request}
+use Rattle.tl_memory.proofs.Imports.{Beat, BeatA, BeatD, Link, IsWidth, History, Level}
 use Rattle.tl_memory.proofs.Imports.{request_fields, Request, IsTyped, Trace, IsLegal, on_link, begins}
-use Rattle.tl_memory.proofs.Imports.{is_release_ack, request_of, pending_accesses, PassesBy, block_asked}
-use Rattle.tl_memory.proofs.Imports.{block_borne, IsLegalBeat, Expected, LinkState, ExpectsResponse, AllWriteInside}
+use Rattle.tl_memory.proofs.Imports.{is_release_ack, request_of, PassesBy}
+use Rattle.tl_memory.proofs.Imports.{block_borne, IsLegalBeat, Expected, LinkState, ExpectsResponse}
 use Rattle.tl_memory.proofs.Imports.{AreLegal, ExpectsLater, Freedom, KnowsLink, OpD, freedom}
 use Rattle.tl_bytes.specs.statement.Free.{is_free}
 use Rattle.tl_memory.specs.statement.Known.{free_for}
@@ -10,15 +10,27 @@ use Rattle.tl_params.specs.declared.perm.Perm.{Perm}
 use Rattle.std.proofs.Common.{◌≡◌, ℕ, zero, suc, Bool, true, false, ◌&&◌, ◌∷◌, ◌^◌, ◌<◌, ◌/◌, List, [], Option, Some}
 use Rattle.std.proofs.Common.{None, length}
 use Rattle.std.proofs.Common.{refl, sym, ap, ◌∙◌, arith, inl, inr}
+use Rattle.std.proofs.Common.{not, ◌||◌, subst}
 use Rattle.std.{specs.Prelude.if◌then◌else◌, specs.Prelude.◌==◌, specs.Prelude.option_map, proofs.lemmas.Bool.eqb-false}
+use Rattle.std.proofs.lemmas.Bool.{eq-eqb}
+use Rattle.tl_rules.specs.code.Tables.{kept_request}
+use Rattle.tl_rules.specs.statement.History.{asks_for}
+use Rattle.tl_rules.proofs.Open.{not_release_ack}
+use Rattle.tl_memory.specs.code.Elsewhere.{IsConcerned}
+use Rattle.tl_memory.specs.code.Passing.{passes_by}
+use Rattle.tl_memory.specs.statement.Known.{AreInside}
+use Rattle.tl_memory.proofs.{BlockAnswers.asked-first, Borne.response-there}
 use Rattle.std.proofs.lemmas.Option.{none-some, same_Some, slice_get_cases}
 use Rattle.tl_memory.specs.code.Changing.{ExpectsAlong, ExpectsBegun, IsBorne, IsChange, KnowsFree}
-use Rattle.tl_memory.specs.code.{Passing.changes_held, Passing.is_answer_data, Taking.IsSeen}
+use Rattle.tl_memory.specs.code.{Passing.changes_held, Passing.is_answer, Taking.IsSeen}
 use Rattle.tl_memory.specs.declared.links.Links.{Links}
 use Rattle.tl_memory.{specs.declared.memory.Change.Change, specs.declared.memory.Memory.Memory}
 use Rattle.tl_memory.{specs.statement.Links.KnowsLinks, specs.statement.Memory.AreAddressed}
 use Rattle.tl_memory.{specs.statement.Memory.IsAddressed, proofs.Beginning.none-begun, proofs.Borne.passes}
 use Rattle.tl_memory.{proofs.LegalBeats.legal-beat, proofs.LinkTables.link-there, proofs.PassedBy.none-later}
+
+true_false : {X : Type 0} → true ≡ false → X
+true_false e = absurd cc
 
 -- ---- the blocks of requests
 
@@ -49,9 +61,9 @@ requests_addressed {w} s link (x ∷ t) y all e =
     go true before e = request_addressed s x.1 (on_link link t) y all.0 before e
     go false before e = before e
 
--- the block of an open request has a number of 26 bits
+-- the block of a request that is kept has a number of 26 bits
 pub block-small : {w : ℕ} (s link : ℕ) (asked : Request) (t : Trace w) → AreAddressed t
-    → open_request s (on_link link t) ≡ Some asked → asked.block < 2 ^ 26
+    → kept_request s (on_link link t) ≡ Some asked → asked.block < 2 ^ 26
 block-small {w} s link asked t all e =
     go _ (request_of s (on_link link t)) (λ y is. requests_addressed s link t y all is) e
   where
@@ -70,7 +82,7 @@ module _ {w : ℕ} (levels : List Level) (link : Link) (x : Beat w) (t : Trace w
     (legal : AreLegal levels t) (fine : IsLegal levels (link, x) t) where
   pub beat-legal : (s : LinkState) (n : ℕ) → KnowsLink s n link.0 t
       → ((y : BeatA w) → x ≡ Beat.A y → IsTyped (Beat.A y)) → IsLegalBeat link.0 x t
-  beat-legal s n k typed = legal-beat levels link t is legal x (λ y e. (typed y e, k.messages_are.typed)) fine
+  beat-legal s n k typed = legal-beat levels link t is legal s.messages k.messages_are x typed fine
 
   pub links-legal : (l : Links) → KnowsLinks l (length levels) t
       → ((y : BeatA w) → x ≡ Beat.A y → IsTyped (Beat.A y)) → IsLegalBeat link.0 x t
@@ -80,7 +92,7 @@ module _ {w : ℕ} (levels : List Level) (link : Link) (x : Beat w) (t : Trace w
   ]
 
 -- each block is left as it is but that on which the beat bears
-pub is-borne : {w : ℕ} (own : Option ℕ) (link : Link) (x : Beat w) (t : Trace w) → AllWriteInside (pending_accesses t)
+pub is-borne : {w : ℕ} (own : Option ℕ) (link : Link) (x : Beat w) (t : Trace w) → AreInside t
     → IsLegalBeat link.0 x t → block_borne x (on_link link.0 t) ≡ own → IsBorne own (link, x) t
 is-borne own link x t inside legal borne block other = passes block link x t inside legal (λ e. other (sym borne ∙ e))
 
@@ -102,12 +114,12 @@ none-expected {w} link x n t legal borne = (
   λ y is later. (go y (is_release_ack y.opcode) refl (rw is at legal) (rw is at borne)).1,
 )
   where
-    release-alone : (opcode : OpD) → is_release_ack opcode ≡ true → is_answer_data opcode ≡ false
-    release-alone OpD.AccessAckData e = absurd cc
-    release-alone v e = refl
+    release-alone : (opcode : OpD) → is_release_ack opcode ≡ true → is_answer opcode ≡ false
+    release-alone OpD.ReleaseAck e = refl
+    release-alone v e = absurd cc
 
     go : (y : BeatD w) (release : Bool) → is_release_ack y.opcode ≡ release → IsLegalBeat link.0 (Beat.D y) t
-        → (if release then None else block_asked (open_request y.source (on_link link.0 t))) ≡ None
+        → block_borne (Beat.D y) (on_link link.0 t) ≡ None
         → ExpectsResponse None n link.0 y.opcode y.source t t × ExpectsLater None n link.0 y.opcode y.source t
     go y true e legal borne = (
       none-begun y.opcode n link.0 y.source t
@@ -116,8 +128,38 @@ none-expected {w} link x n t legal borne = (
       none-later y.opcode n link.0 y.source t (release-alone y.opcode e),
     )
     go y false e legal borne =
-        let one = legal e in
-        absurd (none-some one.0.block (sym borne ∙ ap block_asked one.1.asked_is))
+        let one = legal.answer e in
+        absurd (none-some one.0.block (sym borne ∙ response-there link.0 y one.0 t one.1 e))
+
+-- a beat that bears on this block, or on none, is of a Grant of it if one begins with it
+pub is-concerned : {w : ℕ} (link : Link) (x : Beat w) (own : Option ℕ) (t : Trace w) → IsLegalBeat link.0 x t
+    → block_borne x (on_link link.0 t) ≡ own → IsConcerned own x (on_link link.0 t)
+is-concerned link (Beat.D y) own t legal borne = λ first grant.
+    let bare = not_release_ack y.opcode grant in
+    let one = legal.answer bare in
+    let request = asked-first y.source (on_link link.0 t) one.0 one.1.kept in (
+      one.0.block,
+      sym borne ∙ response-there link.0 y one.0 t one.1 bare,
+      ap (asks_for one.0.block) request.1 ∙ eq-eqb (request.0.address / 64) one.0.block request.2,
+    )
+is-concerned link (Beat.A y) own t legal borne = tt
+is-concerned link (Beat.B y) own t legal borne = tt
+is-concerned link (Beat.C y) own t legal borne = tt
+is-concerned link (Beat.E y) own t legal borne = tt
+
+-- no Grant begins with a beat that passes each block by
+pub passing-concerned : {w : ℕ} (link : Link) (x : Beat w) (t : Trace w) → passes_by x (on_link link.0 t) ≡ true
+    → IsConcerned None x (on_link link.0 t)
+passing-concerned link (Beat.D y) t passing = λ first grant.
+    true_false (sym first ∙ unbegun (begins (Beat.D y) (on_link link.0 t)) _ _ passing)
+  where
+    unbegun : (a b c : Bool) → not ((a || b) || c) ≡ true → a ≡ false
+    unbegun true b c e = absurd cc
+    unbegun false b c e = refl
+passing-concerned link (Beat.A y) t passing = tt
+passing-concerned link (Beat.B y) t passing = tt
+passing-concerned link (Beat.C y) t passing = tt
+passing-concerned link (Beat.E y) t passing = tt
 
 -- ---- what a beat changes
 
@@ -153,9 +195,6 @@ said-free change free n block t k own reading writing Perm.Trunk = writing ∙ k
 same-d : {w : ℕ} (a b : BeatD w) → Beat.D a ≡ Beat.D b → a ≡ b
 same-d a b e = cc
 
-true_false : {X : Type 0} → true ≡ false → X
-true_false e = absurd cc
-
 -- a response begins with the beat
 pub begun-by : {w : ℕ} (expected : Option Expected) (n : ℕ) (link : Link) (x : Beat w) (z : BeatD w) (t : Trace w)
     → x ≡ Beat.D z → begins (Beat.D z) (on_link link.0 t) ≡ true
@@ -189,14 +228,15 @@ either_none false = refl
 -- a beat that leaves each block as it is changes nothing, where no response begins with it
 pub nothing-changed : {w : ℕ} (change : Change w) (m : Memory w) (n : ℕ) (x : Link × Beat w) (t : Trace w)
     → change.block ≡ None → change.held ≡ None → change.expected ≡ None → IsBorne None x t → ExpectsBegun None n x t
-    → ExpectsAlong None n x t → IsChange change m n x t
-nothing-changed change m n x t unborne unheld none passed unbegun unsaid = record {
+    → ExpectsAlong None n x t → IsConcerned None x.1 (on_link x.0.0 t) → IsChange change m n x t
+nothing-changed change m n x t unborne unheld none passed unbegun unsaid concerned = record {
   block_is = rw unborne passed;
   held_is = unheld ∙ rw unborne (either_none (changes_held x.1 (on_link x.0.0 t)));
   kept = λ block e. absurd (none-some block (sym unborne ∙ e));
   next_is = λ block free s e there seen. absurd (none-some block (sym unborne ∙ e));
   expected_is = rw none unbegun;
   along_is = rw none unsaid;
+  concerned = subst (λ o. IsConcerned o x.1 (on_link x.0.0 t)) (sym unborne) concerned;
 }
 
 -- ---- how free a block is seen to be

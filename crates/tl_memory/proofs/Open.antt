@@ -1,7 +1,7 @@
 -- Which requests are open on a link where no beat broke a rule: those that responses answer.
 use Rattle.tl_memory.proofs.Imports.{Beat, BeatA, BeatD, OpD, data_beats, History, breaks_burst, burst_length, grown}
 use Rattle.tl_memory.proofs.Imports.{same_control, unfinished, is_empty, control_a, control_d, Level}
-use Rattle.tl_memory.proofs.Imports.{open_request, request_fields, Request, answers, all_but_early, broken_after_under, begins, block_at}
+use Rattle.tl_memory.proofs.Imports.{open_request, request_fields, Request, answers, all_liberties, broken_after_under, begins, block_at}
 use Rattle.tl_memory.proofs.Imports.{ends, is_release_ack, request_of}
 use Rattle.std.proofs.Common.{◌≡◌, ℕ, Bool, true, false, not, ◌&&◌, List, [], ◌∷◌, length, Option, Some, None, refl}
 use Rattle.std.proofs.Common.{sym, ap, ◌∙◌, inl, inr}
@@ -56,8 +56,8 @@ other_source s y v burst e apart = absurd cc
 
 -- where a request is open no beat of channel A has its source
 pub fresh : {w : ℕ} (l : Level) (s : ℕ) (asked : Request) (y : BeatA w) (t : History w)
-    → broken_after_under all_but_early l (Beat.A y) t ≡ None → IsOpen s asked t → (y.source == s) ≡ false
-unfolding broken_order_under all_but_early
+    → broken_after_under all_liberties l (Beat.A y) t ≡ None → IsOpen s asked t → (y.source == s) ≡ false
+unfolding broken_order_under all_liberties
 fresh {w} l s asked y t fine o =
     go (unfinished Channel.A t) (goes_on l (Beat.A y) t fine) o.complete
     (λ first. (next_rule (pending (RequestSource y.source) t) H1 _ (begun_in_order l (Beat.A y) t fine first)).0)
@@ -76,9 +76,9 @@ fresh {w} l s asked y t fine o =
 
 -- a request is kept until its answer is complete
 pub kept-still : {w : ℕ} (l : Level) (s : ℕ) (asked : Request) (x : Beat w) (t : History w)
-    → broken_after_under all_but_early l x t ≡ None → kept_request s t ≡ Some asked → completes_answer s x t ≡ false
+    → broken_after_under all_liberties l x t ≡ None → kept_request s t ≡ Some asked → completes_answer s x t ≡ false
     → kept_request s (x ∷ t) ≡ Some asked
-unfolding broken_order_under all_but_early
+unfolding broken_order_under all_liberties
 kept-still {w} l s asked (Beat.A y) t fine kept unended =
     request-next s (Beat.A y) t ∙ go (begins (Beat.A y) t) (y.source == s) refl refl
   where
@@ -107,7 +107,7 @@ grown_other {w} s y burst e = go (length burst + 1 == burst_length (Beat.A y))
 
 -- a request stays open until its answer is complete
 pub open-still : {w : ℕ} (l : Level) (s : ℕ) (asked : Request) (x : Beat w) (t : History w)
-    → broken_after_under all_but_early l x t ≡ None → IsOpen s asked t → completes_answer s x t ≡ false → IsOpen s asked (x ∷ t)
+    → broken_after_under all_liberties l x t ≡ None → IsOpen s asked t → completes_answer s x t ≡ false → IsOpen s asked (x ∷ t)
 unfolding unfinished
 open-still l s asked (Beat.A y) t fine o unended = record {
   kept = kept-still l s asked (Beat.A y) t fine o.kept unended;
@@ -118,42 +118,37 @@ open-still l s asked v t fine o unended =
 
 -- ---- responses
 
--- the response answers a request that is open
+-- the response answers a request that is pending, complete or not
 pub record IsAnswering {w : ℕ} (y : BeatD w) (t : History w) : Type 0 where
   pub asked : Request
-  pub is_open : IsOpen y.source asked t
+  pub kept : kept_request y.source t ≡ Some asked
   pub admitted : answers y.opcode asked.opcode ≡ true
   pub sized : y.size ≡ asked.size
 
 admitted_by : {w : ℕ} (y : BeatD w) (t : History w) (o : Option (BeatA w)) → request_of y.source t ≡ o
-    → pending (RequestSource y.source) t ≡ true → comes_in_request y.source (unfinished Channel.A t) ≡ false
+    → pending (RequestSource y.source) t ≡ true
     → admits y.opcode o ≡ true → (y.size == size_of_request o) ≡ true → IsAnswering y t
-admitted_by y t None is before complete e sized = absurd cc
-admitted_by y t (Some x) is before complete e sized = record {
+admitted_by y t None is before e sized = absurd cc
+admitted_by y t (Some x) is before e sized = record {
   asked = record { opcode = x.opcode; param = x.param; size = x.size; block = block_at x.address };
-  is_open = record { kept = rw (before, is) refl; complete = complete };
+  kept = rw (before, is) refl;
   admitted = e;
   sized = eqb-true y.size x.size sized;
 }
 
-not_so : (b : Bool) → not b ≡ true → b ≡ false
-not_so true e = absurd cc
-not_so false e = refl
-
 pub begun-answering : {w : ℕ} (l : Level) (y : BeatD w) (t : History w)
-    → broken_after_under all_but_early l (Beat.D y) t ≡ None → begins (Beat.D y) t ≡ true → is_release_ack y.opcode ≡ false
+    → broken_after_under all_liberties l (Beat.D y) t ≡ None → begins (Beat.D y) t ≡ true → is_release_ack y.opcode ≡ false
     → IsAnswering y t
-unfolding broken_order_under all_but_early
+unfolding broken_order_under all_liberties
 begun-answering {w} l y t fine first other =
-    let two = next_rule (not (has_request_under all_but_early y t)) H2 _ (begun_in_order l (Beat.D y) t fine first) in
+    let two = next_rule (not (has_request_under all_liberties y t)) H2 _ (begun_in_order l (Beat.D y) t fine first) in
     let three = next_rule (not (y.size == size_asked y t)) H3 _ two.1 in
-    let has = not-false (has_request_under all_but_early y t) two.0 in
+    let has = not-false (has_request_under all_liberties y t) two.0 in
     let size : (y.size == size_of_request (request_of y.source t)) ≡ true =
     rw other at (not-false (y.size == size_asked y t) three.0) in
     let parts = of_request _ _ (is_release_ack y.opcode) other has in
     let before = and_parts (pending (RequestSource y.source) t) _ parts in
-    let rest = and_parts (not (comes_in_request y.source (unfinished Channel.A t))) _ before.1 in
-    admitted_by y t (request_of y.source t) refl before.0 (not_so _ rest.0) rest.1 size
+    admitted_by y t (request_of y.source t) refl before.0 before.1 size
   where
     of_request : (one two ack : Bool) → ack ≡ false → (if ack then one else two) ≡ true → two ≡ true
     of_request one two true e f = absurd cc
@@ -164,7 +159,7 @@ pub as_before : {w : ℕ} (y z : BeatD w) (burst : List (Beat w)) (t : History w
     → breaks_burst (Beat.D y) (Beat.D z ∷ burst) ≡ false → IsAnswering z t → IsAnswering y t
 as_before y z burst t e k =
     let same = control_d y z (not-false (same_control (Beat.D y) (Beat.D z)) e) in
-    record { asked = k.asked; is_open = rw same.3 k.is_open; admitted = rw same.0 k.admitted; sized = same.2 ∙ k.sized }
+    record { asked = k.asked; kept = rw same.3 k.kept; admitted = rw same.0 k.admitted; sized = same.2 ∙ k.sized }
 
 -- a ReleaseAck has one beat
 pub ack-whole : {w : ℕ} (y : BeatD w) → is_release_ack y.opcode ≡ true → burst_length (Beat.D y) ≡ 1

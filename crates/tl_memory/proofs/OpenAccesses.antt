@@ -1,84 +1,27 @@
 -- Accesses that are pending on links where no beat broke a rule: each is the request with its source.
-use Rattle.tl_memory.proofs.Imports.{Beat, BeatA, Link, IsWidth, History, Level, open_request, Request, Trace}
-use Rattle.tl_memory.proofs.Imports.{all_but_early, broken_after_under, IsLegal, is_legal_under, on_link, block_at, ends, is_release_ack}
-use Rattle.tl_memory.proofs.Imports.{Access, ends_request, is_access, is_of, pending_accesses, AreLegal}
+use Rattle.tl_memory.proofs.Imports.{Beat, BeatA, Link, IsWidth, History, Level, Request, Trace}
+use Rattle.tl_memory.proofs.Imports.{all_liberties, broken_after_under, IsLegal, is_legal_under, on_link, block_at, ends, is_release_ack}
+use Rattle.tl_memory.proofs.Imports.{Access, is_access, is_of, pending_accesses, AreLegal}
 use Rattle.std.proofs.Common.{◌≡◌, ℕ, suc, Bool, true, false, not, ◌||◌, ◌%◌, ◌^◌, ◌≤◌, List, [], ◌∷◌, length, Option, Some}
 use Rattle.std.proofs.Common.{None, refl, sym, ap, ◌∙◌, inl, inr, arith}
-use Rattle.std.specs.Prelude.{◌==◌, find, min, slice_get}
-use Rattle.std.proofs.lemmas.Bool.{and_parts, cases_eq, eq-eqb, eqb-true, ne_eqb}
-use Rattle.tl_params.specs.declared.liberties.Liberties.{Liberties}
-use Rattle.tl_rules.specs.statement.Liberties.{broken_at_level_under}
-use Rattle.tl_memory.specs.statement.Links.{KeepRules, KeepsRules}
+use Rattle.std.specs.Prelude.{◌==◌, ◌&&◌, find, is_some, min}
+use Rattle.std.proofs.lemmas.Bool.{and_parts, cases_eq, eq-eqb, eqb-true, not-false}
 use Rattle.tl_rules.specs.code.Tables.{kept_request}
-use Rattle.tl_bytes.specs.statement.Bytes.{is_put, pending_with}
-use Rattle.tl_bytes.proofs.Finding.{find-left_out, same-some}
+use Rattle.tl_bytes.specs.statement.Bytes.{asks, is_put, leaves_pending, pending_with}
+use Rattle.tl_bytes.specs.statement.Early.{is_outrun_of}
+unfoldable use Rattle.tl_bytes.specs.statement.Early.{outrun_accesses}
+use Rattle.tl_beat.specs.declared.channel.Channel.{Channel}
+use Rattle.tl_params.specs.declared.key.Key.TheVariants.{RequestSource}
+use Rattle.tl_rules.specs.statement.Conformance.{comes_in_request}
+unfoldable use Rattle.tl_rules.specs.statement.History.{pending}
+use Rattle.tl_memory.proofs.Imports.{breaks_burst, control_a, same_control, unfinished}
+use Rattle.tl_memory.proofs.Outrunning.{still-waits, waits-open}
+use Rattle.tl_bytes.proofs.Finding.{find-left_out}
 use Rattle.tl_bytes.proofs.Pending.{IsAnsweredNow, IsAskedNow, IsPending, pending-after, pending-before}
 use Rattle.tl_memory.proofs.Answering.{fields_of, kept-now}
-use Rattle.tl_memory.proofs.Lawful.{by_itself, is-request}
-use Rattle.tl_memory.proofs.Open.{IsOpen, completes_answer, fresh, kept-still, open-parts, open-still}
-
--- ---- the history of a link
-
-pub own-link : {w : ℕ} (c : ℕ) (x : Link × Beat w) (t : Trace w) → x.0.0 ≡ c → on_link c (x ∷ t) ≡ x.1 ∷ on_link c t
-unfolding on_link
-own-link c x t e = rw (eq-eqb x.0.0 c e) refl
-
-pub other-link : {w : ℕ} (c : ℕ) (x : Link × Beat w) (t : Trace w) → (x.0.0 ≡ c → ⊥) → on_link c (x ∷ t) ≡ on_link c t
-unfolding on_link
-other-link c x t ne = rw (ne_eqb x.0.0 c ne) refl
-
--- the beat breaks no rule of its link, which has a level
-pub record IsFine {w : ℕ} (l : Liberties) (levels : List Level) (x : Link × Beat w) (t : Trace w) : Type 0 where
-  pub level : Level
-  pub has_level : slice_get levels x.0.0 ≡ Some level
-  pub fine : broken_after_under l level x.1 (on_link x.0.0 t) ≡ None
-
-pub is-fine : {w : ℕ} (l : Liberties) (levels : List Level) (x : Link × Beat w) (t : Trace w)
-    → KeepsRules l levels x t → IsFine l levels x t
-is-fine l levels x t e = go (slice_get levels x.0.0) refl e
-  where
-    go : (o : Option Level) → slice_get levels x.0.0 ≡ o → broken_at_level_under l o x.1 (on_link x.0.0 t) ≡ None
-        → IsFine l levels x t
-    go None is e = absurd cc
-    go (Some level) is e = record { level = level; has_level = is; fine = e }
-
-pub legal-on : {w : ℕ} (l : Liberties) (levels : List Level) (c : ℕ) (level : Level) (t : Trace w)
-    → slice_get levels c ≡ Some level → KeepRules l levels t → is_legal_under l level (on_link c t) ≡ true
-unfolding on_link is_legal_under
-legal-on l levels c level [] has legal = refl
-legal-on l levels c level (x ∷ t) has legal = elim (cases_eq x.0.0 c) [
-  | inr other ↦ rw (ne_eqb x.0.0 c other) (legal-on _ levels c level t has legal.1)
-  | inl own ↦
-      let f = is-fine _ levels x t legal.0 in
-      let level_is : f.level ≡ level = same-some level f.level (sym has ∙ ap (slice_get levels) (sym own) ∙ f.has_level)
-      in
-      let fine : broken_after_under l level x.1 (on_link c t) ≡ None =
-      ap (λ k. broken_after_under l k x.1 (on_link c t)) (sym level_is)
-      ∙ ap (λ n. broken_after_under l f.level x.1 (on_link n t)) (sym own) ∙ f.fine in
-      rw (eq-eqb x.0.0 c own, fine) (legal-on _ levels c level t has legal.1)
-]
-
--- a link without a level has no beats
-pub legal-link : {w : ℕ} (levels : List Level) (c : ℕ) (t : Trace w) → AreLegal levels t
-    → (l : Level) × (is_legal_under all_but_early l (on_link c t) ≡ true)
-unfolding on_link is_legal_under
-legal-link {w} levels c t legal = go (slice_get levels c) refl
-  where
-    no_beats : (t : Trace w) → slice_get levels c ≡ None → AreLegal levels t → on_link c t ≡ []
-    no_beats [] none legal = refl
-    no_beats (x ∷ t) none legal = elim (cases_eq x.0.0 c) [
-      | inr other ↦ rw (ne_eqb x.0.0 c other) (no_beats t none legal.1)
-      | inl own ↦
-          let f = is-fine _ levels x t legal.0 in
-          absurd (let no : None ≡ Some f.level = sym none ∙ ap (slice_get levels) (sym own) ∙ f.has_level in cc)
-    ]
-
-    nothing : (h : History w) → h ≡ [] → is_legal_under all_but_early Level.UL h ≡ true
-    nothing h none = rw none refl
-
-    go : (o : Option Level) → slice_get levels c ≡ o → (l : Level) × (is_legal_under all_but_early l (on_link c t) ≡ true)
-    go (Some l) has = (l, legal-on _ levels c l t has legal)
-    go None none = (Level.UL, nothing (on_link c t) (no_beats t none legal))
+use Rattle.tl_memory.proofs.Lawful.{by_itself, goes_on, is-request}
+use Rattle.tl_memory.proofs.Open.{IsOpen, completes_answer, fresh, kept-still, open-still}
+pub use Rattle.tl_memory.proofs.Histories.{IsFine, is-fine, legal-link, legal-on, other-link, own-link}
 
 -- ---- the access is the request
 
@@ -91,6 +34,7 @@ pub record IsRequestOf {w : ℕ} (c s : ℕ) (access : Access w) (t : Trace w) :
   pub accesses : is_access asked.opcode ≡ true
   pub small : access.request.size ≤ 6
   pub aligned : access.request.address % 2 ^ access.request.size ≡ 0
+  pub whole : is_put access.request.opcode ≡ false → comes_in_request s (unfinished Channel.A (on_link c t)) ≡ false
 
 -- its answer is complete, and it isn't pending
 answered-gone : {w : ℕ} (c s : ℕ) (access : Access w) (x : Link × Beat w) (t : Trace w) → x.0.0 ≡ c
@@ -99,18 +43,28 @@ unfolding pending_accesses
 answered-gone {w} c s access x t own completes is = go x.1 completes is
   where
     go : (b : Beat w) → completes_answer s b (on_link x.0.0 t) ≡ true
-        → find (is_of c s) (pending_with x.0.0 b (on_link x.0.0 t) (suc (length t)) (pending_accesses t)) ≡ Some access
+        → find (is_of c s) (pending_with x.0.0 b (on_link x.0.0 t) (suc (length t)) (outrun_accesses t)
+        (pending_accesses t)) ≡ Some access
         → ⊥
     go (Beat.D y) e is =
         let both = and_parts (ends (Beat.D y) (on_link x.0.0 t)) _ e in
         let rest = and_parts (not (is_release_ack y.opcode)) (y.source == s) both.1 in
-        let ended : ends_request y (on_link x.0.0 t) ≡ true = rw (rest.0, both.0) refl in
+        let ended : leaves_pending y (on_link x.0.0 t) ≡ true =
+        gone (not (is_release_ack y.opcode)) (ends (Beat.D y) (on_link x.0.0 t))
+        (comes_in_request y.source (unfinished Channel.A (on_link x.0.0 t))) rest.0 both.0 in
         let source = eqb-true y.source s rest.1 in
         none (sym (find-left_out (is_of x.0.0 y.source) (is_of c s) (pending_accesses t)
         (λ a g. rw (own, source) g)) ∙ (rw ended at is))
       where
         none : None ≡ Some access → ⊥
         none e = cc
+
+        gone : (bare last comes : Bool) → bare ≡ true → last ≡ true
+            → (((bare && last) && not comes) || (bare && comes)) ≡ true
+        gone true true true e f = refl
+        gone true true false e f = refl
+        gone false last comes e f = absurd cc
+        gone true false comes e f = absurd cc
     go (Beat.A y) e is = absurd cc
     go (Beat.B y) e is = absurd cc
     go (Beat.C y) e is = absurd cc
@@ -125,7 +79,7 @@ open-after levels c s asked x t fine o unended = elim (cases_eq x.0.0 c) [
   | inl own ↦
       let f = is-fine _ levels x t fine in
       rw (own-link c x t own) (open-still f.level s asked x.1 (on_link c t)
-      (ap (λ n. broken_after_under all_but_early f.level x.1 (on_link n t)) (sym own) ∙ f.fine) o (unended own))
+      (ap (λ n. broken_after_under all_liberties f.level x.1 (on_link n t)) (sym own) ∙ f.fine) o (unended own))
 ]
 
 -- and is kept since its first beat
@@ -137,19 +91,45 @@ kept-after levels c s asked x t fine kept unended = elim (cases_eq x.0.0 c) [
   | inl own ↦
       let f = is-fine _ levels x t fine in
       rw (own-link c x t own) (kept-still f.level s asked x.1 (on_link c t)
-      (ap (λ n. broken_after_under all_but_early f.level x.1 (on_link n t)) (sym own) ∙ f.fine) kept (unended own))
+      (ap (λ n. broken_after_under all_liberties f.level x.1 (on_link n t)) (sym own) ∙ f.fine) kept (unended own))
 ]
+
+-- the request of an access that is asked for is pending, if no answer outran it
+asked-waits : {w : ℕ} (levels : List Level) (l : Level) (link : Link) (z : BeatA w) (t : Trace w) → AreLegal levels t
+    → is_legal_under all_liberties l (on_link link.0 t) ≡ true
+    → broken_after_under all_liberties l (Beat.A z) (on_link link.0 t) ≡ None
+    → not (is_some (find (is_outrun_of link.0 z.source) (outrun_accesses t))) ≡ true
+    → pending (RequestSource z.source) (Beat.A z ∷ on_link link.0 t) ≡ true
+unfolding pending
+asked-waits {w} levels l link z t legal past-legal fine none =
+    go (unfinished Channel.A (on_link link.0 t)) refl (goes_on l (Beat.A z) (on_link link.0 t) fine)
+  where
+    go : (burst : List (Beat w)) → unfinished Channel.A (on_link link.0 t) ≡ burst → breaks_burst (Beat.A z) burst ≡ false
+        → pending (RequestSource z.source) (Beat.A z ∷ on_link link.0 t) ≡ true
+    go [] is cont = rw (is, eq-eqb z.source z.source refl) refl
+    go (Beat.A v ∷ rest) is cont =
+        let same = control_a z v (not-false (same_control (Beat.A z) (Beat.A v)) cont) in
+        elim (waits-open levels link.0 t legal v rest is) [
+          | inl waits ↦ still-waits l (on_link link.0 t) past-legal z.source z
+              (ap (λ n. pending (RequestSource n) (on_link link.0 t)) same.3 ∙ waits)
+          | inr come ↦ absurd (let no : false ≡ true = sym (ap (λ n. not (is_some (find (is_outrun_of link.0 n)
+              (outrun_accesses t)))) same.3 ∙ ap (λ o. not (is_some o)) come.out) ∙ none in cc)
+        ]
+    go (Beat.B v ∷ rest) is cont = absurd cc
+    go (Beat.C v ∷ rest) is cont = absurd cc
+    go (Beat.D v ∷ rest) is cont = absurd cc
+    go (Beat.E v ∷ rest) is cont = absurd cc
 
 pub pending-open : {w : ℕ} (levels : List Level) (c s : ℕ) (access : Access w) (t : Trace w) → IsWidth w
     → AreLegal levels t → IsPending c s access t → IsRequestOf c s access t
-unfolding pending_accesses
+unfolding pending_accesses unfinished
 pending-open levels c s access [] is legal pending = absurd cc
 pending-open {w} levels c s access (x ∷ t) is legal pending = elim (pending-before c s access x t pending) [
   | inl old ↦ still (pending-open levels c s access t is legal.1 old.0)
   | inr now ↦ new now
 ]
   where
-    f : IsFine all_but_early levels x t
+    f : IsFine all_liberties levels x t
     f = is-fine _ levels x t legal.0
 
     unended : x.0.0 ≡ c → completes_answer s x.1 (on_link c t) ≡ false
@@ -170,16 +150,26 @@ pending-open {w} levels c s access (x ∷ t) is legal pending = elim (pending-be
       accesses = k.accesses;
       small = k.small;
       aligned = k.aligned;
+      whole = λ other.
+          (open-after levels c s k.asked x t legal.0 (record { kept = k.is_kept; complete = k.whole other }) unended).complete;
     }
+
+    -- after the last beat of a request none is to come
+    ended : (z : BeatA w) (past : History w) → is_put z.opcode ≡ false → (is_put z.opcode || ends (Beat.A z) past) ≡ true
+        → comes_in_request s (unfinished Channel.A (Beat.A z ∷ past)) ≡ false
+    ended z past other e = rw (rw other at e) refl
 
     new : IsAskedNow c s access x t → IsRequestOf c s access (x ∷ t)
     new now =
         let z = now.beat in
         let past = on_link x.0.0 t in
-        let both = and_parts (is_access z.opcode) (is_put z.opcode || ends (Beat.A z) past) now.asks_it in
-        let fine : broken_after_under all_but_early f.level (Beat.A z) past ≡ None =
-        ap (λ b. broken_after_under all_but_early f.level b past) (sym now.beat_is) ∙ f.fine in
-        let kept = kept-now f.level z past (legal-on _ levels x.0.0 f.level t f.has_level legal.1) fine in
+        let asked = and_parts (asks z past) _ now.asks_it in
+        let both = and_parts (is_access z.opcode) (is_put z.opcode || ends (Beat.A z) past) asked.0 in
+        let fine : broken_after_under all_liberties f.level (Beat.A z) past ≡ None =
+        ap (λ b. broken_after_under all_liberties f.level b past) (sym now.beat_is) ∙ f.fine in
+        let past-legal = legal-on _ levels x.0.0 f.level t f.has_level legal.1 in
+        let kept = kept-now f.level z past past-legal fine
+        (asked-waits levels f.level x.0 z t legal.1 past-legal fine asked.1) in
         let history : on_link c (x ∷ t) ≡ Beat.A z ∷ past =
         ap (λ n. on_link n (x ∷ t)) now.link_is ∙ own-link x.0.0 x t refl ∙ ap (λ b. b ∷ past) now.beat_is in
         let r = is-request f.level z is (by_itself f.level (Beat.A z) past fine) in
@@ -197,13 +187,9 @@ pending-open {w} levels c s access (x ∷ t) is legal pending = elim (pending-be
           accesses = both.0;
           small = omega (arith, request_size, small);
           aligned = rw (address, request_size) (eqb-true (z.address % 2 ^ z.size) 0 r.aligned);
+          whole = λ other. rw history (ended z past (ap is_put (ap (λ (q : Access w). q.request.opcode)
+              (sym now.access_is)) ∙ other) both.1);
         }
-
--- ---- what the answer to an open request is an answer to
-
-pub same_asked : {w : ℕ} (s : ℕ) (one other : Request) (t : History w) → open_request s t ≡ Some one
-    → kept_request s t ≡ Some other → other ≡ one
-same_asked s one other t e kept = same-some one other (sym (open-parts s one t e).kept ∙ kept)
 
 -- ---- the access that a request asks for stays until its answer is complete
 
@@ -214,14 +200,14 @@ pub found-still : {w : ℕ} (levels : List Level) (c s : ℕ) (asked : Request) 
 found-still {w} levels c s asked x t legal o unended =
     go (find (is_of c s) (pending_accesses (x ∷ t))) (find (is_of c s) (pending_accesses t)) refl refl
   where
-    f : IsFine all_but_early levels x t
+    f : IsFine all_liberties levels x t
     f = is-fine _ levels x t legal
 
     -- no beat of channel A has its source
     apart : (z : BeatA w) → x.1 ≡ Beat.A z → c ≡ x.0.0 → s ≡ z.source → ⊥
     apart z is link source =
-        let fine : broken_after_under all_but_early f.level (Beat.A z) (on_link x.0.0 t) ≡ None =
-        ap (λ b. broken_after_under all_but_early f.level b (on_link x.0.0 t)) (sym is) ∙ f.fine in
+        let fine : broken_after_under all_liberties f.level (Beat.A z) (on_link x.0.0 t) ≡ None =
+        ap (λ b. broken_after_under all_liberties f.level b (on_link x.0.0 t)) (sym is) ∙ f.fine in
         let other = fresh f.level s asked z (on_link x.0.0 t) fine (rw (← link) o) in
         let no : true ≡ false = sym (eq-eqb z.source s (sym source)) ∙ other in
         absurd cc
@@ -240,11 +226,22 @@ found-still {w} levels c s asked x t legal o unended =
           | inr answered ↦ absurd (ended answered)
         ]
       where
+        ended-parts : (bare last comes : Bool) → comes ≡ false
+            → (((bare && last) && not comes) || (bare && comes)) ≡ true → (bare ≡ true) × (last ≡ true)
+        ended-parts true true comes e f = (refl, refl)
+        ended-parts true false false e f = absurd cc
+        ended-parts false last false e f = absurd cc
+        ended-parts bare last true e f = absurd cc
+
         ended : IsAnsweredNow c s x t → ⊥
         ended k =
             let y = k.last in
             let past = on_link x.0.0 t in
-            let both = and_parts (not (is_release_ack y.opcode)) (ends (Beat.D y) past) k.completes in
+            let whole : comes_in_request y.source (unfinished Channel.A past) ≡ false =
+            ap (λ n. comes_in_request n (unfinished Channel.A past)) (sym k.source_is)
+            ∙ ap (λ n. comes_in_request s (unfinished Channel.A (on_link n t))) (sym k.link_is) ∙ o.complete in
+            let both = ended-parts (not (is_release_ack y.opcode)) (ends (Beat.D y) past)
+            (comes_in_request y.source (unfinished Channel.A past)) whole k.completes in
             let all : completes_answer s (Beat.D y) past ≡ true =
             rw (both.0, both.1, eq-eqb y.source s (sym k.source_is)) refl in
             let none : completes_answer s x.1 past ≡ false =

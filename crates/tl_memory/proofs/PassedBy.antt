@@ -1,14 +1,22 @@
 -- Beats that pass each block by, and those that change what their link holds.
-use Rattle.tl_memory.proofs.Imports.{Beat, BeatA, BeatC, BeatD, Link, History, is_empty, Trace, on_link, begins, ends}
-use Rattle.tl_memory.proofs.Imports.{is_grant, is_release_ack, pending_accesses, LeavesHeld, PassesBy}
-use Rattle.tl_memory.proofs.Imports.{all_but_early, AllWriteInside, ExpectsLater, OpD}
+use Rattle.tl_memory.proofs.Imports.{Beat, BeatC, BeatD, Link, History, is_empty, Trace, on_link, begins, ends}
+use Rattle.tl_memory.proofs.Imports.{is_access, is_grant, is_release_ack, LeavesHeld, PassesBy, unfinished}
+use Rattle.tl_memory.proofs.Imports.{all_liberties, answers, ExpectsLater, IsLegalBeat, IsResponse, OpA, OpD, Request}
 use Rattle.std.proofs.Common.{◌≡◌, ℕ, Bool, true, false, not, ◌&&◌, ◌||◌, List, [], ◌∷◌, length, refl, sym, ap, ◌∙◌, arith}
-use Rattle.std.{specs.Prelude.None, specs.Prelude.◌==◌, proofs.lemmas.Bool.and_parts, proofs.lemmas.Bool.ne_eqb}
-use Rattle.tl_bytes.specs.statement.{Bytes.asks, Shown.shows}
+use Rattle.std.proofs.Common.{inl, inr}
+use Rattle.std.{specs.Prelude.None, specs.Prelude.◌==◌, specs.Prelude.if◌then◌else◌}
+use Rattle.std.proofs.lemmas.Bool.{and_parts, cases_Bool, ne_eqb}
+use Rattle.tl_beat.specs.declared.channel.Channel.{Channel}
+use Rattle.tl_rules.specs.statement.Conformance.{comes_in_grant, comes_in_release}
+use Rattle.tl_bytes.specs.statement.{Bytes.asks, Bytes.leaves_pending, Early.outruns, Shown.shows}
+use Rattle.tl_memory.specs.code.Taking.{IsLegalResponse}
+use Rattle.tl_memory.specs.statement.Known.{AreInside}
+use Rattle.tl_memory.proofs.{BlockAnswers.begun-elsewhere, Responses.grants_no_access}
 use Rattle.tl_memory.specs.code.Changing.{ExpectsAlong, ExpectsBegun}
-use Rattle.tl_memory.specs.code.Passing.{acquires_from_none, changes_held, is_answer_data, passes_by}
+use Rattle.tl_memory.specs.code.Passing.{acquires_from_none, changes_held, is_answer, passes_by}
 use Rattle.tl_memory.{proofs.Elsewhere.held-kept}
-use Rattle.tl_memory.proofs.Bearing.{ack-passes, none_of_both, probe-passes, report-elsewhere, request-leaves}
+use Rattle.tl_memory.proofs.Bearing.{ack-leaves, ack-passes, ack-settles, given-none, grants-none, left-none}
+use Rattle.tl_memory.proofs.Bearing.{probe-passes, report-elsewhere, request-leaves}
 use Rattle.tl_memory.proofs.Bearing.{response-elsewhere, response-leaves, unasked-elsewhere}
 
 true_false : {X : Type 0} → true ≡ false → X
@@ -26,11 +34,11 @@ neither false b e = (refl, is_false b e)
 unbound : {w : ℕ} (y : BeatD w) (past : History w) → passes_by (Beat.D y) past ≡ true
     → not (begins (Beat.D y) past || ends (Beat.D y) past) ≡ true
 unbound y past passing =
-    ap not (neither (begins (Beat.D y) past || ends (Beat.D y) past) (is_answer_data y.opcode) passing).0
+    ap not (neither (begins (Beat.D y) past || ends (Beat.D y) past) (is_answer y.opcode) passing).0
 
 -- ---- the blocks
 
-report-goes_on : {w : ℕ} (block : ℕ) (link : Link) (y : BeatC w) (t : Trace w) → AllWriteInside (pending_accesses t)
+report-goes_on : {w : ℕ} (block : ℕ) (link : Link) (y : BeatC w) (t : Trace w) → AreInside t
     → ends (Beat.C y) (on_link link.0 t) ≡ false → PassesBy block (link, Beat.C y) t
 report-goes_on block link y t inside goes_on = record {
   elsewhere = report-elsewhere block link y t inside (rw goes_on refl);
@@ -38,36 +46,64 @@ report-goes_on block link y t inside goes_on = record {
   unshown = rw goes_on refl;
 }
 
-response-goes_on : {w : ℕ} (block : ℕ) (link : Link) (y : BeatD w) (t : Trace w) → AllWriteInside (pending_accesses t)
+-- what answers an access is one of these
+answer-kind : (opcode : OpD) (asked : OpA) → answers opcode asked ≡ true → is_access asked ≡ true → is_answer opcode ≡ true
+answer-kind OpD.AccessAck asked e access = refl
+answer-kind OpD.AccessAckData asked e access = refl
+answer-kind OpD.HintAck OpA.Intent e access = absurd cc
+answer-kind OpD.HintAck _ e access = absurd cc
+answer-kind OpD.ReleaseAck asked e access = absurd cc
+answer-kind OpD.Grant asked e access = true_false (grants_no_access OpD.Grant asked e access)
+answer-kind OpD.GrantData asked e access = true_false (grants_no_access OpD.GrantData asked e access)
+
+-- a response that answers no access doesn't outrun its request
+on-time : {w : ℕ} (link : ℕ) (y : BeatD w) (asked : Request) (t : Trace w) → IsResponse link y asked t
+    → is_answer y.opcode ≡ false → outruns y (on_link link t) ≡ false
+on-time link y asked t is other = elim (cases_Bool (outruns y (on_link link t))) [
+  | inr late ↦ late
+  | inl outrun ↦ true_false (sym (answer-kind y.opcode asked.opcode is.answers_it (is.coming outrun).accesses) ∙ other)
+]
+
+response-goes_on : {w : ℕ} (block : ℕ) (link : Link) (y : BeatD w) (t : Trace w) → AreInside t
+    → IsLegalResponse link.0 y t → is_answer y.opcode ≡ false
     → ends (Beat.D y) (on_link link.0 t) ≡ false → PassesBy block (link, Beat.D y) t
-response-goes_on block link y t inside goes_on = record {
-  elsewhere = response-elsewhere block link y t inside (rw goes_on refl)
-      (λ over. true_false (sym over
-      ∙ none_of_both (not (is_release_ack y.opcode)) (ends (Beat.D y) (on_link link.0 t)) goes_on));
+response-goes_on block link y t inside is other goes_on = record {
+  elsewhere = elim (cases_Bool (is_release_ack y.opcode)) [
+    | inl ack ↦ response-elsewhere block link y t inside.inside (rw goes_on refl)
+        (λ over. let never : leaves_pending y (on_link link.0 t) ≡ false = rw ack refl in
+        true_false (sym over ∙ never)) (ack-settles block link y t inside.reach_inside ack)
+    | inr bare ↦
+        let one = is.answer bare in
+        begun-elsewhere block link y one.0 t inside one.1 (on-time link.0 y one.0 t one.1 other) goes_on
+  ];
   held_is = held-kept block (Beat.D y) (on_link link.0 t) (λ over. true_false (sym over ∙ goes_on));
   unshown = refl;
 }
 
--- such a beat leaves each block as it is
-pub passed-by : {w : ℕ} (block : ℕ) (link : Link) (x : Beat w) (t : Trace w) → AllWriteInside (pending_accesses t)
+-- such a beat leaves each block as it is, if it breaks no rule
+pub passed-by : {w : ℕ} (block : ℕ) (link : Link) (x : Beat w) (t : Trace w) → AreInside t → IsLegalBeat link.0 x t
     → passes_by x (on_link link.0 t) ≡ true → PassesBy block (link, x) t
-passed-by block link (Beat.A y) t inside passing =
+passed-by block link (Beat.A y) t inside is passing =
     let both = and_parts (not (acquires_from_none y)) _ passing in
+    let none = is_false (asks y (on_link link.0 t)) both.1 in
     record {
-      elsewhere = unasked-elsewhere block link y t inside
-          (is_false (asks y (on_link link.0 t)) both.1);
+      elsewhere = unasked-elsewhere block link y t inside none (is.unsettled none);
       held_is = request-leaves block link y t
           (λ acquires. true_false (sym acquires ∙ is_false (acquires_from_none y) both.0));
       unshown = refl;
     }
-passed-by block link (Beat.B y) t inside passing = probe-passes block link y t inside
-passed-by block link (Beat.C y) t inside passing =
+passed-by block link (Beat.B y) t inside is passing = probe-passes block link y t inside
+passed-by block link (Beat.C y) t inside is passing =
     report-goes_on block link y t inside (is_false (ends (Beat.C y) (on_link link.0 t)) passing)
-passed-by block link (Beat.D y) t inside passing =
-    response-goes_on block link y t inside
+passed-by block link (Beat.D y) t inside is passing =
+    let parts = neither (begins (Beat.D y) (on_link link.0 t) || ends (Beat.D y) (on_link link.0 t)) (is_answer y.opcode)
+    passing in
+    response-goes_on block link y t inside is parts.1
     (neither (begins (Beat.D y) (on_link link.0 t)) (ends (Beat.D y) (on_link link.0 t))
     (unbound y (on_link link.0 t) passing)).1
-passed-by block link (Beat.E y) t inside passing = ack-passes block link y t inside
+passed-by block link (Beat.E y) t inside is passing =
+    ack-passes block link y t inside (λ own. given-none y.sink (unfinished Channel.D (on_link link.0 t))
+    (is_false (comes_in_grant y.sink (unfinished Channel.D (on_link link.0 t))) passing))
 
 -- and no response begins with it
 pub none-begins : {w : ℕ} (n : ℕ) (link : Link) (x : Beat w) (t : Trace w)
@@ -77,7 +113,7 @@ none-begins n link x t passing y is first =
     true_false (sym first ∙ (neither (begins (Beat.D y) (on_link link.0 t)) (ends (Beat.D y) (on_link link.0 t)) d).0)
 
 -- nothing is said anew of other responses
-pub none-later : {w : ℕ} (opcode : OpD) (n link source : ℕ) (t : Trace w) → is_answer_data opcode ≡ false
+pub none-later : {w : ℕ} (opcode : OpD) (n link source : ℕ) (t : Trace w) → is_answer opcode ≡ false
     → ExpectsLater None n link opcode source t
 none-later OpD.AccessAckData n link source t other = absurd cc
 none-later v n link source t other = refl
@@ -87,27 +123,33 @@ pub none-along : {w : ℕ} (n : ℕ) (link : Link) (x : Beat w) (t : Trace w)
     → passes_by x (on_link link.0 t) ≡ true → ExpectsAlong None n (link, x) t
 none-along n link x t passing y is later =
     none-later y.opcode n link.0 y.source t (neither (begins (Beat.D y) (on_link link.0 t)
-    || ends (Beat.D y) (on_link link.0 t)) (is_answer_data y.opcode) (rw is at passing)).1
+    || ends (Beat.D y) (on_link link.0 t)) (is_answer y.opcode) (rw is at passing)).1
 
 -- ---- what is held
 
-granted-leaves : {w : ℕ} (block : ℕ) (link : Link) (y : BeatD w) (t : Trace w) (grant : Bool)
-    → is_grant y.opcode ≡ grant → grant && ends (Beat.D y) (on_link link.0 t) ≡ false
-    → LeavesHeld block (link, Beat.D y) t
-granted-leaves block link y t true is goes_on =
+response-held : {w : ℕ} (block : ℕ) (link : Link) (y : BeatD w) (t : Trace w) (ack grant : Bool)
+    → is_release_ack y.opcode ≡ ack → is_grant y.opcode ≡ grant
+    → (if ack then comes_in_release y.source (unfinished Channel.C (on_link link.0 t))
+    else grant && ends (Beat.D y) (on_link link.0 t)) ≡ false → LeavesHeld block (link, Beat.D y) t
+response-held block link y t true grant a g none =
+    response-leaves block link y t (rw (grants-none y.opcode a) refl)
+    (λ ack own. left-none y.source (unfinished Channel.C (on_link link.0 t)) none)
+response-held block link y t false true a g goes_on =
     held-kept block (Beat.D y) (on_link link.0 t) (λ over. true_false (sym over ∙ goes_on))
-granted-leaves block link y t false is e = response-leaves block link y t (rw is refl)
+response-held block link y t false false a g e =
+    response-leaves block link y t (rw g refl) (λ ack. true_false (sym ack ∙ a))
 
 -- the other beats leave it
 pub held-left : {w : ℕ} (block : ℕ) (link : Link) (x : Beat w) (t : Trace w)
     → changes_held x (on_link link.0 t) ≡ false → LeavesHeld block (link, x) t
-unfolding all_but_early
+unfolding all_liberties
 held-left block link (Beat.A y) t e = request-leaves block link y t (λ acquires. true_false (sym acquires ∙ e))
 held-left block link (Beat.B y) t e = held-kept block (Beat.B y) (on_link link.0 t) (λ over. refl)
 held-left block link (Beat.C y) t goes_on =
     held-kept block (Beat.C y) (on_link link.0 t) (λ over. true_false (sym over ∙ goes_on))
-held-left block link (Beat.D y) t e = granted-leaves block link y t (is_grant y.opcode) refl e
-held-left block link (Beat.E y) t e = held-kept block (Beat.E y) (on_link link.0 t) (λ over. refl)
+held-left block link (Beat.D y) t e = response-held block link y t (is_release_ack y.opcode) (is_grant y.opcode) refl refl e
+held-left block link (Beat.E y) t e =
+    ack-leaves block link y t (λ own. given-none y.sink (unfinished Channel.D (on_link link.0 t)) e)
 
 -- and show nothing
 pub held-unshown : {w : ℕ} (block : ℕ) (link : Link) (x : Beat w) (t : Trace w)
@@ -124,19 +166,3 @@ held-unshown block link (Beat.E y) t e = refl
 pub none-before : {w : ℕ} (n : ℕ) (burst : List (Beat w)) → n ≡ length burst → (n == 0) ≡ is_empty burst
 none-before n [] e = rw e refl
 none-before n (x ∷ burst) e = ne_eqb n 0 (λ none. absurd (omega (arith, e, none)))
-
--- beats of the other channels all do
-pub others-pass : {w : ℕ} (x : Beat w) (past : History w) → ((y : BeatA w) → x ≡ Beat.A y → ⊥)
-    → ((y : BeatC w) → x ≡ Beat.C y → ⊥) → ((y : BeatD w) → x ≡ Beat.D y → ⊥) → true ≡ passes_by x past
-others-pass (Beat.A y) past a c d = absurd (a y refl)
-others-pass (Beat.C y) past a c d = absurd (c y refl)
-others-pass (Beat.D y) past a c d = absurd (d y refl)
-others-pass v past a c d = refl
-
--- and leave what is held
-pub others-hold : {w : ℕ} (x : Beat w) (past : History w) → ((y : BeatA w) → x ≡ Beat.A y → ⊥)
-    → ((y : BeatC w) → x ≡ Beat.C y → ⊥) → ((y : BeatD w) → x ≡ Beat.D y → ⊥) → false ≡ changes_held x past
-others-hold (Beat.A y) past a c d = absurd (a y refl)
-others-hold (Beat.C y) past a c d = absurd (c y refl)
-others-hold (Beat.D y) past a c d = absurd (d y refl)
-others-hold v past a c d = refl

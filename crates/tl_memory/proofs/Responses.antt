@@ -1,13 +1,15 @@
 -- What a response is to the blocks and to the accesses that are pending, by the open request that it answers.
 use Rattle.tl_memory.proofs.Imports.{Beat, BeatA, BeatD, Link, OpA, OpD, History}
-use Rattle.tl_memory.proofs.Imports.{open_request, request_fields, Request, Trace, answers, on_link, block_at, ends}
-use Rattle.tl_memory.proofs.Imports.{is_grant, request_of, Access, ends_request, is_access, is_of}
+use Rattle.tl_memory.proofs.Imports.{request_fields, Request, Trace, answers, on_link, block_at, ends}
+use Rattle.tl_memory.proofs.Imports.{is_grant, is_release_ack, request_of, Access, is_access, is_of}
 use Rattle.tl_memory.proofs.Imports.{pending_accesses, tells, AllWriteInside, WritesInside}
-use Rattle.std.proofs.Common.{◌≡◌, ℕ, Bool, true, false, not, ◌&&◌, List, [], ◌∷◌, Option, Some, None, refl, sym, ap}
+use Rattle.std.proofs.Common.{◌≡◌, ℕ, Bool, true, false, not, ◌&&◌, List, [], ◌∷◌, Option, Some, None, refl, ap}
 use Rattle.std.proofs.Common.{inl, inr}
 use Rattle.std.specs.Prelude.{if◌then◌else◌, ◌==◌, filter, find, ⊤}
 use Rattle.std.proofs.lemmas.Bool.{cases_Bool}
-use Rattle.tl_rules.{specs.statement.History.asks_for, proofs.Open.request-fields}
+use Rattle.tl_rules.{specs.statement.History.asks_for}
+use Rattle.tl_bytes.specs.statement.Bytes.{leaves_pending}
+use Rattle.tl_bytes.specs.statement.Early.{is_overtaken}
 use Rattle.tl_bytes.specs.statement.Bytes.{tells_granted}
 use Rattle.tl_memory.{specs.code.Taking.tells_block}
 use Rattle.tl_memory.{specs.code.Taking.tells_response}
@@ -29,20 +31,21 @@ grants_no_access OpD.GrantData _ e access = absurd cc
 
 -- the answer to an access tells nothing
 pub access-untold : {w : ℕ} (block : ℕ) (y : BeatD w) (asked : Request) (t : History w)
-    → answers y.opcode asked.opcode ≡ true → is_access asked.opcode ≡ true → tells block (Beat.D y) t ≡ false
-access-untold block y asked t e access =
-    rw (grants_no_access y.opcode asked.opcode e access) (never (ends (Beat.D y) t))
+    → answers y.opcode asked.opcode ≡ true → is_access asked.opcode ≡ true → is_release_ack y.opcode ≡ false
+    → tells block (Beat.D y) t ≡ false
+access-untold block y asked t e access bare =
+    rw (bare, grants_no_access y.opcode asked.opcode e access) (never (ends (Beat.D y) t))
   where
     never : (b : Bool) → (b && false) ≡ false
     never true = refl
     never false = refl
 
-told_if : {w : ℕ} (block : ℕ) (denied : Bool) (opcode : OpD) (asked : Request) (o : Option (BeatA w))
+told_if : {w : ℕ} (block : ℕ) (denied late : Bool) (opcode : OpD) (asked : Request) (o : Option (BeatA w))
     → request_fields o ≡ Some asked
-    → ((is_grant opcode && asks_for block o) && (not denied && tells_granted opcode o))
-    ≡ ((asked.block == block) && (not denied && tells_block opcode asked.opcode))
-told_if block denied opcode asked None e = absurd cc
-told_if block denied opcode asked (Some x) e = rw (← same) (go denied opcode)
+    → ((is_grant opcode && asks_for block o) && (not denied && (tells_granted opcode o && late)))
+    ≡ ((asked.block == block) && ((not denied && tells_block opcode asked.opcode) && late))
+told_if block denied late opcode asked None e = absurd cc
+told_if block denied late opcode asked (Some x) e = rw (← same) (go denied opcode)
   where
     same : record { opcode = x.opcode; param = x.param; size = x.size; block = block_at x.address } ≡ asked
     same = cc
@@ -56,20 +59,21 @@ told_if block denied opcode asked (Some x) e = rw (← same) (go denied opcode)
     neither false b = never b
 
     go : (denied : Bool) (opcode : OpD)
-        → ((is_grant opcode && (block_at x.address == block)) && (not denied && tells_granted opcode (Some x)))
-        ≡ ((block_at x.address == block) && (not denied && tells_block opcode x.opcode))
+        → ((is_grant opcode && (block_at x.address == block)) && (not denied && (tells_granted opcode (Some x) && late)))
+        ≡ ((block_at x.address == block) && ((not denied && tells_block opcode x.opcode) && late))
     go true opcode = neither (is_grant opcode && (block_at x.address == block)) (block_at x.address == block)
     go false OpD.GrantData = refl
     go false OpD.Grant = refl
     go false v = never (block_at x.address == block)
 
--- its last beat tells of the block of its request, and of no other, where it is of this kind
+-- its last beat tells of the block of its request, and of no other, if it is of this kind and wasn't overtaken
 pub response-tells : {w : ℕ} (block : ℕ) (y : BeatD w) (asked : Request) (t : History w)
-    → open_request y.source t ≡ Some asked
-    → tells block (Beat.D y) t ≡ (ends (Beat.D y) t && ((asked.block == block) && tells_response y asked.opcode))
-response-tells block y asked t opened =
-    ap (λ b. ends (Beat.D y) t && b)
-    (told_if block y.denied y.opcode asked (request_of y.source t) (request-fields y.source t asked (sym opened)))
+    → request_fields (request_of y.source t) ≡ Some asked → is_release_ack y.opcode ≡ false
+    → tells block (Beat.D y) t
+    ≡ (ends (Beat.D y) t && ((asked.block == block) && (tells_response y asked.opcode && not (is_overtaken block y t))))
+response-tells block y asked t fields bare =
+    rw bare (ap (λ b. ends (Beat.D y) t && b)
+    (told_if block y.denied (not (is_overtaken block y t)) y.opcode asked (request_of y.source t) fields))
 
 -- ---- the accesses that are pending
 
@@ -85,7 +89,7 @@ pub none-answered : {w : ℕ} (link : Link) (y : BeatD w) (t : Trace w)
     → find (is_of link.0 y.source) (pending_accesses t) ≡ None
     → pending_accesses ((link, Beat.D y) ∷ t) ≡ pending_accesses t
 unfolding pending_accesses
-none-answered link y t none = go (ends_request y (on_link link.0 t))
+none-answered link y t none = go (leaves_pending y (on_link link.0 t))
   where
     go : (b : Bool) → (if b then filter (λ access. not (is_of link.0 y.source access)) (pending_accesses t) else
         pending_accesses t) ≡ pending_accesses t

@@ -18,6 +18,8 @@ use Rattle.tl_bytes.specs.statement.Known.{count_of, IsWrite}
 use Rattle.tl_memory.specs.statement.Known.{IsNoPut}
 use Rattle.tl_memory.specs.{code.Taking.with_next, code.Writers.AreWatched, declared.block.NextState.NextState}
 use Rattle.tl_memory.{proofs.Writing.no_data}
+unfoldable use Rattle.tl_bytes.specs.statement.Early.{outrun_accesses}
+use Rattle.tl_memory.specs.statement.Known.{KnowsOutrun}
 use Rattle.tl_memory.proofs.Elsewhere.{free-first}
 use Rattle.tl_memory.proofs.Found.{freedom-is, hidden, window-is}
 use Rattle.tl_memory.proofs.Keeping.{copied-each, filters-swap, inside-kept, IsFound}
@@ -25,11 +27,12 @@ use Rattle.tl_memory.proofs.Keeping.{watched-each}
 
 -- a block of which nothing was carried
 pub state-first : {w : ℕ} (s : BlockState w) (n block : ℕ) → KnowsBlock {w = w} s.bytes n block []
-    → s.accesses.items ≡ [] → ((given : Perm) → free_for s.free given ≡ true) → KnowsState s n block []
-unfolding pending_accesses
-state-first {w} s n block bytes none free = record {
+    → s.accesses.items ≡ [] → s.outrun.items ≡ [] → ((given : Perm) → free_for s.free given ≡ true) → KnowsState s n block []
+unfolding pending_accesses outrun_accesses
+state-first {w} s n block bytes none nothing free = record {
   bytes_are = bytes;
   accesses_are = record { accesses_are = rw none tt; inside = tt };
+  outrun_are = record { are = rw nothing tt; inside = tt };
   free_is = λ given. free given ∙ sym (free-first w n given block);
   last_is = λ off. absurd (differ (sym (free Perm.Trunk) ∙ off));
 }
@@ -111,16 +114,19 @@ pub unseen-state : {w : ℕ} (old : BlockState w) (next : NextState w) (n block 
     → KnowsBlock (unwrap_or next.bytes old.bytes) n block (x ∷ t)
     → filter (is_to block) (pending_accesses (x ∷ t)) ≡ filter (keeps gone) (filter (is_to block) (pending_accesses t))
     → AllWriteInside (pending_accesses (x ∷ t))
-    → AreRenewed (found_by old.free old.bytes old.accesses.items) (staying gone old.accesses.items) next.accesses.items
+    → KnowsOutrun (unwrap_or next.outrun old.outrun).items block (outrun_accesses (x ∷ t))
+    → AreRenewed (found_by old.free old.bytes old.accesses.items old.outrun.items) (staying gone old.accesses.items)
+    next.accesses.items
     → KnowsUnseen (with_next old next) n block x t
-unseen-state {w} old next n block gone x t k bytes stay inside renewed = record {
+unseen-state {w} old next n block gone x t k bytes stay inside out renewed = record {
   bytes_are = bytes;
   accesses_are = record {
     accesses_are = subst (λ l. AreKnown next.accesses.items closed n block l t) (sym stay)
-        (copied-each n block old.free old.bytes old.accesses.items t k.bytes_are k.accesses_are gone old.accesses.items
-        next.accesses.items (filter (is_to block) (pending_accesses t)) k.accesses_are.accesses_are renewed);
+        (copied-each n block old.free old.bytes old.accesses.items old.outrun.items t k.bytes_are k.accesses_are
+        k.outrun_are gone old.accesses.items next.accesses.items (filter (is_to block) (pending_accesses t)) k.accesses_are.accesses_are renewed);
     inside = inside;
   };
+  outrun_are = out;
   free_is = λ given. hidden old.free given ∙ k.free_is given;
   last_is = k.last_is;
 }
@@ -183,12 +189,12 @@ last-watched old n block moment free x t k is now off = elim (cases_Bool old.fre
 ]
 
 pub watched-state : {w : ℕ} (s old : BlockState w) (n block moment : ℕ) (x : Link × Beat w) (t : Trace w)
-    → KnowsUnseen old n block x t → s.bytes ≡ old.bytes
+    → KnowsUnseen old n block x t → s.bytes ≡ old.bytes → s.outrun ≡ old.outrun
     → AreWatched s.free.writing moment old.accesses.items s.accesses.items → s.free ≡ freedom n block x t
     → moment ≡ length (x ∷ t)
     → s.last_free ≡ (if old.free.writing && not s.free.writing then moment - 1 else old.last_free)
     → KnowsState s n block (x ∷ t)
-watched-state s old n block moment x t k bytes watched free now ended = record {
+watched-state s old n block moment x t k bytes out watched free now ended = record {
   bytes_are = rw bytes k.bytes_are;
   accesses_are = record {
     accesses_are = watched-each n block x t (open_for s.free) s.free.writing moment old.accesses.items s.accesses.items
@@ -197,6 +203,7 @@ watched-state s old n block moment x t k bytes watched free now ended = record {
         watched (ap (λ (f : Freedom). f.writing) free) now;
     inside = k.accesses_are.inside;
   };
+  outrun_are = rw out k.outrun_are;
   free_is = λ given. ap (λ f. free_for f given) free ∙ freedom-is n block given x t;
   last_is = λ off. ended ∙ last-watched old n block moment s.free.writing x t k
       (ap (λ (f : Freedom). f.writing) free) now off;

@@ -9,6 +9,8 @@ use Rattle.std.{proofs.lemmas.List.length-set, proofs.lemmas.Option.none-some, p
 use Rattle.std.proofs.lemmas.Bool.{cases_Bool, eq-eqb, eqb-true}
 use Rattle.tl_memory.{specs.code.Taking.IsNext, specs.code.Taking.put_next, specs.declared.block.NextState.NextState}
 use Rattle.tl_memory.{specs.declared.blocks.Blocks.Blocks, proofs.Elsewhere.byte-kept, proofs.Elsewhere.stays}
+unfoldable use Rattle.tl_bytes.specs.statement.Early.{outrun_accesses}
+use Rattle.tl_memory.specs.statement.Known.{AreInside}
 use Rattle.tl_memory.specs.statement.Blocks.{KnowsBlocks, KnowsKept, place_in, state_at, state_in}
 
 -- ---- one state
@@ -37,7 +39,7 @@ next-unseen old next (Some v) n block x t none is = absurd (none v refl)
 -- ---- all states
 
 pub blocks-first : {w : ℕ} (b : Blocks w) (n : ℕ) → b.places.entries ≡ [] → b.last ≡ None → KnowsBlocks b n []
-unfolding pending_accesses
+unfolding pending_accesses outrun_accesses
 blocks-first {w} b n none unmet = record {
   table_is = record {
     stand = λ block place e. absurd (none-some place (sym (nowhere block) ∙ e));
@@ -45,7 +47,7 @@ blocks-first {w} b n none unmet = record {
     last_is = λ block place e. absurd (none-some (block, place) (sym unmet ∙ e));
   };
   states_are = λ block. rw (nowhere block) (λ place lt. refl, λ s new. new);
-  inside = tt;
+  inside = record { inside = tt; reach_inside = tt };
 }
   where
     nowhere : (block : ℕ) → place_in b block ≡ None
@@ -55,7 +57,7 @@ blocks-first {w} b n none unmet = record {
 kept-stays : {w : ℕ} (o : Option (BlockState w)) (n block : ℕ) (x : Link × Beat w) (t : Trace w)
     → PassesBy block x t → KnowsKept o n block t → KnowsKept o n block (x ∷ t)
 kept-stays None n block x t passes known = (
-  λ place lt. byte-kept n block place x t lt passes.elsewhere.quiet (passes.elsewhere.keeps place lt)
+  λ place lt. byte-kept n block place x t lt passes.elsewhere.quiet (passes.elsewhere.keeps place lt) (passes.elsewhere.unsettled place lt)
       ∙ known.0 place lt,
   λ s new. stays s n block x t passes (known.1 s new),
 )
@@ -192,6 +194,9 @@ blocks-met b n block place t met k = record {
 
 -- ---- one more beat
 
+all-inside : {w : ℕ} {s : BlockState w} {n block : ℕ} {t : Trace w} → KnowsState s n block t → AreInside t
+all-inside k = record { inside = k.accesses_are.inside; reach_inside = k.outrun_are.inside }
+
 pub blocks-taken : {w : ℕ} (b new : Blocks w) (s next : BlockState w) (n block place : ℕ) (x : Link × Beat w)
     (t : Trace w) → new.states.items ≡ slice_set b.states.items place next → new.places ≡ b.places → new.last ≡ b.last
     → slice_get b.states.items place ≡ Some s → place_in b block ≡ Some place
@@ -206,7 +211,7 @@ blocks-taken b new s next n block place x t items places last found at taken pas
   };
   states_are = λ other. kept-taken s next (state_in b other) (state_in new other) n block other x t
       (λ e. ap (state_in b) e ∙ there) (changed other) taken (passes other) (k.states_are other);
-  inside = (taken (some-kept (state_in b block) s n block t there (k.states_are block))).accesses_are.inside;
+  inside = all-inside (taken (some-kept (state_in b block) s n block t there (k.states_are block)));
 }
   where
     same : (other : ℕ) → place_in new other ≡ place_in b other
@@ -233,5 +238,8 @@ pub blocks-passed : {w : ℕ} (b : Blocks w) (n : ℕ) (x : Link × Beat w) (t :
 blocks-passed b n x t passes k = record {
   table_is = k.table_is;
   states_are = λ block. kept-stays (state_in b block) n block x t (passes block) (k.states_are block);
-  inside = (passes 0).elsewhere.inside;
+  inside = record {
+    inside = (passes 0).elsewhere.inside;
+    reach_inside = (passes 0).elsewhere.outrun.reach_inside;
+  };
 }

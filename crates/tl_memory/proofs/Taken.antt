@@ -1,11 +1,14 @@
 -- What is known of the state of a block with a beat that bears on it.
-use Rattle.tl_memory.proofs.Imports.{Beat, BeatA, BeatC, BeatD, Link, History, open_request, Request, Trace, on_link}
-use Rattle.tl_memory.proofs.Imports.{is_release_ack, block_asked, block_borne, IsLegalBeat, IsResponse}
+use Rattle.tl_beat.specs.declared.beat.BeatB.{BeatB}
+use Rattle.tl_memory.proofs.Imports.{Beat, BeatA, BeatD, History, Link, open_request, Request, Trace, on_link}
+use Rattle.tl_memory.proofs.Imports.{block_borne, IsLegalBeat, IsResponse}
 use Rattle.tl_memory.proofs.Imports.{BlockState, Freedom}
-use Rattle.std.proofs.Common.{◌≡◌, ℕ, Bool, true, false, refl, sym, ap, ◌∙◌}
-use Rattle.std.specs.Prelude.{if◌then◌else◌, Option, Some, None}
+use Rattle.std.proofs.Common.{◌≡◌, ℕ, true, false, refl, sym, ◌∙◌}
+use Rattle.std.specs.Prelude.{Option, Some, None}
+use Rattle.tl_bytes.specs.statement.Early.{outruns}
 use Rattle.tl_memory.specs.code.{Passing.acquires_from_none, Taking.IsNext, Taking.IsNextAsked, Taking.IsNextUnseen}
-use Rattle.tl_memory.specs.code.Taking.{IsSeen, with_next}
+use Rattle.tl_memory.specs.code.Taking.{AnswersTo, IsSeen, with_next}
+use Rattle.tl_memory.proofs.{Borne.response-there, Open.open-whole}
 use Rattle.tl_memory.specs.declared.block.NextState.{NextState}
 use Rattle.tl_memory.proofs.{Elsewhere.settled, PassedBy.held-left, PassedBy.held-unshown}
 
@@ -41,43 +44,34 @@ seen-other (Some next) (Some free) s n block x t seen is = (is, seen.1)
 pub same-block : (k block : ℕ) → Some k ≡ Some block → k ≡ block
 same-block k block e = cc
 
+-- a change to what a beat of the request of an access makes of its block, for whom it stays as free as it was
+pub unseen-asked : {w : ℕ} (next : Option (NextState w)) (s : BlockState w) (n block : ℕ) (link : Link) (y : BeatA w)
+    (t : Trace w) → acquires_from_none y ≡ false → IsNextUnseen next s n block (link, Beat.A y) t
+    → IsNextAsked next s n block (link, Beat.A y) t
+unseen-asked None s n block link y t none is = is.0
+unseen-asked (Some next) s n block link y t none is =
+    settled (with_next s next) n block (link, Beat.A y) t (held-left block link (Beat.A y) t none)
+    (held-unshown block link (Beat.A y) t none) refl is
+
 -- the request that a response answers which bears on a block
-pub response-borne : {w : ℕ} (link : ℕ) (y : BeatD w) (asked : Option Request) (block : ℕ) (t : Trace w)
-    → IsLegalBeat link (Beat.D y) t → asked ≡ open_request y.source (on_link link t)
-    → block_borne (Beat.D y) (on_link link t) ≡ Some block
-    → (one : Request) × (asked ≡ Some one) × IsResponse link y one t × (one.block ≡ block)
-response-borne {w} link y asked block t legal open' borne = go (is_release_ack y.opcode) refl borne
-  where
-    Found : Type 0
-    Found = (one : Request) × (asked ≡ Some one) × IsResponse link y one t × (one.block ≡ block)
+pub response-borne : {w : ℕ} (link : ℕ) (y : BeatD w) (block : ℕ) (t : Trace w) → IsLegalBeat link (Beat.D y) t
+    → block_borne (Beat.D y) (on_link link t) ≡ Some block → AnswersTo link y block t
+response-borne link y block t legal borne bare =
+    let one = legal.answer bare in
+    (one.0, one.1, same-block one.0.block block (sym (response-there link y one.0 t one.1 bare) ∙ borne))
 
-    go : (release : Bool) → is_release_ack y.opcode ≡ release
-        → (if release then None else block_asked (open_request y.source (on_link link t))) ≡ Some block → Found
-    go true e borne = absurd cc
-    go false e borne =
-        let one = legal e in (
-          one.0,
-          open' ∙ one.1.asked_is,
-          one.1,
-          same-block one.0.block block (ap block_asked (sym one.1.asked_is) ∙ borne),
-        )
-
-pub response-is : {w : ℕ} (link : ℕ) (y : BeatD w) (asked : Option Request) (a one : Request) (block : ℕ) (t : Trace w)
-    → asked ≡ Some a → asked ≡ Some one → IsResponse link y one t × (one.block ≡ block)
-    → IsResponse link y a t × (a.block ≡ block)
-response-is link y asked a one block t e f is = rw (same a one (sym e ∙ f)) is
-  where
-    same : (a one : Request) → Some a ≡ Some one → a ≡ one
-    same a one e = cc
+-- a request that is complete is that which a response answers
+pub open-asked : {w : ℕ} (link : ℕ) (y : BeatD w) (asked : Option Request) (one : Request) (t : Trace w)
+    → IsResponse link y one t → outruns y (on_link link t) ≡ false
+    → asked ≡ open_request y.source (on_link link t) → asked ≡ Some one
+open-asked link y asked one t is late opened =
+    opened ∙ open-whole y.source one (on_link link t) (record { kept = is.kept; complete = is.complete late })
 
 pub none-open : {X : Type 0} (asked : Option Request) (one : Request) → asked ≡ None → asked ≡ Some one → X
 none-open None one e f = absurd cc
 none-open (Some a) one e f = absurd cc
 
--- beats of the other channels bear on none
-pub none-borne : {w : ℕ} {X : Type 0} (x : Beat w) (past : History w) (block : ℕ) → ((y : BeatA w) → x ≡ Beat.A y → ⊥)
-    → ((y : BeatC w) → x ≡ Beat.C y → ⊥) → ((y : BeatD w) → x ≡ Beat.D y → ⊥) → block_borne x past ≡ Some block → X
-none-borne (Beat.A y) past block a c d borne = absurd (a y refl)
-none-borne (Beat.C y) past block a c d borne = absurd (c y refl)
-none-borne (Beat.D y) past block a c d borne = absurd (d y refl)
-none-borne v past block a c d borne = absurd cc
+-- a Probe bears on none
+pub none-borne : {w : ℕ} {X : Type 0} (x : Beat w) (past : History w) (block : ℕ) (y : BeatB w) → x ≡ Beat.B y
+    → block_borne x past ≡ Some block → X
+none-borne x past block y is borne = absurd (let no : None ≡ Some block = rw is at borne in cc)

@@ -1,7 +1,7 @@
 -- What is known of a burst that isn't complete, where no beat of its link broke a rule.
 use Rattle.tl_memory.proofs.Imports.{Beat, BeatA, a_carries_data, c_carries_data, IsWidth, History, breaks_burst}
 use Rattle.tl_memory.proofs.Imports.{burst_length, channel_of, grown, on, same_control, unfinished, control_a}
-use Rattle.tl_memory.proofs.Imports.{control_d, Level, AreTyped, IsTyped, all_but_early, broken_after_under, is_legal_under, is_small}
+use Rattle.tl_memory.proofs.Imports.{control_d, Level, AreTyped, IsTyped, all_liberties, broken_after_under, is_legal_under, is_small}
 use Rattle.tl_memory.proofs.Imports.{AreWide}
 use Rattle.std.proofs.Common.{◌≡◌, ℕ, true, false, ◌+◌, ◌*◌, ◌<◌, ◌≤◌, List, [], ◌∷◌, length, refl, sym, ap, ◌∙◌, arith}
 use Rattle.std.proofs.Common.{inl, inr}
@@ -52,7 +52,7 @@ burst_room {w} (Beat.E x) is e = omega (arith, (width-bounds w is).1)
 abbrev pub AreBegun : {w : ℕ} → Level → Channel → List (Beat w) → Type 0
 AreBegun l ch [] = ⊤
 AreBegun l ch (x ∷ burst) =
-    (on ch x ≡ true) × (illegal_under all_but_early l ch x ≡ None) × (breaks_burst x burst ≡ false)
+    (on ch x ≡ true) × (illegal_under all_liberties l ch x ≡ None) × (breaks_burst x burst ≡ false)
     × (length (x ∷ burst) < burst_length x) × AreBegun l ch burst
 
 -- a beat that goes on as they did has room in the burst
@@ -64,7 +64,7 @@ fewer l ch x (y ∷ burst) is e begun =
     omega (arith, begun.3, same)
 
 grows : {w : ℕ} (l : Level) (ch : Channel) (x : Beat w) (burst : List (Beat w)) → IsWidth w → on ch x ≡ true
-    → illegal_under all_but_early l ch x ≡ None → breaks_burst x burst ≡ false → AreBegun l ch burst → AreBegun l ch (grown x burst)
+    → illegal_under all_liberties l ch x ≡ None → breaks_burst x burst ≡ false → AreBegun l ch burst → AreBegun l ch (grown x burst)
 grows l ch x burst is own alone e begun = elim (cases_eq (length burst + 1) (burst_length x)) [
   | inl last ↦ rw (eq-eqb (length burst + 1) (burst_length x) last) tt
   | inr more ↦
@@ -73,7 +73,7 @@ grows l ch x burst is own alone e begun = elim (cases_eq (length burst + 1) (bur
 ]
 
 -- so are the beats of each channel that are unfinished
-pub are-begun : {w : ℕ} (l : Level) (ch : Channel) (t : History w) → IsWidth w → is_legal_under all_but_early l t ≡ true
+pub are-begun : {w : ℕ} (l : Level) (ch : Channel) (t : History w) → IsWidth w → is_legal_under all_liberties l t ≡ true
     → AreBegun l ch (unfinished ch t)
 unfolding unfinished
 are-begun l ch [] is legal = tt
@@ -84,16 +84,16 @@ are-begun {w} l ch (x ∷ t) is legal = elim (cases_Bool (on ch x)) [
       (are-begun l ch t is parts.1))
 ]
   where
-    parts : (broken_after_under all_but_early l x t ≡ None) × (is_legal_under all_but_early l t ≡ true)
+    parts : (broken_after_under all_liberties l x t ≡ None) × (is_legal_under all_liberties l t ≡ true)
     parts = legal-parts l x t legal
 
-    alone : on ch x ≡ true → illegal_under all_but_early l ch x ≡ None
-    alone own = ap (λ c. illegal_under all_but_early l c x) (sym (on-own ch x own)) ∙ by_itself l x t parts.0
+    alone : on ch x ≡ true → illegal_under all_liberties l ch x ≡ None
+    alone own = ap (λ c. illegal_under all_liberties l c x) (sym (on-own ch x own)) ∙ by_itself l x t parts.0
 
 -- ---- a beat that breaks no rule
 
-module _ {w : ℕ} (l : Level) (x : Beat w) (t : History w) (is : IsWidth w) (legal : is_legal_under all_but_early l t ≡ true)
-    (fine : broken_after_under all_but_early l x t ≡ None) where
+module _ {w : ℕ} (l : Level) (x : Beat w) (t : History w) (is : IsWidth w) (legal : is_legal_under all_liberties l t ≡ true)
+    (fine : broken_after_under all_liberties l x t ≡ None) where
   abbrev before : List (Beat w)
   before = unfinished (channel_of x) t
 
@@ -111,7 +111,7 @@ module _ {w : ℕ} (l : Level) (x : Beat w) (t : History w) (is : IsWidth w) (le
 
 -- a block has room for its bytes, and its mask names no lane that there isn't
 pub has-room : {w : ℕ} (l : Level) (x : Beat w) (t : History w) → IsWidth w → IsTyped x
-    → is_legal_under all_but_early l t ≡ true → broken_after_under all_but_early l x t ≡ None → HasRoom x (unfinished (channel_of x) t)
+    → is_legal_under all_liberties l t ≡ true → broken_after_under all_liberties l x t ≡ None → HasRoom x (unfinished (channel_of x) t)
 has-room {w} l (Beat.A x) t is typed legal fine = (
   room l (Beat.A x) t is legal fine,
   narrow w l x.opcode x.param x.size x.address x.mask is typed.0 (is-request l x is (by_itself l (Beat.A x) t fine)),

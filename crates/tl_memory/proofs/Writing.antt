@@ -3,16 +3,22 @@ use Rattle.tl_memory.proofs.Imports.{Beat, OpA, a_carries_data, MessageA, Access
 use Rattle.tl_memory.proofs.Imports.{others, PendingAccess, Writer, Trace, pending_accesses, written_as, AllWriteInside}
 use Rattle.tl_memory.proofs.Imports.{IsAsked, is_to, WritesInside, AreKnown, KnowsAccesses}
 use Rattle.std.proofs.Common.{◌≡◌, ℕ, zero, suc, Bool, true, false, not, ◌&&◌, ◌||◌, ◌+◌, ◌*◌, ◌/◌, ◌<◌, List, [], ◌∷◌}
-use Rattle.std.proofs.Common.{◌++◌, length, refl, sym, ap, ◌∙◌, arith, inl, inr, get_or, take, append-nil}
+use Rattle.std.proofs.Common.{◌++◌, length, refl, sym, ap, ap₂, ◌∙◌, arith, inl, inr, get_or, take, append-nil}
 use Rattle.std.proofs.lemmas.List.{take_more}
-use Rattle.std.specs.Prelude.{if◌then◌else◌, filter, is_some, nat_lt, None, Option, Some, ◌==◌}
+use Rattle.std.specs.Prelude.{if◌then◌else◌, filter, find, is_some, nat_lt, None, Option, Some, ◌==◌}
 use Rattle.std.proofs.lemmas.Bool.{cases_Bool, eq-eqb, lt-ltb}
 use Rattle.tl_params.specs.declared.perm.Perm.{Perm}
 use Rattle.tl_bytes.specs.code.Tellings.{is_written, leaves, value_at, left_as}
 use Rattle.tl_bytes.specs.statement.Bytes.{could_be, is_put, pending_value, value_left, value_written, windows_since}
 use Rattle.tl_bytes.specs.statement.Known.{count_of, MayWrite, windowed}
-use Rattle.tl_memory.specs.code.Writers.{names, picked, some_window, writes_but, writes_windowed}
+use Rattle.tl_memory.specs.code.Writers.{names, picked, some_window, writes_but, writes_outrun, writes_windowed}
 use Rattle.tl_memory.specs.declared.access.Asked.{Asked}
+use Rattle.tl_bytes.specs.declared.write.Write.{Write}
+use Rattle.tl_bytes.specs.statement.Early.{Outrun, is_outrun}
+unfoldable use Rattle.tl_bytes.specs.statement.Early.{outrun_accesses}
+use Rattle.tl_burst.specs.statement.Burst.{reaches}
+use Rattle.tl_memory.specs.declared.early.OutrunAccess.{OutrunAccess}
+use Rattle.tl_memory.specs.statement.Known.{AllReachInside, AreOutrun, KnowsOutrun, outruns_in}
 
 pub spoiled_value : (b : Bool) (v : ℕ) → b ≡ true → (if b then None else Some v) ≡ None
 spoiled_value b v e = rw e refl
@@ -122,10 +128,15 @@ first_of true true x y o p e f = refl
 first_of false false x y o p e f = f
 first_of v u x y o p e f = absurd cc
 
+-- these are the writes of these accesses to the block
+abbrev WritesAs : {w : ℕ} → List Write → ℕ → List (Access w) → Type 0
+WritesAs writes block accesses = (place byte : ℕ) → place < 64
+    → left_as place byte writes ≡ written_as (64 * block + place) byte accesses
+
 -- what others write is what the accesses may write that are others
 others-write : {w : ℕ} (n link source block : ℕ) (admits : Perm → Bool) (seen : Trace w) (pending : List (PendingAccess w))
     (accesses : List (Access w)) → AreKnown pending admits n block accesses seen
-    → MayWrite (writes_but link source pending) block (filter (λ other. not (is_of link source other)) accesses)
+    → WritesAs (writes_but link source pending) block (filter (λ other. not (is_of link source other)) accesses)
 unfolding picked
 others-write n link source block admits seen [] [] are place byte lt = refl
 others-write n link source block admits seen (x ∷ pending) (y ∷ accesses) are place byte lt =
@@ -174,18 +185,87 @@ written-here block place byte keep (x ∷ accesses) lt inside =
       ]
     ]
 
--- what others may write than an access
-pub others-may-write : {w : ℕ} (n block : ℕ) (asked : Asked w) (access : Access w) (t : Trace w)
+-- ---- what those write whose answers outran their requests
+
+found-append : {X : Type 0} (test : X → Bool) (xs ys : List X)
+    → is_some (find test (xs ++ ys)) ≡ (is_some (find test xs) || is_some (find test ys))
+found-append test [] ys = refl
+found-append test (x ∷ xs) ys = elim (cases_Bool (test x)) [
+  | inl here ↦ rw here refl
+  | inr other ↦ rw other (found-append test xs ys)
+]
+
+outrun-write : (block : ℕ) (outrun : List OutrunAccess) (accesses : List Outrun) → AreOutrun outrun block accesses
+    → (place byte : ℕ) → place < 64
+    → left_as place byte (writes_outrun outrun) ≡ is_outrun (64 * block + place) accesses
+unfolding picked
+outrun-write block [] [] are place byte lt = refl
+outrun-write block (x ∷ outrun) (y ∷ accesses) are place byte lt =
+    first_of (leaves place byte x.write) (reaches y.address y.size (64 * block + place)) x.write y _ _
+    (any (is_written x.write place) (value_at x.write place) (are.0.any place) ∙ are.0.reaches_it place lt)
+    (outrun-write block outrun accesses are.1 place byte lt)
+  where
+    any : (b : Bool) (v : Option ℕ) → v ≡ None → (b && could_be byte v) ≡ b
+    any true v e = rw e refl
+    any false v e = refl
+outrun-write block v u are place byte lt = absurd are
+
+pub reached-here : (block place : ℕ) (accesses : List Outrun) → place < 64 → AllReachInside accesses
+    → is_outrun (64 * block + place) (filter (outruns_in block) accesses) ≡ is_outrun (64 * block + place) accesses
+reached-here block place [] lt inside = refl
+reached-here block place (x ∷ accesses) lt inside =
+    let more = reached-here block place accesses lt inside.1 in
+    elim (cases_Bool (outruns_in block x)) [
+      | inl here ↦ rw here (first_of _ _ x x _ _ refl more)
+      | inr elsewhere ↦ rw elsewhere (more ∙ sym (left_out _ x _ (apart_from elsewhere)))
+    ]
+  where
+    left_out : {X : Type 0} (b : Bool) (y : X) (o : Option X) → b ≡ false → is_some (if b then Some y else o) ≡ is_some o
+    left_out b y o e = rw e refl
+
+    differ : true ≡ false → ⊥
+    differ e = cc
+
+    apart_from : outruns_in block x ≡ false → reaches x.address x.size (64 * block + place) ≡ false
+    apart_from other = elim (cases_Bool (reaches x.address x.size (64 * block + place))) [
+      | inr none ↦ none
+      | inl some ↦
+          let here : (64 * block + place) / 64 ≡ block = omega arith in
+          absurd (differ (sym (eq-eqb (x.address / 64) block (sym (inside.0 (64 * block + place) some) ∙ here)) ∙ other))
+    ]
+
+-- with these writes too
+with-outrun : {w : ℕ} (block : ℕ) (writes : List Write) (accesses : List (Access w)) (outrun : List OutrunAccess)
+    (all : List Outrun) → WritesAs writes block accesses → KnowsOutrun outrun block all
+    → MayWrite (writes ++ writes_outrun outrun) block accesses all
+with-outrun block writes accesses outrun all known k place byte lt =
+    found-append (leaves place byte) writes (writes_outrun outrun)
+    ∙ ap₂ (λ a b. a || b) (known place byte lt)
+    (outrun-write block outrun (filter (outruns_in block) all) k.are place byte lt
+    ∙ reached-here block place all lt k.inside)
+
+-- what others write than an access
+others-writes : {w : ℕ} (n block : ℕ) (asked : Asked w) (access : Access w) (t : Trace w)
     (pending : List (PendingAccess w)) {admits : Perm → Bool} → IsAsked asked access
     → KnowsAccesses pending admits n block t t
-    → MayWrite (writes_but asked.link.0 asked.request.source pending) block (others access t)
-others-may-write n block asked access t pending {admits} k known place byte lt =
+    → WritesAs (writes_but asked.link.0 asked.request.source pending) block (others access t)
+others-writes n block asked access t pending {admits} k known place byte lt =
     ap (λ l. left_as place byte (writes_but l asked.request.source pending)) k.link_is
     ∙ ap (λ s. left_as place byte (writes_but access.link s pending)) k.source_is
     ∙ others-write n access.link access.request.source block admits t pending (filter (is_to block) (pending_accesses t))
     known.accesses_are place byte lt
     ∙ written-here block place byte (λ other. not (is_of access.link access.request.source other)) (pending_accesses t)
     lt known.inside
+
+-- what others may write than an access
+pub others-may-write : {w : ℕ} (n block : ℕ) (asked : Asked w) (access : Access w) (t : Trace w)
+    (pending : List (PendingAccess w)) (outrun : List OutrunAccess) {admits : Perm → Bool} → IsAsked asked access
+    → KnowsAccesses pending admits n block t t → KnowsOutrun outrun block (outrun_accesses t)
+    → MayWrite (writes_but asked.link.0 asked.request.source pending ++ writes_outrun outrun) block (others access t)
+    (outrun_accesses t)
+others-may-write n block asked access t pending outrun {admits} k known out =
+    with-outrun block (writes_but asked.link.0 asked.request.source pending) (others access t) outrun (outrun_accesses t)
+    (others-writes n block asked access t pending k known) out
 
 -- ---- what those may write that have had a window
 
@@ -196,7 +276,7 @@ some-is (suc (suc k)) = sym (lt-ltb 0 (suc (suc k)) (omega arith))
 
 windowed-write : {w : ℕ} (n block : ℕ) (admits : Perm → Bool) (t : Trace w) (pending : List (PendingAccess w))
     (accesses : List (Access w)) → AreKnown pending admits n block accesses t
-    → MayWrite (writes_windowed pending) block (filter (λ x. nat_lt 0 (windows_since n block x.asked t)) accesses)
+    → WritesAs (writes_windowed pending) block (filter (λ x. nat_lt 0 (windows_since n block x.asked t)) accesses)
 unfolding picked
 windowed-write n block admits t [] [] are place byte lt = refl
 windowed-write n block admits t (x ∷ pending) (y ∷ accesses) are place byte lt =
@@ -211,7 +291,11 @@ windowed-write n block admits t v u are place byte lt = absurd are
 
 -- so that a Grant may bring it
 pub windowed-may-write : {w : ℕ} (n block : ℕ) (admits : Perm → Bool) (t : Trace w) (pending : List (PendingAccess w))
-    → KnowsAccesses pending admits n block t t → MayWrite (writes_windowed pending) block (windowed n block t)
-windowed-may-write n block admits t pending k place byte lt =
+    (outrun : List OutrunAccess) → KnowsAccesses pending admits n block t t
+    → KnowsOutrun outrun block (outrun_accesses t)
+    → MayWrite (writes_windowed pending ++ writes_outrun outrun) block (windowed n block t) (outrun_accesses t)
+windowed-may-write n block admits t pending outrun k out =
+    with-outrun block (writes_windowed pending) (windowed n block t) outrun (outrun_accesses t) (λ place byte lt.
     windowed-write n block admits t pending (filter (is_to block) (pending_accesses t)) k.accesses_are place byte lt
-    ∙ written-here block place byte (λ x. nat_lt 0 (windows_since n block x.asked t)) (pending_accesses t) lt k.inside
+    ∙ written-here block place byte (λ x. nat_lt 0 (windows_since n block x.asked t)) (pending_accesses t) lt k.inside)
+    out

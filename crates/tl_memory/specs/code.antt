@@ -1,5 +1,6 @@
 pub mod Allowed
 pub mod Changing
+pub mod Early
 pub mod Elsewhere
 pub mod Expected
 pub mod Lines

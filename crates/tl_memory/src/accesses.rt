@@ -5,6 +5,7 @@ ghost use Rattle.tl_memory.specs.code.Writers.{AreRenewed, AreWatched, found_by,
 ghost use Rattle.tl_memory.specs.code.Writers as writers;
 ghost use Rattle.tl_memory.specs.declared.pending.PendingAccess.{PendingAccess};
 
+use crate::early::OutrunAccess;
 use crate::free::Freedom;
 use crate::pending::PendingAccess;
 use std::alloc::{AllocError, Global};
@@ -47,13 +48,14 @@ pub fn append_renewed<const W: usize>(
     gone: Option<(Link, u8)>,
     free: Freedom,
     bytes: &BlockBytes,
+    outrun: &[OutrunAccess],
 ) -> Result<(), AllocError>
     ensures { OnOk result ((more : List (PendingAccess W)) × (copies.new.items ≡ copies.old.items ++ more)
-        × AreRenewed (found_by free bytes.now accesses.now) (staying gone accesses.now) more) }
+        × AreRenewed (found_by free bytes.now accesses.now outrun.now) (staying gone accesses.now) more) }
 {
     for access in accesses {
         if stays(access, gone) {
-            copies.push(access.renewed(alloc, free, bytes, accesses)?)?;
+            copies.push(access.renewed(alloc, free, bytes, accesses, outrun)?)?;
         }
     }
     Ok(())

@@ -1,13 +1,12 @@
 //! The bytes that a response may bring when it begins.
 
-ghost use Rattle.std.specs.Prelude.{ℕ, ◌≡◌, ◌<◌, ◌^◌, IfOk, Some, None};
+ghost use Rattle.std.specs.Prelude.{ℕ, ◌≡◌, IfOk, Some};
 ghost use Rattle.tl_beat.specs.declared.channel.Channel.TheVariants as channel;
 ghost use Rattle.tl_burst.specs.statement.Messages.{unfinished};
-ghost use Rattle.tl_rules.specs.declared.past.Request.{Request};
 ghost use Rattle.tl_rules.specs.statement.Conformance.{Trace, on_link};
 ghost use Rattle.tl_memory.specs.code.Changing.{ExpectsAlong, ExpectsBegun};
 ghost use Rattle.tl_memory.specs.code.Elsewhere.{block_borne};
-ghost use Rattle.tl_memory.specs.code.Taking.{IsLegalBeat, IsResponse};
+ghost use Rattle.tl_memory.specs.code.Taking.{AnswersTo, IsLegalBeat};
 ghost use Rattle.tl_memory.specs.statement.Expecting.{ExpectsLater, ExpectsResponse};
 ghost use Rattle.tl_memory.specs.statement.Known.{KnowsMessage, KnowsState};
 ghost use Rattle.tl_memory.specs.statement.Memory.{AreAddressed};
@@ -28,8 +27,8 @@ pub fn begun<const W: usize>(
     y: &BeatD<W>,
     block: u32,
 ) -> Result<Option<Expected>, AllocError>
-    ensures { IfOk result (λ expected. (n : ℕ) (asked : Request) (t : Trace W) → KnowsState state.now n block t →
-        IsResponse link.0 y.now asked t → asked.block ≡ block → block < 2 ^ 26 →
+    ensures { IfOk result (λ expected. (n : ℕ) (t : Trace W) → KnowsState state.now n block t →
+        AnswersTo link.0 y.now block t → AreAddressed t →
         ExpectsResponse expected n link.0 y.now.opcode y.now.source t t) }
 {
     match y.opcode {
@@ -54,8 +53,8 @@ pub fn along<const W: usize>(
     link: Link,
     y: &BeatD<W>,
 ) -> Result<Option<Expected>, AllocError>
-    ensures { IfOk result (λ expected. (n block : ℕ) (asked : Request) (t : Trace W) → KnowsState state.now n block t →
-        IsResponse link.0 y.now asked t → asked.block ≡ block →
+    ensures { IfOk result (λ expected. (n block : ℕ) (t : Trace W) → KnowsState state.now n block t →
+        AnswersTo link.0 y.now block t →
         ExpectsLater expected n link.0 y.now.opcode y.now.source t) }
 {
     match y.opcode {

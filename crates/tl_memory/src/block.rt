@@ -1,7 +1,7 @@
 //! The state of a block.
 
 ghost use Rattle.std.specs.Prelude.{ℕ, suc, true, false, not, None, [], ◌∷◌, ◌≡◌, ◌≤◌, ◌&&◌, ◌-◌, length, find, IfOk};
-ghost use Rattle.std.specs.Prelude.{if◌then◌else◌, filter, unwrap_or};
+ghost use Rattle.std.specs.Prelude.{if◌then◌else◌, filter, is_some, unwrap_or};
 ghost use Rattle.tl_beat.specs.declared.beat.Beat.{Beat};
 ghost use Rattle.tl_beat.specs.declared.beat.Beat.TheVariants as beat;
 ghost use Rattle.tl_beat.specs.declared.beat.BeatD.{BeatD};
@@ -14,13 +14,14 @@ ghost use Rattle.tl_rules.specs.statement.Conformance.{Trace, on_link};
 ghost use Rattle.tl_rules.specs.statement.History.{block_at};
 ghost use Rattle.tl_bytes.specs.statement.Bytes.{asks, ends_request, is_of, pending_accesses, tells};
 ghost use Rattle.tl_bytes.specs.statement.Free.{is_free};
-ghost use Rattle.tl_bytes.specs.statement.Known.{AreCarried, KnowsBlock, KnowsGrant};
+ghost use Rattle.tl_bytes.specs.statement.Known.{AreCarried, KnowsBlock, KnowsGrant, NoneSettled};
 ghost use Rattle.tl_memory.specs.code.Elsewhere.{IsElsewhere};
 ghost use Rattle.tl_memory.specs.code.Writers.{AreRenewed, found_by, keeps, staying};
 ghost use Rattle.tl_bytes.specs.statement.Known.{tellings_of};
 ghost use Rattle.tl_bytes.specs.statement.Lines.{told_moment};
 
 use crate::accesses::{append_renewed, find, watch};
+use crate::early::OutrunAccess;
 use crate::expected::Expected;
 use crate::free::Freedom;
 use crate::granted::granted;
@@ -39,18 +40,22 @@ use tl_bytes::windows::WritingWindows;
 /// is free. Before that changes, each access gets the bytes that it may find.
 #[derive(Drop)]
 pub struct BlockState<const W: usize> {
-    bytes: BlockBytes,
+    pub(crate) bytes: BlockBytes,
     accesses: Vec<PendingAccess<W>>,
+    /// The accesses whose answers began before their requests were complete, until both are complete.
+    pub(crate) outrun: Vec<OutrunAccess>,
     free: Freedom,
     /// The last moment at which it was free for writing, if it isn't now.
     last_free: u64,
 }
 
-/// The change that a beat makes to the state of a block: its bytes, if the beat changes them, and the pending accesses.
+/// The change that a beat makes to the state of a block: its bytes, if the beat changes them, the pending accesses, and
+/// those whose answers outran their requests, if the beat changes them.
 #[derive(Drop)]
 pub struct NextState<const W: usize> {
     bytes: Option<BlockBytes>,
     accesses: Vec<PendingAccess<W>>,
+    outrun: Option<Vec<OutrunAccess>>,
 }
 
 /// The last moment at which a block was free, if it isn't free with one more beat, at this moment.
@@ -70,7 +75,9 @@ impl<const W: usize> BlockState<W> {
     ghost use Rattle.tl_memory.specs.statement.Expecting.{ExpectsAgain};
     ghost use Rattle.tl_memory.specs.statement.Known.{AllWriteInside, KnowsState, KnowsUnseen, free_for, freedom};
     ghost use Rattle.tl_memory.specs.statement.Known.{open_for};
-    ghost use Rattle.tl_memory.specs.statement.Known.{is_to};
+    ghost use Rattle.tl_bytes.specs.statement.Early.{is_outrun_of, outrun_accesses};
+    ghost use Rattle.tl_memory.specs.code.Elsewhere.{LeavesOutrun};
+    ghost use Rattle.tl_memory.specs.statement.Known.{KnowsOutrun, is_to};
 
     /// A block before the trace: its bytes may have any value, no access to it is pending, and it is free.
     pub fn new(alloc: Global) -> Self
@@ -79,6 +86,7 @@ impl<const W: usize> BlockState<W> {
         BlockState {
             bytes: BlockBytes::new(alloc),
             accesses: Vec::new(alloc),
+            outrun: Vec::new(alloc),
             free: Freedom {
                 reading: true,
                 writing: true,
@@ -108,7 +116,12 @@ impl<const W: usize> BlockState<W> {
         ensures { IfOk result (λ read. (n block : ℕ) (t : Trace W) → KnowsState self.now n block t →
             KnowsGrant read n block t) }
     {
-        granted(alloc, &self.bytes, self.accesses.as_slice())
+        granted(
+            alloc,
+            &self.bytes,
+            self.accesses.as_slice(),
+            self.outrun.as_slice(),
+        )
     }
 
     /// The bytes that the answer to the pending access with this source on a link, which is no Put, may bring now. The
@@ -128,7 +141,13 @@ impl<const W: usize> BlockState<W> {
         let Some(access) = find(accesses, link, source) else {
             return Ok(None);
         };
-        let renewed = access.renewed(alloc, self.free, &self.bytes, accesses)?;
+        let renewed = access.renewed(
+            alloc,
+            self.free,
+            &self.bytes,
+            accesses,
+            self.outrun.as_slice(),
+        )?;
         Ok(Some(Expected {
             address: renewed.writer.asked.request.address,
             size: renewed.writer.asked.request.size,
@@ -163,7 +182,8 @@ impl<const W: usize> BlockState<W> {
         alloc: Global,
         gone: Option<(Link, u8)>,
     ) -> Result<Vec<PendingAccess<W>>, AllocError>
-        ensures { IfOk result (λ copies. AreRenewed (found_by self.now.free self.now.bytes self.now.accesses.items)
+        ensures { IfOk result (λ copies. AreRenewed (found_by self.now.free self.now.bytes self.now.accesses.items
+            self.now.outrun.items)
             (staying gone self.now.accesses.items) copies.items) }
     {
         let mut copies = Vec::new(alloc);
@@ -174,16 +194,18 @@ impl<const W: usize> BlockState<W> {
             gone,
             self.free,
             &self.bytes,
+            self.outrun.as_slice(),
         )?;
         Ok(copies)
     }
 
     /// The change by a beat that sets these bytes, if there are any. `gone` is the access that ends, if one does.
     #[inline(always)]
-    fn with_bytes(
+    pub(crate) fn with_bytes(
         &self,
         alloc: Global,
         bytes: Option<BlockBytes>,
+        outrun: Option<Vec<OutrunAccess>>,
         gone: Option<(Link, u8)>,
     ) -> Result<NextState<W>, AllocError>
         ensures { IfOk result (λ next. (n block : ℕ) (x : Link × Beat W) (t : Trace W) →
@@ -191,10 +213,15 @@ impl<const W: usize> BlockState<W> {
             filter (is_to block) (pending_accesses (x ∷ t))
             ≡ filter (keeps gone) (filter (is_to block) (pending_accesses t)) →
             AllWriteInside (pending_accesses (x ∷ t)) →
+            KnowsOutrun (unwrap_or outrun self.now.outrun).items block (outrun_accesses (x ∷ t)) →
             KnowsUnseen (with_next self.now next) n block x t) }
     {
         let accesses = self.renewed(alloc, gone)?;
-        Ok(NextState { bytes, accesses })
+        Ok(NextState {
+            bytes,
+            accesses,
+            outrun,
+        })
     }
 
     /// The change by a beat that changes at most whether the block is free. The error means that there is no memory
@@ -204,7 +231,7 @@ impl<const W: usize> BlockState<W> {
             KnowsState self.now n block t → IsElsewhere block x t →
             KnowsUnseen (with_next self.now next) n block x t) }
     {
-        self.with_bytes(alloc, None, None)
+        self.with_bytes(alloc, None, None, None)
     }
 
     /// The change by a beat that sets these bytes; `moment` is the number of beats before it. The error means that
@@ -217,11 +244,11 @@ impl<const W: usize> BlockState<W> {
     ) -> Result<NextState<W>, AllocError>
         ensures { IfOk result (λ next. (n block : ℕ) (x : Link × Beat W) (t : Trace W) →
             KnowsState self.now n block t → tells block x.1 (on_link x.0.0 t) ≡ true →
-            pending_accesses (x ∷ t) ≡ pending_accesses t → moment ≡ length t → AreCarried values.now x t →
+            pending_accesses (x ∷ t) ≡ pending_accesses t → LeavesOutrun block x t → moment ≡ length t → AreCarried values.now x t →
             KnowsUnseen (with_next self.now next) n block x t) }
     {
         let bytes = BlockBytes::told(alloc, values, moment)?;
-        self.with_bytes(alloc, Some(bytes), None)
+        self.with_bytes(alloc, Some(bytes), None, None)
     }
 
     /// The bytes after a beat that completes the answer to an access, if it changes them. `moment` is the number of
@@ -239,6 +266,7 @@ impl<const W: usize> BlockState<W> {
             KnowsState self.now n block t → tells block (beat.D y.now) (on_link link.0 t) ≡ false →
             ends_request y.now (on_link link.0 t) ≡ true →
             AnyIsTo block (find (is_of link.0 y.now.source) (pending_accesses t)) →
+            NoneSettled block (link, beat.D y.now) t →
             KnowsMessage brought.now (unfinished channel.D (on_link link.0 t)) →
             HasRoom (beat.D y.now) (unfinished channel.D (on_link link.0 t)) → moment ≡ length t →
             KnowsBlock (unwrap_or bytes self.now.bytes) n block ((link, beat.D y.now) ∷ t)) }
@@ -271,12 +299,13 @@ impl<const W: usize> BlockState<W> {
             KnowsState self.now n block t → tells block (beat.D y.now) (on_link link.0 t) ≡ false →
             ends_request y.now (on_link link.0 t) ≡ true →
             AnyIsTo block (find (is_of link.0 y.now.source) (pending_accesses t)) →
+            NoneSettled block (link, beat.D y.now) t → LeavesOutrun block (link, beat.D y.now) t →
             KnowsMessage brought.now (unfinished channel.D (on_link link.0 t)) →
             HasRoom (beat.D y.now) (unfinished channel.D (on_link link.0 t)) → moment ≡ length t →
             KnowsUnseen (with_next self.now next) n block (link, beat.D y.now) t) }
     {
         let bytes = self.bytes_answered(alloc, link, y, brought, moment)?;
-        self.with_bytes(alloc, bytes, Some((link, y.source)))
+        self.with_bytes(alloc, bytes, None, Some((link, y.source)))
     }
 
     /// Notes whether the block is free with a beat, at this moment.
@@ -316,7 +345,14 @@ impl<const W: usize> BlockState<W> {
             return Ok(PendingAccess::new(alloc, &writer, windows));
         };
         let writer = Writer::new(link, y, brought, first.writer.asked.moment);
-        first.grown(alloc, &writer, self.free, &self.bytes, accesses)
+        first.grown(
+            alloc,
+            &writer,
+            self.free,
+            &self.bytes,
+            accesses,
+            self.outrun.as_slice(),
+        )
     }
 
     /// The change by a beat of the request of an access to the block, at this moment. `brought` are the bytes of the
@@ -333,7 +369,8 @@ impl<const W: usize> BlockState<W> {
         requires small { y.now.size ≤ 6 }
         ensures { IfOk result (λ next. (n block : ℕ) (t : Trace W) → KnowsState self.now n block t →
             KnowsMessage brought.now (beat.A y.now ∷ unfinished channel.A (on_link link.0 t)) →
-            IsRequested link.0 y.now t → asks y.now (on_link link.0 t) ≡ true → block_at y.now.address ≡ block →
+            IsRequested link.0 y.now t → asks y.now (on_link link.0 t) ≡ true →
+            is_some (find (is_outrun_of link.0 y.now.source) (outrun_accesses t)) ≡ false → block_at y.now.address ≡ block →
             moment ≡ suc (length t) →
             KnowsState (with_next self.now next) n block ((link, beat.A y.now) ∷ t)) }
     {
@@ -342,10 +379,19 @@ impl<const W: usize> BlockState<W> {
         let gone = Some((link, y.source));
         let mut accesses = Vec::with_capacity(alloc, before.len().saturating_add(1))?;
         accesses.push(own)?;
-        append_renewed(alloc, &mut accesses, before, gone, self.free, &self.bytes)?;
+        append_renewed(
+            alloc,
+            &mut accesses,
+            before,
+            gone,
+            self.free,
+            &self.bytes,
+            self.outrun.as_slice(),
+        )?;
         Ok(NextState {
             bytes: None,
             accesses,
+            outrun: None,
         })
     }
 
@@ -353,6 +399,7 @@ impl<const W: usize> BlockState<W> {
     fn put_bytes(&mut self, bytes: Option<BlockBytes>)
         ensures bytes { self.new.bytes ≡ unwrap_or bytes self.old.bytes }
         ensures accesses { self.new.accesses ≡ self.old.accesses }
+        ensures outrun { self.new.outrun ≡ self.old.outrun }
         ensures free { self.new.free ≡ self.old.free }
         ensures last_free { self.new.last_free ≡ self.old.last_free }
     {
@@ -361,12 +408,33 @@ impl<const W: usize> BlockState<W> {
         }
     }
 
+    /// Puts these accesses whose answers outran their requests, if there are any.
+    fn put_outrun(&mut self, outrun: Option<Vec<OutrunAccess>>)
+        ensures bytes { self.new.bytes ≡ self.old.bytes }
+        ensures accesses { self.new.accesses ≡ self.old.accesses }
+        ensures outrun { self.new.outrun ≡ unwrap_or outrun self.old.outrun }
+        ensures free { self.new.free ≡ self.old.free }
+        ensures last_free { self.new.last_free ≡ self.old.last_free }
+    {
+        if let Some(outrun) = outrun {
+            self.outrun = outrun;
+        }
+    }
+
     /// Makes the change of a beat, if there is one.
     fn put(&mut self, next: Option<NextState<W>>)
         ensures { self.new ≡ put_next self.old next.entry }
     {
-        if let Some(NextState { bytes, accesses }) = next {
+        if let Some(
+            NextState {
+                bytes,
+                accesses,
+                outrun,
+            },
+        ) = next
+        {
             self.put_bytes(bytes);
+            self.put_outrun(outrun);
             self.accesses = accesses;
             self.free.shown = false;
         }

@@ -5,9 +5,11 @@ ghost use Rattle.tl_params.specs.declared.perm.Perm.{Perm};
 ghost use Rattle.tl_rules.specs.statement.Conformance.{Trace};
 ghost use Rattle.tl_bytes.specs.statement.Known.{KnowsBlock, KnowsGrant};
 ghost use Rattle.tl_memory.specs.code.Writers.{some_window, writes_windowed};
-ghost use Rattle.tl_memory.specs.statement.Known.{KnowsAccesses};
+ghost use Rattle.tl_bytes.specs.statement.Early.{outrun_accesses};
+ghost use Rattle.tl_memory.specs.statement.Known.{KnowsAccesses, KnowsOutrun};
 
-use crate::pending::PendingAccess;
+use crate::early::OutrunAccess;
+use crate::pending::{PendingAccess, append_outrun};
 use std::alloc::{AllocError, Global};
 use tl_bytes::block_bytes::BlockBytes;
 use tl_bytes::read_bytes::ReadBytes;
@@ -40,17 +42,21 @@ fn writes_in_windows<const W: usize>(
     Ok(writes)
 }
 
-/// The bytes that may be granted of a block with these bytes and these pending accesses. The error means that there is
+/// The bytes that may be granted of a block with these bytes and these pending accesses; `outrun` are those whose answers
+/// outran their requests. The error means that there is
 /// no memory left.
 pub fn granted<const W: usize>(
     alloc: Global,
     bytes: &BlockBytes,
     accesses: &[PendingAccess<W>],
+    outrun: &[OutrunAccess],
 ) -> Result<ReadBytes, AllocError>
     ensures { IfOk result (λ read. (n block : ℕ) (admits : Perm → Bool) (t : Trace W) → KnowsBlock bytes.now n block t →
-        KnowsAccesses accesses.now admits n block t t → KnowsGrant read n block t) }
+        KnowsAccesses accesses.now admits n block t t → KnowsOutrun outrun.now block (outrun_accesses t) →
+        KnowsGrant read n block t) }
 {
-    let writes = writes_in_windows(alloc, accesses)?;
+    let mut writes = writes_in_windows(alloc, accesses)?;
+    append_outrun(&mut writes, outrun)?;
     let read = ReadBytes::granted(alloc, bytes, writes.as_slice())?;
     Ok(read)
 }

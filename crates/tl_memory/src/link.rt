@@ -1,6 +1,6 @@
 //! The state of a link.
 
-ghost use Rattle.std.specs.Prelude.{ℕ, true, false, [], ◌∷◌, ◌≡◌, List, None, length, option_copied};
+ghost use Rattle.std.specs.Prelude.{ℕ, true, false, if◌then◌else◌, ◌&&◌, [], ◌∷◌, ◌≡◌, ◌≤◌, List, None, length, option_copied};
 ghost use Rattle.tl_beat.specs.declared.beat.Beat.{Beat};
 ghost use Rattle.tl_beat.specs.declared.beat.Beat.TheVariants as beat;
 ghost use Rattle.tl_beat.specs.declared.beat.BeatD.{BeatD};
@@ -11,26 +11,157 @@ ghost use Rattle.tl_burst.specs.statement.Messages.{History, unfinished};
 ghost use Rattle.tl_params.specs.declared.level.Level.{Level};
 ghost use Rattle.tl_rules.specs.statement.Conformance.{Trace, on_link};
 ghost use Rattle.tl_rules.specs.statement.Liberties.{broken_after_under, is_legal_under};
-ghost use Rattle.tl_bytes.specs.statement.Free.{all_but_early};
-ghost use Rattle.tl_rules.specs.statement.History.{begins};
+ghost use Rattle.tl_bytes.specs.statement.Free.{all_liberties};
+ghost use Rattle.tl_rules.specs.statement.History.{begins, is_release_ack};
 ghost use Rattle.tl_bytes.specs.statement.Bytes as bytes;
 ghost use Rattle.tl_memory.specs.code.Allowed as allowed;
+ghost use Rattle.tl_memory.specs.code.Early as early;
+ghost use Rattle.tl_memory.specs.code.Elsewhere.{IsConcerned};
 
+use crate::early::{Asking, Doubt, Granting, Releasing};
 use crate::expected::Expected;
 use crate::message::{CarriedMessage, is_small};
 use crate::typed::prove_request;
-use tl_beat::beat::{Beat, BeatD};
+use tl_beat::beat::{Beat, BeatA, BeatC, BeatD};
 use tl_beat::opcode::OpD;
+use tl_rules::key::block_at;
+use tl_rules::kind::{is_grant, is_release, is_release_ack};
 
-/// The unfinished messages of a link on channels A, C and D, which carry bytes to memory and back.
+/// The unfinished messages of a link on channels A, C and D, which carry bytes to memory and back, and the fields of them
+/// that an early answer depends on.
 #[derive(Clone, Copy)]
 pub struct LinkMessages {
     pub a: CarriedMessage,
     pub c: CarriedMessage,
     pub d: CarriedMessage,
+    /// The unfinished request on channel A.
+    pub asking: Option<Asking>,
+    /// The unfinished Release on channel C.
+    pub releasing: Option<Releasing>,
+    /// The unfinished Grant on channel D.
+    pub granting: Option<Granting>,
+}
+
+/// The unfinished request after a beat of channel A, which completes it or not.
+fn asking_after<const W: usize>(x: &BeatA<W>, completes: bool) -> Option<Asking>
+    ensures { result ≡ early.asking_after x.now completes }
+{
+    if completes {
+        return None;
+    }
+    Some(Asking {
+        source: x.source,
+        address: x.address,
+        size: x.size,
+    })
+}
+
+/// The unfinished Release after a beat of channel C, which completes it or not.
+fn releasing_after<const W: usize>(
+    before: Option<Releasing>,
+    x: &BeatC<W>,
+    completes: bool,
+) -> Option<Releasing>
+    ensures { result ≡ early.releasing_after before x.now completes }
+{
+    if completes || !is_release(x.opcode) {
+        return None;
+    }
+    match before {
+        Some(releasing) => Some(releasing),
+        None => Some(Releasing {
+            source: x.source,
+            block: block_at(x.address),
+            answered: false,
+        }),
+    }
+}
+
+/// The unfinished Release after a ReleaseAck with this source.
+fn released(before: Option<Releasing>, source: u8) -> Option<Releasing>
+    ensures { result ≡ early.released before source }
+{
+    match before {
+        Some(releasing) if releasing.source == source => Some(Releasing {
+            answered: true,
+            ..releasing
+        }),
+        _ => before,
+    }
+}
+
+/// The unfinished Release after a beat of channel D, which completes its message or not.
+fn releasing_answered<const W: usize>(
+    before: Option<Releasing>,
+    x: &BeatD<W>,
+    completes: bool,
+) -> Option<Releasing>
+    ensures { result
+        ≡ (if completes && is_release_ack x.now.opcode then early.released before x.now.source else before) }
+{
+    if completes && is_release_ack(x.opcode) {
+        released(before, x.source)
+    } else {
+        before
+    }
+}
+
+/// The unfinished Grant after a beat of channel D, which completes it or not. `block` is the block that the beat
+/// concerns.
+fn granting_after<const W: usize>(
+    before: Option<Granting>,
+    x: &BeatD<W>,
+    block: Option<u32>,
+    completes: bool,
+) -> Option<Granting>
+    ensures { result ≡ early.granting_after before x.now block completes }
+{
+    if completes || !is_grant(x.opcode) {
+        return None;
+    }
+    match before {
+        Some(granting) => Some(granting),
+        None => {
+            let block = block?;
+            Some(Granting {
+                sink: x.sink,
+                block,
+                doubt: Doubt::Unacknowledged,
+            })
+        }
+    }
+}
+
+/// The unfinished Grant after a GrantAck with this sink.
+fn acknowledged(before: Option<Granting>, sink: u8) -> Option<Granting>
+    ensures { result ≡ early.acknowledged before sink }
+{
+    match before {
+        Some(granting) if granting.sink == sink => Some(Granting {
+            doubt: Doubt::Acknowledged,
+            ..granting
+        }),
+        _ => before,
+    }
+}
+
+/// The unfinished Grant after a report of this block is complete.
+fn overtaken(before: Option<Granting>, block: u32) -> Option<Granting>
+    ensures { result ≡ early.overtaken before block }
+{
+    match before {
+        Some(granting) if granting.block == block && granting.doubt == Doubt::Acknowledged => {
+            Some(Granting {
+                doubt: Doubt::Overtaken,
+                ..granting
+            })
+        }
+        _ => before,
+    }
 }
 
 impl LinkMessages {
+    ghost use Rattle.tl_beat.specs.declared.beat.Beat.TheVariants as beat;
     ghost use Rattle.tl_memory.specs.statement.Links.{KnowsMessages};
 
     /// No message on any channel.
@@ -41,14 +172,110 @@ impl LinkMessages {
             a: CarriedMessage::new(),
             c: CarriedMessage::new(),
             d: CarriedMessage::new(),
+            asking: None,
+            releasing: None,
+            granting: None,
         }
     }
 
-    /// Takes a beat. One whose size no message may have is left out: it breaks a rule.
-    pub fn take<const W: usize>(&mut self, beat: &Beat<W>)
+    /// The unfinished request with this source, if there is one.
+    pub fn asks_with(&self, source: u8) -> Option<Asking>
+        ensures { result ≡ early.asks_with self.now.asking source }
+    {
+        match self.asking {
+            Some(asking) if asking.source == source => Some(asking),
+            _ => None,
+        }
+    }
+
+    /// The block of the unfinished Release with this source, if there is one.
+    pub fn releases_with(&self, source: u8) -> Option<u32>
+        ensures { result ≡ early.releases_with self.now.releasing source }
+    {
+        match self.releasing {
+            Some(releasing) if releasing.source == source => Some(releasing.block),
+            _ => None,
+        }
+    }
+
+    /// Whether the unfinished Release, if there is one, was answered already.
+    pub fn is_released(&self) -> bool
+        ensures { result ≡ early.is_answered self.now.releasing }
+    {
+        match self.releasing {
+            Some(releasing) => releasing.answered,
+            None => false,
+        }
+    }
+
+    /// The block of the unfinished Grant with this sink, if there is one.
+    pub fn grants_with(&self, sink: u8) -> Option<u32>
+        ensures { result ≡ early.grants_with self.now.granting sink }
+    {
+        match self.granting {
+            Some(granting) if granting.sink == sink => Some(granting.block),
+            _ => None,
+        }
+    }
+
+    /// Whether the later beats of the unfinished Grant, if there is one, are in doubt.
+    pub fn is_overtaken(&self) -> bool
+        ensures { result ≡ early.is_in_doubt self.now.granting }
+    {
+        match self.granting {
+            Some(granting) => granting.doubt == Doubt::Overtaken,
+            None => false,
+        }
+    }
+
+    /// Whether the bytes of the next beat of a response with this opcode are in doubt.
+    fn doubts(&self, opcode: OpD) -> bool
+        ensures { result ≡ early.is_doubted opcode self.now.granting }
+    {
+        match opcode {
+            OpD::GrantData => self.is_overtaken(),
+            _ => false,
+        }
+    }
+
+    /// Takes a beat of channel C.
+    fn take_report<const W: usize>(&mut self, x: &BeatC<W>)
+        requires width { IsWidth W }
+        requires small { x.now.size ≤ 6 }
+        ensures { (l : Level) (t : History W) → KnowsMessages self.old t → is_legal_under all_liberties l t ≡ true →
+            broken_after_under all_liberties l (beat.C x.now) t ≡ None → KnowsMessages self.new (beat.C x.now ∷ t) }
+    {
+        let beat = Beat::C(*x);
+        let completes = self.c.completes(&beat);
+        self.c.take(&beat);
+        self.releasing = releasing_after(self.releasing, x, completes);
+        if completes {
+            self.granting = overtaken(self.granting, block_at(x.address));
+        }
+    }
+
+    /// Takes a beat of channel D, which concerns this block, if it concerns one.
+    fn take_response<const W: usize>(&mut self, x: &BeatD<W>, block: Option<u32>)
+        requires width { IsWidth W }
+        requires small { x.now.size ≤ 6 }
+        ensures { (l : Level) (t : History W) → KnowsMessages self.old t → is_legal_under all_liberties l t ≡ true →
+            broken_after_under all_liberties l (beat.D x.now) t ≡ None → IsConcerned block (beat.D x.now) t →
+            KnowsMessages self.new (beat.D x.now ∷ t) }
+    {
+        let beat = Beat::D(*x);
+        let completes = self.d.completes(&beat);
+        self.d.take(&beat);
+        self.granting = granting_after(self.granting, x, block, completes);
+        self.releasing = releasing_answered(self.releasing, x, completes);
+    }
+
+    /// Takes a beat, which concerns this block, if it concerns one. A beat whose size no message may have is left out:
+    /// it breaks a rule.
+    pub fn take<const W: usize>(&mut self, beat: &Beat<W>, block: Option<u32>)
         requires { IsWidth W }
-        ensures { (l : Level) (t : History W) → KnowsMessages self.old t → is_legal_under all_but_early l t ≡ true →
-            broken_after_under all_but_early l beat.now t ≡ None → KnowsMessages self.new (beat.now ∷ t) }
+        ensures { (l : Level) (t : History W) → KnowsMessages self.old t → is_legal_under all_liberties l t ≡ true →
+            broken_after_under all_liberties l beat.now t ≡ None → IsConcerned block beat.now t →
+            KnowsMessages self.new (beat.now ∷ t) }
     {
         if !is_small(beat) {
             return;
@@ -56,11 +283,13 @@ impl LinkMessages {
         match beat {
             Beat::A(x) => {
                 prove_request(x);
+                self.asking = asking_after(x, self.a.completes(beat));
                 self.a.take(beat);
             }
-            Beat::C(_) => self.c.take(beat),
-            Beat::D(_) => self.d.take(beat),
-            _ => {}
+            Beat::C(x) => self.take_report(x),
+            Beat::D(x) => self.take_response(x, block),
+            Beat::E(x) => self.granting = acknowledged(self.granting, x.sink),
+            Beat::B(_) => {}
         }
     }
 }
@@ -143,20 +372,24 @@ impl LinkState {
         if !is_judged(x.opcode) {
             return true;
         }
+        if self.messages.doubts(x.opcode) {
+            return true;
+        }
         is_allowed(self.expected(now), self.messages.d.bytes.count(), x)
     }
 
-    /// Takes a beat. `begun` are the bytes that the response may bring that begins with it.
-    pub fn take<const W: usize>(&mut self, begun: Option<Expected>, x: &Beat<W>)
+    /// Takes a beat, which concerns this block, if it concerns one. `begun` are the bytes that the response may bring that
+    /// begins with it.
+    pub fn take<const W: usize>(&mut self, begun: Option<Expected>, block: Option<u32>, x: &Beat<W>)
         requires { IsWidth W }
         ensures { (levels : List Level) (n : ℕ) (link : Link) (t : Trace W) →
             KnowsLink self.old n link.0 t → AreLegal levels t → IsLegal levels (link, x.now) t →
-            ((y : BeatD W) → x.now ≡ beat.D y → begins (beat.D y) (on_link link.0 t) ≡ true →
+            IsConcerned block x.now (on_link link.0 t) → ((y : BeatD W) → x.now ≡ beat.D y → begins (beat.D y) (on_link link.0 t) ≡ true →
             ExpectsResponse begun n link.0 y.opcode y.source t t) →
             KnowsLink self.new n link.0 ((link, x.now) ∷ t) }
     {
         let first = self.messages.d.bytes.count() == 0;
-        self.messages.take(x);
+        self.messages.take(x, block);
         match x {
             Beat::D(_) => {
                 if first {

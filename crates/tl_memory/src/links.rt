@@ -7,6 +7,7 @@ ghost use Rattle.tl_burst.specs.statement.Part;
 ghost use Rattle.tl_params.specs.declared.level.Level.{Level};
 ghost use Rattle.tl_rules.specs.statement.Conformance.{Trace, on_link};
 ghost use Rattle.tl_memory.specs.code.Changing.{ExpectsBegun};
+ghost use Rattle.tl_memory.specs.code.Elsewhere.{IsConcerned};
 ghost use Rattle.tl_memory.specs.code.Passing as passing;
 ghost use Rattle.tl_memory.specs.statement.Links.{AreLegal, IsLegal};
 
@@ -43,7 +44,7 @@ impl Links {
         self.states.get(usize::from(link.0))
     }
 
-    /// Whether a beat of a link changes no block, begins no response and brings no bytes that an access finds.
+    /// Whether a beat of a link changes no block, begins no response and answers no access.
     pub fn passes_by<const W: usize>(&self, link: Link, x: &Beat<W>) -> bool
         requires width { IsWidth W }
         requires small { IsTrue (Part.is_small x.now) }
@@ -57,16 +58,23 @@ impl Links {
         }
     }
 
-    /// Takes a beat. `begun` are the bytes that the response may bring that begins with it.
-    pub fn take<const W: usize>(&mut self, begun: Option<Expected>, link: Link, x: &Beat<W>)
+    /// Takes a beat, which concerns this block, if it concerns one. `begun` are the bytes that the response may bring that
+    /// begins with it.
+    pub fn take<const W: usize>(
+        &mut self,
+        begun: Option<Expected>,
+        block: Option<u32>,
+        link: Link,
+        x: &Beat<W>,
+    )
         requires { IsWidth W }
         ensures { (levels : List Level) (t : Trace W) → KnowsLinks self.old (length levels) t →
-            AreLegal levels t → IsLegal levels (link, x.now) t →
+            AreLegal levels t → IsLegal levels (link, x.now) t → IsConcerned block x.now (on_link link.0 t) →
             ExpectsBegun begun (length levels) (link, x.now) t →
             KnowsLinks self.new (length levels) ((link, x.now) ∷ t) }
     {
         if let Some(state) = self.states.get_mut(usize::from(link.0)) {
-            state.take(begun, x);
+            state.take(begun, block, x);
         }
     }
 }

@@ -16,12 +16,15 @@ ghost use Rattle.tl_bytes.specs.statement.Lines.{told_moment};
 ghost use Rattle.tl_memory.specs.code.Elsewhere as elsewhere;
 ghost use Rattle.tl_memory.specs.code.Lines.{told_by};
 ghost use Rattle.tl_memory.specs.code.Taking.{request_answered};
+ghost use Rattle.tl_memory.specs.statement.Links.{KnowsMessages};
+ghost use Rattle.tl_rules.specs.code.Open.{open_request};
 
 use crate::begun::begun_with;
 use crate::block::NextState;
 use crate::blocks::Blocks;
 use crate::expected::Expected;
 use crate::free::Freedom;
+use crate::link::LinkMessages;
 use crate::links::Links;
 use crate::message::is_small;
 use crate::next::after_beat;
@@ -44,22 +47,40 @@ fn block_asked(asked: Option<Request>) -> Option<u32>
     }
 }
 
-/// The block that a beat concerns: that of its address, or for a response that of the request that it answers.
-fn block_borne<const W: usize>(beat: &Beat<W>, asked: Option<Request>) -> Option<u32>
-    ensures { (past : History W) → asked ≡ request_answered beat.now past →
+/// The block of the message that a response answers: of a Release only if the Release isn't complete.
+fn block_answered<const W: usize>(
+    x: &BeatD<W>,
+    asked: Option<Request>,
+    messages: &LinkMessages,
+) -> Option<u32>
+    ensures { (past : History W) → KnowsMessages messages.now past → asked ≡ open_request x.now.source past →
+        result ≡ elsewhere.block_borne (beat.D x.now) past }
+{
+    if is_release_ack(x.opcode) {
+        return messages.releases_with(x.source);
+    }
+    match messages.asks_with(x.source) {
+        Some(asking) => Some(block_at(asking.address)),
+        None => block_asked(asked),
+    }
+}
+
+/// The block that a beat concerns: that of its address, for a response that of the message that it answers, and for a
+/// GrantAck that of the Grant if that isn't complete. `messages` are the unfinished messages of its link.
+fn block_borne<const W: usize>(
+    beat: &Beat<W>,
+    asked: Option<Request>,
+    messages: &LinkMessages,
+) -> Option<u32>
+    ensures { (past : History W) → KnowsMessages messages.now past → asked ≡ request_answered beat.now past →
         result ≡ elsewhere.block_borne beat.now past }
 {
     match beat {
         Beat::A(x) => Some(block_at(x.address)),
         Beat::C(x) => Some(block_at(x.address)),
-        Beat::D(x) => {
-            if is_release_ack(x.opcode) {
-                None
-            } else {
-                block_asked(asked)
-            }
-        }
-        _ => None,
+        Beat::D(x) => block_answered(x, asked, messages),
+        Beat::E(x) => messages.grants_with(x.sink),
+        Beat::B(_) => None,
     }
 }
 
@@ -231,7 +252,10 @@ impl<const W: usize> Memory<W> {
         if self.links.passes_by(link, x) {
             return Ok(Change::none());
         }
-        let Some(block) = block_borne(x, asked) else {
+        let Some(known) = self.links.get(link) else {
+            return Ok(Change::none());
+        };
+        let Some(block) = block_borne(x, asked, &known.messages) else {
             return Ok(Change::none());
         };
         let place = self.blocks.meet(self.alloc, block)?;
@@ -271,7 +295,7 @@ impl<const W: usize> Memory<W> {
             KnowsMemory self.new (length levels) ((link, x.now) ∷ t) }
     {
         prove_typed(x);
-        self.links.take(change.expected, link, x);
+        self.links.take(change.expected, change.block, link, x);
         if change.block.is_some() {
             self.blocks.take(change.place, change.next, free, moment);
         }

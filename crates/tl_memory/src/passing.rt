@@ -16,7 +16,7 @@ use crate::message::{CarriedMessage, both, either};
 use crate::performed::is_put;
 use tl_beat::beat::{Beat, BeatA};
 use tl_beat::opcode::OpD;
-use tl_rules::kind::{grows_from_none, is_acquire, is_grant};
+use tl_rules::kind::{grows_from_none, is_acquire, is_grant, is_release_ack};
 
 /// Whether a beat is an Acquire from None.
 pub fn acquires_from_none<const W: usize>(y: &BeatA<W>) -> bool
@@ -41,14 +41,14 @@ pub fn asks<const W: usize>(y: &BeatA<W>, brought: &CarriedMessage) -> bool
     brought.completes(&Beat::A(*y))
 }
 
-/// Whether a response brings the bytes that an access finds.
-fn is_answer_data(opcode: OpD) -> bool
-    ensures { result ≡ passing.is_answer_data opcode }
+/// Whether a response answers an access.
+fn is_answer(opcode: OpD) -> bool
+    ensures { result ≡ passing.is_answer opcode }
 {
-    matches!(opcode, OpD::AccessAckData)
+    matches!(opcode, OpD::AccessAck | OpD::AccessAckData)
 }
 
-/// Whether a beat changes no block, begins no response and brings no bytes that an access finds. `messages` are the
+/// Whether a beat changes no block, begins no response and answers no access. `messages` are the
 /// unfinished messages of its link.
 pub fn passes_by<const W: usize>(x: &Beat<W>, messages: &LinkMessages) -> bool
     requires width { IsWidth W }
@@ -66,9 +66,10 @@ pub fn passes_by<const W: usize>(x: &Beat<W>, messages: &LinkMessages) -> bool
         Beat::C(_) => !messages.c.completes(x),
         Beat::D(y) => {
             let bounds = either(messages.d.bytes.count() == 0, messages.d.completes(x));
-            !either(bounds, is_answer_data(y.opcode))
+            !either(bounds, is_answer(y.opcode))
         }
-        _ => true,
+        Beat::E(y) => messages.grants_with(y.sink).is_none(),
+        Beat::B(_) => true,
     }
 }
 
@@ -84,11 +85,15 @@ pub fn changes_held<const W: usize>(x: &Beat<W>, messages: &LinkMessages) -> boo
         Beat::A(y) => acquires_from_none(y),
         Beat::C(_) => messages.c.completes(x),
         Beat::D(y) => {
+            if is_release_ack(y.opcode) {
+                return messages.releases_with(y.source).is_some();
+            }
             if !is_grant(y.opcode) {
                 return false;
             }
             messages.d.completes(x)
         }
-        _ => false,
+        Beat::E(y) => messages.grants_with(y.sink).is_some(),
+        Beat::B(_) => false,
     }
 }

@@ -1,9 +1,10 @@
 //! The states of pending accesses.
 
-ghost use Rattle.std.specs.Prelude.{ℕ, false, ◌≡◌, IfOk};
+ghost use Rattle.std.specs.Prelude.{ℕ, false, ◌++◌, ◌≡◌, IfOk, OnOk};
 ghost use Rattle.tl_bytes.specs.statement.Known.{may_bring};
-ghost use Rattle.tl_memory.specs.code.Writers.{writes_but};
+ghost use Rattle.tl_memory.specs.code.Writers.{writes_but, writes_outrun};
 
+use crate::early::OutrunAccess;
 use crate::free::{Freedom, needs};
 use crate::message::both;
 use crate::performed::is_put;
@@ -23,14 +24,26 @@ pub struct PendingAccess<const W: usize> {
     pub read: ReadBytes,
 }
 
-/// The writes of all accesses but the one with this source on a link.
+/// Appends the writes of the accesses whose answers outran their requests.
+pub fn append_outrun(writes: &mut Vec<Write>, outrun: &[OutrunAccess]) -> Result<(), AllocError>
+    ensures { OnOk result (writes.new.items ≡ writes.old.items ++ writes_outrun outrun.now) }
+{
+    for access in outrun {
+        writes.push(access.write)?;
+    }
+    Ok(())
+}
+
+/// The writes of all accesses but the one with this source on a link, and of those whose answers outran their requests.
 fn writes_of_others<const W: usize>(
     alloc: Global,
     accesses: &[PendingAccess<W>],
+    outrun: &[OutrunAccess],
     link: Link,
     source: u8,
 ) -> Result<Vec<Write>, AllocError>
-    ensures { IfOk result (λ writes. writes.items ≡ writes_but link.0 source accesses.now) }
+    ensures { IfOk result (λ writes. writes.items ≡ writes_but link.0 source accesses.now
+        ++ writes_outrun outrun.now) }
 {
     let mut writes = Vec::new(alloc);
     for access in accesses {
@@ -38,6 +51,7 @@ fn writes_of_others<const W: usize>(
             writes.push(access.writer.write)?;
         }
     }
+    append_outrun(&mut writes, outrun)?;
     Ok(writes)
 }
 
@@ -66,14 +80,21 @@ impl<const W: usize> PendingAccess<W> {
         free: Freedom,
         bytes: &BlockBytes,
         accesses: &[PendingAccess<W>],
+        outrun: &[OutrunAccess],
     ) -> Result<Self, AllocError>
-        ensures { IfOk result (λ pending. IsRenewed (found_by free bytes.now accesses.now) self.now pending) }
+        ensures { IfOk result (λ pending. IsRenewed (found_by free bytes.now accesses.now outrun.now) self.now pending) }
     {
         let asked = &self.writer.asked;
         let opcode = asked.request.opcode;
         let mut read = self.read.copy(alloc)?;
         if both(!is_put(opcode), free.is_open_for(needs(opcode))) {
-            let writes = writes_of_others(alloc, accesses, asked.link, asked.request.source)?;
+            let writes = writes_of_others(
+                alloc,
+                accesses,
+                outrun,
+                asked.link,
+                asked.request.source,
+            )?;
             read.find(bytes, writes.as_slice())?;
         }
         Ok(PendingAccess {
@@ -91,10 +112,12 @@ impl<const W: usize> PendingAccess<W> {
         free: Freedom,
         bytes: &BlockBytes,
         accesses: &[PendingAccess<W>],
+        outrun: &[OutrunAccess],
     ) -> Result<Self, AllocError>
-        ensures { IfOk result (λ grown. IsGrown writer.now (found_by free bytes.now accesses.now) self.now grown) }
+        ensures { IfOk result (λ grown. IsGrown writer.now (found_by free bytes.now accesses.now outrun.now) self.now
+            grown) }
     {
-        let mut grown = self.renewed(alloc, free, bytes, accesses)?;
+        let mut grown = self.renewed(alloc, free, bytes, accesses, outrun)?;
         grown.writer = *writer;
         Ok(grown)
     }

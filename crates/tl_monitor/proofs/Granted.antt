@@ -1,5 +1,5 @@
 -- What a Grant gives that is on its way, by the tables and by the history of its link.
-use Rattle.std.proofs.Common.{◌≡◌, ℕ, Bool, true, false, not, ◌&&◌, ◌<◌, List, ◌∷◌, length, refl, sym, ap, ◌∙◌}
+use Rattle.std.proofs.Common.{◌≡◌, ℕ, Bool, true, false, not, ◌&&◌, ◌<◌, List, ◌∷◌, length, refl, sym, ap, ap₂, ◌∙◌}
 use Rattle.std.specs.Prelude.{if◌then◌else◌, Option, Some, None, is_some, nat_lt, slice_index_or, unwrap_or}
 use Rattle.tl_beat.specs.declared.beat.Beat.{Beat}
 use Rattle.tl_beat.specs.declared.beat.Beat.TheVariants as beat
@@ -8,13 +8,16 @@ use Rattle.tl_beat.specs.declared.beat.BeatD.{BeatD}
 use Rattle.tl_beat.specs.declared.channel.Channel.TheVariants as channel
 use Rattle.tl_beat.specs.statement.Control.{control_of}
 use Rattle.tl_burst.specs.statement.Messages.{History, unfinished}
-use Rattle.tl_params.specs.declared.key.Key.TheVariants.{RequestSource}
+use Rattle.tl_params.specs.declared.key.Key.TheVariants.{GrantAckOf, RequestSource}
 use Rattle.tl_params.specs.declared.perm.Perm.{Perm}
 use Rattle.tl_rules.specs.code.Open.{request_fields}
+use Rattle.tl_rules.specs.declared.table.Block.{Block}
+use Rattle.tl_rules.proofs.Tables.{pending-grant}
 use Rattle.tl_rules.specs.statement.History.{asks_for, capped, is_grant, pending, request_of}
 use Rattle.tl_rules.specs.statement.Liberties.{held_under}
 use Rattle.tl_monitor.specs.code.Bursts.{IsOf}
 use Rattle.tl_monitor.specs.code.Coming.{coming_by, coming_in, given_by_control, is_for}
+use Rattle.tl_monitor.specs.code.KnownBlocks.{known_in}
 use Rattle.tl_monitor.specs.statement.Count.{at}
 use Rattle.tl_monitor.specs.code.Keeps.{Keeps}
 use Rattle.tl_monitor.specs.declared.bursts.Unfinished.{Unfinished}
@@ -38,30 +41,49 @@ kept-for k true (Some x) e = refl
 kept-for k true None e = absurd cc
 kept-for k false o e = absurd cc
 
+either : {X : Type 0} (b : Bool) (o : X) → o ≡ (if b then o else o)
+either true o = refl
+either false o = refl
+
 module _ {w : ℕ} (lib : Liberties) (k : ℕ) (state : LinkState) (t : History w) (keeps : Keeps lib state t) where
+  -- what the Grant with these beats gives, if its GrantAck is pending
+  abbrev awaited : List (Beat w) → Option Perm
+  awaited beats = if pending (GrantAckOf k) t then given_by k beats t else None
+
+  waits : is_some (known_in state.blocks k).grant ≡ pending (GrantAckOf k) t
+  waits = ap (λ (b : Block). is_some b.grant) (keeps.blocks_are k) ∙ sym (pending-grant k t)
+
   given-is : (x : BeatD w) (earlier : List (Beat w)) → unfinished channel.D t ≡ beat.D x ∷ earlier
-      → given_by_control k state (control_of (beat.D x)) ≡ given_by k (beat.D x ∷ earlier) t
+      → given_by_control k state (control_of (beat.D x)) ≡ awaited (beat.D x ∷ earlier)
   given-is x earlier e =
       ap (λ (b : Bool). if b then Some (capped x.param) else None)
-      (ap (λ (b : Bool). is_grant x.opcode && (b && not x.denied)) for ∙ grouped (is_grant x.opcode) _ (not x.denied))
+      (ap₂ (λ (b c : Bool). is_grant x.opcode && (b && (not x.denied && c))) for waits)
+      ∙ grouped (is_grant x.opcode) (asks_for k (request_of x.source t)) (not x.denied) (pending (GrantAckOf k) t)
     where
       for : is_for k (at state.requests x.source) ≡ asks_for k (request_of x.source t)
       for = ap (is_for k) (keeps.requests_are x.source)
           ∙ kept-for k (pending (RequestSource x.source) t) (request_of x.source t) (keeps.answering x earlier e).1
 
-      grouped : (a b c : Bool) → (a && (b && c)) ≡ ((a && b) && c)
-      grouped true b c = refl
-      grouped false b c = refl
+      grouped : (a b c d : Bool) → (if a && (b && (c && d)) then Some (capped x.param) else None)
+          ≡ (if d then (if (a && b) && c then Some (capped x.param) else None) else None)
+      grouped true true true true = refl
+      grouped true true true false = refl
+      grouped true true false true = refl
+      grouped true true false false = refl
+      grouped true false c true = refl
+      grouped true false c false = refl
+      grouped false b c true = refl
+      grouped false b c false = refl
 
   coming-by : {P : Type 0} (o : Option (Unfinished P)) (beats : List (Beat w)) → unfinished channel.D t ≡ beats → IsOf o beats
-      → coming_by k state o ≡ given_by k beats t
-  coming-by None beats e is = rw is refl
+      → coming_by k state o ≡ awaited beats
+  coming-by None beats e is = rw is (either (pending (GrantAckOf k) t) None)
   coming-by (Some u) beats e (beat.D x, earlier, is, control, count, left) =
-      ap (given_by_control k state) control ∙ given-is x earlier (e ∙ is) ∙ ap (λ (b : List (Beat w)). given_by k b t) (sym is)
-  coming-by (Some u) beats e (beat.A x, earlier, is, control, count, left) = rw (control, is) refl
-  coming-by (Some u) beats e (beat.B x, earlier, is, control, count, left) = rw (control, is) refl
-  coming-by (Some u) beats e (beat.C x, earlier, is, control, count, left) = rw (control, is) refl
-  coming-by (Some u) beats e (beat.E x, earlier, is, control, count, left) = rw (control, is) refl
+      ap (given_by_control k state) control ∙ given-is x earlier (e ∙ is) ∙ ap awaited (sym is)
+  coming-by (Some u) beats e (beat.A x, earlier, is, control, count, left) = rw (control, is) (either (pending (GrantAckOf k) t) None)
+  coming-by (Some u) beats e (beat.B x, earlier, is, control, count, left) = rw (control, is) (either (pending (GrantAckOf k) t) None)
+  coming-by (Some u) beats e (beat.C x, earlier, is, control, count, left) = rw (control, is) (either (pending (GrantAckOf k) t) None)
+  coming-by (Some u) beats e (beat.E x, earlier, is, control, count, left) = rw (control, is) (either (pending (GrantAckOf k) t) None)
 
   pub coming-is : coming_in k state ≡ coming k t
   coming-is = coming-by state.bursts.d (unfinished channel.D t) refl (keeps.bursts_are channel.D)

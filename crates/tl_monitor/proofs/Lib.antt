@@ -15,3 +15,4 @@ pub mod Knowing
 pub mod Numbered
 pub mod OnLink
 pub mod Within
+pub mod WorkedGrants

@@ -22,12 +22,13 @@ fn is_for(block: u32, asked: Option<Request>) -> bool
     }
 }
 
-/// The permission that a response gives of a block, if it is a Grant of the block and isn't denied.
+/// The permission that a response gives of a block, if it is a Grant of the block that isn't denied, and its GrantAck is
+/// pending.
 fn given_by(state: &LinkState, block: u32, x: &ControlD) -> Option<Perm>
     ensures { result ≡ given_by_control block state.now (control.D x.now) }
 {
     let of_block = is_for(block, state.requests.get(x.source));
-    if is_grant(x.opcode) && of_block && !x.denied {
+    if is_grant(x.opcode) && of_block && !x.denied && state.blocks.get(block).grant.is_some() {
         Some(capped(x.param))
     } else {
         None
@@ -35,7 +36,8 @@ fn given_by(state: &LinkState, block: u32, x: &ControlD) -> Option<Perm>
 }
 
 impl LinkState {
-    /// The permission that the unfinished Grant of a block gives, if one has begun that isn't denied.
+    /// The permission that the unfinished Grant of a block gives, if one has begun that isn't denied and its GrantAck is
+    /// pending.
     pub fn coming(&self, block: u32) -> Option<Perm>
         ensures { result ≡ coming_in block self.now }
     {

@@ -260,8 +260,8 @@ impl<const W: usize> Monitor<W> {
         self.links[n].state.blocks.get(block).held
     }
 
-    /// The permission that the unfinished Grant of a block gives on a link, if one has begun that isn't denied. None on
-    /// a link without a level.
+    /// The permission that the unfinished Grant of a block gives on a link, if one has begun that isn't denied and its
+    /// GrantAck is pending. None on a link without a level.
     pub fn coming(&self, link: Link, block: u32) -> Option<Perm>
         ensures known { (levels : List Level) (p : Profile) (t : Trace W) (closed : Bool) →
             Knows self.now levels p t closed →

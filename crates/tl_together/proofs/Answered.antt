@@ -21,7 +21,7 @@ use Rattle.tl_monitor.specs.statement.Granting.{granted_under}
 use Rattle.tl_monitor.specs.statement.Knows.{held_on_under, begins_on, request_on}
 use Rattle.tl_params.specs.declared.liberties.Liberties.{Liberties}
 use Rattle.tl_rules.specs.statement.Windows.{leaves, needs}
-use Rattle.tl_bytes.specs.statement.Free.{all_but_early, is_free, may_hold}
+use Rattle.tl_bytes.specs.statement.Free.{all_liberties, is_free, may_hold}
 use Rattle.tl_together.specs.code.Following.{Follows}
 use Rattle.tl_together.proofs.Following.{held_most}
 use Rattle.tl_bytes.specs.statement.Shown.{had_window}
@@ -59,7 +59,7 @@ unfolding is_grantable
 grantable_none link given block t = refl
 
 pub grantable_more : {w : ℕ} (n link : ℕ) (given h : Perm) (block : ℕ) (t : Trace w) (free left now : Bool)
-    → leaves given h ≡ leaves given (granted_under all_but_early block (on_link n t))
+    → leaves given h ≡ leaves given (granted_under all_liberties block (on_link n t))
     → free ≡ is_grantable n link given block t → left ≡ ((link == n) || leaves given h)
     → now ≡ (free && left) → now ≡ is_grantable (n + 1) link given block t
 unfolding is_grantable

@@ -20,7 +20,8 @@ use Rattle.tl_rules.specs.statement.History.{request_of, release_of, probe_of, g
 use Rattle.tl_rules.specs.statement.Legality.{each_below}
 use Rattle.tl_together.specs.declared.breach.Breach.TheVariants.{OfLink, OfMemory}
 use Rattle.tl_params.specs.declared.memory_rule.MemoryRule.TheVariants.{M1, M4}
-use Rattle.tl_bytes.specs.statement.Free.{all_but_early, is_free}
+use Rattle.tl_bytes.specs.statement.Early.{outrun_accesses, reported_since}
+use Rattle.tl_bytes.specs.statement.Free.{all_liberties, is_free}
 use Rattle.tl_bytes.specs.statement.Shown.{had_window}
 use Rattle.tl_bytes.specs.statement.Bytes.{before_last, carried_byte, each_from, may_be, may_read, pending_accesses}
 use Rattle.tl_together.specs.statement.Coherence.{breach_from, first_breach, is_grantable}
@@ -171,7 +172,7 @@ one_writes rest = acquire_perm 0 1 ∷ grant 0 0 0 ∷ grant_ack 0 0 ∷ rest
 two_writers : first_breach two_caches no_liberties (one_writes (acquire_perm 1 1 ∷ grant 1 0 1 ∷ [])) ≡ Some
     (4, OfMemory M1)
 unfolding breach_from is_free is_grantable had_window on_link unfinished request_of release_of probe_of grant_sink pending
-    held_under all_but_early
+    held_under all_liberties outrun_accesses reported_since
     illegal_under each_below broken_order_under broken_after_under pending_accesses each_from may_read before_last may_be
     carried_byte
 two_writers = refl
@@ -180,7 +181,7 @@ two_writers = refl
 a_reader_beside_a_writer : first_breach two_caches no_liberties (one_writes (acquire_perm 1 0 ∷ grant 1 1 1 ∷ [])) ≡ Some
     (4, OfMemory M1)
 unfolding breach_from is_free is_grantable had_window on_link unfinished request_of release_of probe_of grant_sink pending
-    held_under all_but_early
+    held_under all_liberties outrun_accesses reported_since
     illegal_under each_below broken_order_under broken_after_under pending_accesses each_from may_read before_last may_be
     carried_byte
 a_reader_beside_a_writer = refl
@@ -189,7 +190,7 @@ a_reader_beside_a_writer = refl
 one_after_the_other : first_breach two_caches no_liberties
     (one_writes (acquire_perm 1 1 ∷ probe_perm 0 2 ∷ probe_ack 0 1 ∷ grant 1 0 1 ∷ [])) ≡ None
 unfolding breach_from is_free is_grantable had_window on_link unfinished request_of release_of probe_of grant_sink pending
-    held_under all_but_early
+    held_under all_liberties outrun_accesses reported_since
     illegal_under each_below broken_order_under broken_after_under pending_accesses each_from may_read before_last may_be
     carried_byte
 one_after_the_other = refl
@@ -198,7 +199,7 @@ one_after_the_other = refl
 two_readers : first_breach two_caches no_liberties
     (one_writes (acquire_perm 1 0 ∷ probe_perm 0 1 ∷ probe_ack 0 0 ∷ grant 1 1 1 ∷ [])) ≡ None
 unfolding breach_from is_free is_grantable had_window on_link unfinished request_of release_of probe_of grant_sink pending
-    held_under all_but_early
+    held_under all_liberties outrun_accesses reported_since
     illegal_under each_below broken_order_under broken_after_under pending_accesses each_from may_read before_last may_be
     carried_byte
 two_readers = refl
@@ -239,7 +240,7 @@ grant_data link cap sink = (
 granted_to_both : first_breach two_caches no_liberties
     (acquire_block 0 1 ∷ acquire_block 1 1 ∷ grant_data 0 0 0 ∷ grant_data 1 0 1 ∷ []) ≡ Some (3, OfMemory M1)
 unfolding breach_from is_free is_grantable had_window on_link unfinished request_of release_of probe_of grant_sink pending
-    held_under all_but_early illegal_under each_below broken_order_under broken_after_under pending_accesses each_from may_read before_last may_be
+    held_under all_liberties outrun_accesses reported_since illegal_under each_below broken_order_under broken_after_under pending_accesses each_from may_read before_last may_be
     carried_byte
 granted_to_both = refl
 
@@ -247,14 +248,14 @@ granted_to_both = refl
 granted_to_readers : first_breach two_caches no_liberties
     (acquire_block 0 0 ∷ acquire_block 1 0 ∷ grant_data 0 1 0 ∷ grant_data 1 1 1 ∷ []) ≡ None
 unfolding breach_from is_free is_grantable had_window on_link unfinished request_of release_of probe_of grant_sink pending
-    held_under all_but_early illegal_under each_below broken_order_under broken_after_under pending_accesses each_from may_read before_last may_be
+    held_under all_liberties outrun_accesses reported_since illegal_under each_below broken_order_under broken_after_under pending_accesses each_from may_read before_last may_be
     carried_byte
 granted_to_readers = refl
 
 -- a Get that is answered while another link may write
 a_get_beside_a_writer : first_breach two_caches no_liberties (one_writes (get 1 ∷ answer 1 ∷ [])) ≡ Some (4, OfMemory M4)
 unfolding breach_from is_free is_grantable had_window on_link unfinished request_of release_of probe_of grant_sink pending
-    held_under all_but_early
+    held_under all_liberties outrun_accesses reported_since
     illegal_under each_below broken_order_under broken_after_under pending_accesses each_from may_read before_last may_be
     carried_byte
 a_get_beside_a_writer = refl
@@ -262,7 +263,7 @@ a_get_beside_a_writer = refl
 -- an access that is denied isn't performed, and needs no moment
 a_denied_get_beside_a_writer : first_breach two_caches no_liberties (one_writes (get 1 ∷ denial 1 ∷ [])) ≡ None
 unfolding breach_from is_free is_grantable had_window on_link unfinished request_of release_of probe_of grant_sink pending
-    held_under all_but_early
+    held_under all_liberties outrun_accesses reported_since
     illegal_under each_below broken_order_under broken_after_under pending_accesses each_from may_read before_last may_be
     carried_byte
 a_denied_get_beside_a_writer = refl
@@ -271,7 +272,7 @@ a_denied_get_beside_a_writer = refl
 a_get_after_a_probe : first_breach two_caches no_liberties
     (one_writes (get 1 ∷ probe_perm 0 1 ∷ probe_ack 0 0 ∷ answer 1 ∷ [])) ≡ None
 unfolding breach_from is_free is_grantable had_window on_link unfinished request_of release_of probe_of grant_sink pending
-    held_under all_but_early
+    held_under all_liberties outrun_accesses reported_since
     illegal_under each_below broken_order_under broken_after_under pending_accesses each_from may_read before_last may_be
     carried_byte
 a_get_after_a_probe = refl
@@ -280,7 +281,7 @@ a_get_after_a_probe = refl
 a_get_that_is_shown : first_breach two_caches no_liberties
     (one_writes (get 1 ∷ probe_block 0 0 ∷ probe_ack 0 3 ∷ answer 1 ∷ [])) ≡ None
 unfolding breach_from is_free is_grantable had_window on_link unfinished request_of release_of probe_of grant_sink pending
-    held_under all_but_early
+    held_under all_liberties outrun_accesses reported_since
     illegal_under each_below broken_order_under broken_after_under pending_accesses each_from may_read before_last may_be
     carried_byte
 a_get_that_is_shown = refl
@@ -289,7 +290,7 @@ a_get_that_is_shown = refl
 a_get_that_is_shown_nothing : first_breach two_caches no_liberties
     (one_writes (get 1 ∷ probe_perm 0 0 ∷ probe_ack 0 3 ∷ answer 1 ∷ [])) ≡ Some (6, OfMemory M4)
 unfolding breach_from is_free is_grantable had_window on_link unfinished request_of release_of probe_of grant_sink pending
-    held_under all_but_early
+    held_under all_liberties outrun_accesses reported_since
     illegal_under each_below broken_order_under broken_after_under pending_accesses each_from may_read before_last may_be
     carried_byte
 a_get_that_is_shown_nothing = refl
@@ -298,7 +299,7 @@ a_get_that_is_shown_nothing = refl
 a_get_that_is_shown_too_early : first_breach two_caches no_liberties
     (one_writes (probe_block 0 0 ∷ probe_ack 0 3 ∷ get 1 ∷ answer 1 ∷ [])) ≡ Some (6, OfMemory M4)
 unfolding breach_from is_free is_grantable had_window on_link unfinished request_of release_of probe_of grant_sink pending
-    held_under all_but_early
+    held_under all_liberties outrun_accesses reported_since
     illegal_under each_below broken_order_under broken_after_under pending_accesses each_from may_read before_last may_be
     carried_byte
 a_get_that_is_shown_too_early = refl
@@ -306,7 +307,7 @@ a_get_that_is_shown_too_early = refl
 -- the Get was performed before the other became a writer, and its answer comes later
 a_late_answer : first_breach two_caches no_liberties (get 1 ∷ one_writes (answer 1 ∷ [])) ≡ None
 unfolding breach_from is_free is_grantable had_window on_link unfinished request_of release_of probe_of grant_sink pending
-    held_under all_but_early
+    held_under all_liberties outrun_accesses reported_since
     illegal_under each_below broken_order_under broken_after_under pending_accesses each_from may_read before_last may_be
     carried_byte
 a_late_answer = refl
@@ -314,7 +315,7 @@ a_late_answer = refl
 -- a broken rule of the link comes first
 a_rule_of_the_link : first_breach two_caches no_liberties (one_writes (grant 1 0 1 ∷ [])) ≡ Some (3, OfLink H2)
 unfolding breach_from is_free is_grantable had_window on_link unfinished request_of release_of probe_of grant_sink pending
-    held_under all_but_early
+    held_under all_liberties outrun_accesses reported_since
     illegal_under each_below broken_order_under broken_after_under pending_accesses each_from may_read before_last may_be
     carried_byte
 a_rule_of_the_link = refl
@@ -331,7 +332,7 @@ denies = record no_liberties { denied = true }
 gone_without_a_word : first_breach two_caches drops
     (one_writes (acquire_perm 1 1 ∷ probe_perm 0 2 ∷ probe_ack 0 5 ∷ grant 1 0 1 ∷ [])) ≡ None
 unfolding breach_from is_free is_grantable had_window on_link unfinished request_of release_of probe_of grant_sink pending
-    held_under all_but_early
+    held_under all_liberties outrun_accesses reported_since
     illegal_under each_below broken_order_under broken_after_under pending_accesses each_from may_read before_last may_be
     carried_byte
 gone_without_a_word = refl
@@ -340,7 +341,7 @@ gone_without_a_word = refl
 gone_against_the_rules : first_breach two_caches no_liberties
     (one_writes (acquire_perm 1 1 ∷ probe_perm 0 2 ∷ probe_ack 0 5 ∷ grant 1 0 1 ∷ [])) ≡ Some (5, OfLink H12)
 unfolding breach_from is_free is_grantable had_window on_link unfinished request_of release_of probe_of grant_sink pending
-    held_under all_but_early
+    held_under all_liberties outrun_accesses reported_since
     illegal_under each_below broken_order_under broken_after_under pending_accesses each_from may_read before_last may_be
     carried_byte
 gone_against_the_rules = refl
@@ -349,7 +350,7 @@ gone_against_the_rules = refl
 granted_unasked : first_breach two_caches drops (one_writes (acquire_perm 1 1 ∷ grant 1 0 1 ∷ [])) ≡ Some
     (4, OfMemory M1)
 unfolding breach_from is_free is_grantable had_window on_link unfinished request_of release_of probe_of grant_sink pending
-    held_under all_but_early
+    held_under all_liberties outrun_accesses reported_since
     illegal_under each_below broken_order_under broken_after_under pending_accesses each_from may_read before_last may_be
     carried_byte
 granted_unasked = refl
@@ -373,7 +374,7 @@ denied_grant link cap sink = (
 -- a Grant that is denied gives nothing, beside a writer and for another to come
 denied_beside_a_writer : first_breach two_caches denies (one_writes (acquire_perm 1 1 ∷ denied_grant 1 0 1 ∷ [])) ≡ None
 unfolding breach_from is_free is_grantable had_window on_link unfinished request_of release_of probe_of grant_sink pending
-    held_under all_but_early
+    held_under all_liberties outrun_accesses reported_since
     illegal_under each_below broken_order_under broken_after_under pending_accesses each_from may_read before_last may_be
     carried_byte
 denied_beside_a_writer = refl
@@ -381,7 +382,7 @@ denied_beside_a_writer = refl
 granted_after_a_denial : first_breach two_caches denies
     (acquire_perm 0 1 ∷ denied_grant 0 0 0 ∷ grant_ack 0 0 ∷ acquire_perm 1 1 ∷ grant 1 0 1 ∷ []) ≡ None
 unfolding breach_from is_free is_grantable had_window on_link unfinished request_of release_of probe_of grant_sink pending
-    held_under all_but_early
+    held_under all_liberties outrun_accesses reported_since
     illegal_under each_below broken_order_under broken_after_under pending_accesses each_from may_read before_last may_be
     carried_byte
 granted_after_a_denial = refl

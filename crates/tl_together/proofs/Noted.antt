@@ -21,7 +21,7 @@ use Rattle.tl_rules.specs.statement.Liberties.{broken_after_under}
 use Rattle.tl_rules.specs.statement.Conformance.{comes_in_request}
 use Rattle.tl_rules.specs.statement.History.{begins, ends, pending, request_of, is_release_ack}
 use Rattle.tl_rules.proofs.Tables.{request-next}
-use Rattle.tl_bytes.specs.statement.Free.{all_but_early}
+use Rattle.tl_bytes.specs.statement.Free.{all_liberties}
 use Rattle.tl_memory.proofs.Lawful.{goes_on}
 use Rattle.tl_memory.proofs.LinkTables.{link-there}
 use Rattle.tl_memory.proofs.OpenAccesses.{is-fine}
@@ -112,7 +112,7 @@ some_inside false o e = e
 
 -- a request that is complete with a beat is one of its source
 pub opened_by : {w : ℕ} (l : Level) (s : ℕ) (x : Beat w) (t : History w)
-    → broken_after_under all_but_early l x t ≡ None → is_some (open_request s t) ≡ false
+    → broken_after_under all_liberties l x t ≡ None → is_some (open_request s t) ≡ false
     → is_some (open_request s (x ∷ t)) ≡ true → (y : BeatA w) × (x ≡ A y) × (y.source ≡ s)
 unfolding unfinished
 opened_by l s (A y) t legal before now = (

@@ -10,12 +10,14 @@ use Rattle.tl_beat.specs.declared.beat.Beat.TheVariants.{C}
 use Rattle.tl_beat.specs.declared.beat.BeatC.{BeatC}
 use Rattle.tl_beat.specs.declared.beat.Link.{Link}
 use Rattle.tl_burst.specs.statement.Messages.{History}
-use Rattle.tl_bytes.specs.statement.Free.{all_but_early, is_free}
+use Rattle.tl_bytes.specs.statement.Free.{all_liberties, is_free}
 use Rattle.tl_bytes.specs.statement.Shown.{shows}
 use Rattle.tl_memory.specs.{declared.free.Freedom.Freedom, statement.Known.freedom}
 use Rattle.tl_monitor.specs.code.LinkState.{is_block}
 use Rattle.tl_params.specs.declared.perm.Perm.{Perm}
-use Rattle.tl_memory.proofs.Bearing.{none_of_both}
+use Rattle.tl_memory.proofs.Bearing.{none_of_both, silent-or}
+use Rattle.tl_params.specs.declared.key.Key.TheVariants.{ReleaseOf}
+use Rattle.tl_rules.specs.statement.Liberties.{is_answered}
 use Rattle.tl_memory.proofs.Elsewhere.{held-kept}
 use Rattle.tl_monitor.specs.statement.Knows.{begins_on}
 use Rattle.tl_params.specs.declared.level.Level.{Level}
@@ -36,10 +38,12 @@ flipped a b = elim (cases_eq a b) [
 -- a report changes what is held of its own block alone
 pub report_leaves : {w : ℕ} (x : BeatC w) (past : History w) (k : ℕ) → k ≡ block_at x.address
     → LeavesOthers (Some k) (C x) past
-unfolding all_but_early
+unfolding all_liberties
 report_leaves x past k k_is b apart = held-kept b (C x) past
-    (λ over. rw (none_of_both (is_probe_ack x.opcode || is_release x.opcode) (block_at x.address == b)
-    (rw (← k_is) (flipped k b ∙ apart))) refl)
+    (λ over. silent-or (is_release x.opcode && is_answered (ReleaseOf b) (C x) past)
+    ((is_probe_ack x.opcode || is_release x.opcode) && (block_at x.address == b)) _
+    (none_of_both (is_probe_ack x.opcode || is_release x.opcode) (block_at x.address == b)
+    (rw (← k_is) (flipped k b ∙ apart))))
 
 pub either_leaves : {w : ℕ} (shown held : Option ℕ) (x : Beat w) (past : History w)
     → ((k : ℕ) → shown ≡ Some k → LeavesOthers shown x past) → LeavesOthers held x past

@@ -14,7 +14,8 @@ use Rattle.tl_rules.specs.statement.Liberties.{broken_after_under, broken_order_
 use Rattle.tl_rules.specs.statement.Effect.{effect}
 use Rattle.tl_rules.specs.statement.History.{request_of, release_of, probe_of, grant_sink, pending}
 use Rattle.tl_rules.specs.statement.Legality.{each_below}
-use Rattle.tl_bytes.specs.statement.Free.{all_but_early, is_free}
+use Rattle.tl_bytes.specs.statement.Early.{outrun_accesses, reported_since}
+use Rattle.tl_bytes.specs.statement.Free.{all_liberties, is_free}
 use Rattle.tl_bytes.specs.statement.Shown.{had_window}
 use Rattle.tl_bytes.specs.statement.Bytes.{before_last, carried_byte, carried_mask, each_from, last_told, last_window}
 use Rattle.tl_bytes.specs.statement.Bytes.{may_be, may_read, pending_accesses, window_began, windows_since}
@@ -42,7 +43,7 @@ read v = get 1 0 3 255 ∷ found 1 0 3 (eight v) ∷ []
 -- a Grant of what was there before
 a_stale_grant : first_breach two_caches no_liberties (twice_written (granted 5)) ≡ Some (5, OfMemory M2)
 unfolding breach_from is_free is_grantable had_window on_link unfinished request_of release_of probe_of grant_sink pending
-    held_under all_but_early
+    held_under all_liberties outrun_accesses reported_since
     illegal_under each_below broken_order_under broken_after_under may_be may_read pending_accesses carried_byte
     bytes_carried carried_mask windows_since window_began last_window last_told each_from before_last effect
 a_stale_grant = refl
@@ -50,7 +51,7 @@ a_stale_grant = refl
 -- of what was written last
 a_true_grant : first_breach two_caches no_liberties (twice_written (granted 7)) ≡ None
 unfolding breach_from is_free is_grantable had_window on_link unfinished request_of release_of probe_of grant_sink pending
-    held_under all_but_early
+    held_under all_liberties outrun_accesses reported_since
     illegal_under each_below broken_order_under broken_after_under may_be may_read pending_accesses carried_byte
     bytes_carried carried_mask windows_since window_began last_window last_told each_from before_last effect
 a_true_grant = refl
@@ -58,7 +59,7 @@ a_true_grant = refl
 -- a Get of what was there before
 a_stale_get : first_breach two_caches no_liberties (twice_written (read 5)) ≡ Some (5, OfMemory M3)
 unfolding breach_from is_free is_grantable had_window on_link unfinished request_of release_of probe_of grant_sink pending
-    held_under all_but_early
+    held_under all_liberties outrun_accesses reported_since
     illegal_under each_below broken_order_under broken_after_under may_be may_read pending_accesses carried_byte
     bytes_carried carried_mask windows_since window_began last_window last_told each_from before_last effect
 a_stale_get = refl
@@ -66,7 +67,7 @@ a_stale_get = refl
 -- of what was written last
 a_true_get : first_breach two_caches no_liberties (twice_written (read 7)) ≡ None
 unfolding breach_from is_free is_grantable had_window on_link unfinished request_of release_of probe_of grant_sink pending
-    held_under all_but_early
+    held_under all_liberties outrun_accesses reported_since
     illegal_under each_below broken_order_under broken_after_under may_be may_read pending_accesses carried_byte
     bytes_carried carried_mask windows_since window_began last_window last_told each_from before_last effect
 a_true_get = refl
@@ -83,7 +84,7 @@ refused rest =
 -- a Get of neither
 a_get_of_neither : first_breach two_caches no_liberties (refused (read 6)) ≡ Some (5, OfMemory M3)
 unfolding breach_from is_free is_grantable had_window on_link unfinished request_of release_of probe_of grant_sink pending
-    held_under all_but_early
+    held_under all_liberties outrun_accesses reported_since
     illegal_under each_below broken_order_under broken_after_under may_be may_read pending_accesses carried_byte
     bytes_carried carried_mask windows_since window_began last_window last_told each_from before_last effect
 a_get_of_neither = refl
@@ -91,7 +92,7 @@ a_get_of_neither = refl
 -- of what was there before
 a_get_of_the_old : first_breach two_caches no_liberties (refused (read 5)) ≡ None
 unfolding breach_from is_free is_grantable had_window on_link unfinished request_of release_of probe_of grant_sink pending
-    held_under all_but_early
+    held_under all_liberties outrun_accesses reported_since
     illegal_under each_below broken_order_under broken_after_under may_be may_read pending_accesses carried_byte
     bytes_carried carried_mask windows_since window_began last_window last_told each_from before_last effect
 a_get_of_the_old = refl
@@ -99,7 +100,7 @@ a_get_of_the_old = refl
 -- of what was denied
 a_get_of_the_denied : first_breach two_caches no_liberties (refused (read 7)) ≡ None
 unfolding breach_from is_free is_grantable had_window on_link unfinished request_of release_of probe_of grant_sink pending
-    held_under all_but_early
+    held_under all_liberties outrun_accesses reported_since
     illegal_under each_below broken_order_under broken_after_under may_be may_read pending_accesses carried_byte
     bytes_carried carried_mask windows_since window_began last_window last_told each_from before_last effect
 a_get_of_the_denied = refl
@@ -110,7 +111,7 @@ a_stale_grant_beside_a_writer : first_breach two_caches no_liberties
     (acquire 0 1 0 255 ∷ replicate 8 (grant_beat 0 0 0 0 (eight 7)) ++ grant_ack 0 0 ∷ granted 5))
     ≡ Some (15, OfMemory M1)
 unfolding breach_from is_free is_grantable had_window on_link unfinished request_of release_of probe_of grant_sink pending
-    held_under all_but_early
+    held_under all_liberties outrun_accesses reported_since
     illegal_under each_below broken_order_under broken_after_under may_be may_read pending_accesses carried_byte
     bytes_carried carried_mask windows_since window_began last_window last_told each_from before_last effect
 a_stale_grant_beside_a_writer = refl
@@ -121,7 +122,7 @@ a_stale_get_beside_a_writer : first_breach two_caches no_liberties
     (acquire 0 1 0 255 ∷ replicate 8 (grant_beat 0 0 0 0 (eight 7)) ++ grant_ack 0 0 ∷ read 5))
     ≡ Some (15, OfMemory M4)
 unfolding breach_from is_free is_grantable had_window on_link unfinished request_of release_of probe_of grant_sink pending
-    held_under all_but_early
+    held_under all_liberties outrun_accesses reported_since
     illegal_under each_below broken_order_under broken_after_under may_be may_read pending_accesses carried_byte
     bytes_carried carried_mask windows_since window_began last_window last_told each_from before_last effect
 a_stale_get_beside_a_writer = refl
@@ -135,7 +136,7 @@ granted_later v =
 -- what was there before, in a beat behind the first
 a_stale_second_beat : first_breach two_caches no_liberties (granted_later 4) ≡ Some (5, OfMemory M2)
 unfolding breach_from is_free is_grantable had_window on_link unfinished request_of release_of probe_of grant_sink pending
-    held_under all_but_early
+    held_under all_liberties outrun_accesses reported_since
     illegal_under each_below broken_order_under broken_after_under may_be may_read pending_accesses carried_byte
     bytes_carried carried_mask windows_since window_began last_window last_told each_from before_last effect
 a_stale_second_beat = refl
@@ -143,7 +144,7 @@ a_stale_second_beat = refl
 -- what was written
 a_true_second_beat : first_breach two_caches no_liberties (granted_later 5) ≡ None
 unfolding breach_from is_free is_grantable had_window on_link unfinished request_of release_of probe_of grant_sink pending
-    held_under all_but_early
+    held_under all_liberties outrun_accesses reported_since
     illegal_under each_below broken_order_under broken_after_under may_be may_read pending_accesses carried_byte
     bytes_carried carried_mask windows_since window_began last_window last_told each_from before_last effect
 a_true_second_beat = refl

@@ -7,7 +7,7 @@ ghost use Rattle.tl_params.specs.declared.perm.Perm.TheVariants as perm;
 ghost use Rattle.tl_params.specs.declared.liberties.Liberties.{Liberties};
 ghost use Rattle.tl_rules.specs.statement.Conformance.{Trace, on_link};
 ghost use Rattle.tl_rules.specs.statement.Windows as window;
-ghost use Rattle.tl_bytes.specs.statement.Free.{all_but_early, is_free, may_hold};
+ghost use Rattle.tl_bytes.specs.statement.Free.{all_liberties, is_free, may_hold};
 ghost use Rattle.tl_monitor.specs.statement.Granting.{coming, granted_under};
 ghost use Rattle.tl_params.specs.declared.perm.Perm.{Perm};
 ghost use Rattle.tl_together.specs.code.Following.{Follows};
@@ -73,7 +73,7 @@ fn granted<const W: usize>(monitor: &Monitor<W>, link: Link, block: u32, free: b
         link.0 < length levels →
         (free ≡ true → window.leaves given (may_hold block (on_link link.0 t)) ≡ true) →
         window.leaves given result
-        ≡ window.leaves given (granted_under all_but_early block (on_link link.0 t)) }
+        ≡ window.leaves given (granted_under all_liberties block (on_link link.0 t)) }
 {
     if free {
         return coming(monitor, link, block);

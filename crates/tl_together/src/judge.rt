@@ -139,15 +139,13 @@ impl<const W: usize> Judge<W> {
         Self::with_liberties(alloc, levels, Liberties::of(profile))
     }
 
-    /// The same for links with these liberties, with the same errors. `early` isn't allowed: the rules of memory don't
-    /// say which bytes an access may bring if its answer begins before its request is complete.
+    /// The same for links with these liberties, with the same errors.
     pub fn with_liberties(
         alloc: Global,
         levels: &[Level],
         liberties: Liberties,
     ) -> Result<Self, JudgeFault>
-        requires width { IsWidth W }
-        requires late { liberties.early ≡ false }
+        requires { IsWidth W }
         ensures { IsNew levels.now liberties result }
     {
         let monitor = match Monitor::with_liberties(alloc, levels, liberties) {

@@ -3,7 +3,7 @@ use Rattle.std.proofs.Common.{◌≡◌, ℕ, suc, zero, pred, List, [], ◌∷�
 use Rattle.std.proofs.Common.{length, inl, inr, refl, sym}
 use Rattle.std.proofs.Common.{ap, ◌∙◌, Bool, true, false, Option, Some, None, slice_get, slice_set, arith}
 use Rattle.std.proofs.Common.{append_assoc}
-use Rattle.std.specs.Prelude.{codes, option_map, ◌*◌}
+use Rattle.std.specs.Prelude.{codes, if◌then◌else◌, option_map, ◌*◌}
 use Rattle.std.proofs.lemmas.Bool.{eq-eqb, lt-ltb, ne_eqb}
 use Rattle.std.proofs.lemmas.List.{append-nil, length-set}
 use Rattle.std.proofs.lemmas.Option.{same_Some}
@@ -11,10 +11,11 @@ use Rattle.tl_beat.specs.declared.beat.Beat.{Beat}
 use Rattle.tl_beat.specs.declared.beat.Link.{Link}
 use Rattle.tl_beat.specs.statement.Digits.{digits}
 use Rattle.tl_explain.specs.statement.Sentences.{perm_name}
+use Rattle.tl_params.specs.declared.key.Key.TheVariants.{GrantAckOf}
 use Rattle.tl_params.specs.declared.perm.Perm.{Perm}
 use Rattle.tl_params.specs.statement.Liberties.{no_liberties}
 use Rattle.tl_rules.specs.statement.Conformance.{Trace, on_link}
-use Rattle.tl_rules.specs.statement.History.{held}
+use Rattle.tl_rules.specs.statement.History.{held, pending}
 use Rattle.tl_rules.specs.statement.Windows.{leaves}
 use Rattle.tl_beat.specs.declared.channel.Channel.TheVariants as channel
 use Rattle.tl_explain.specs.code.Recorded.{IsBegun, begun_on}
@@ -192,8 +193,12 @@ holders-more n m given block t first before after next so_far more =
 pub opening-is : {w : ℕ} (o : Option Begun) (link block : ℕ) (given : Perm) (t : Trace w) → IsBegun o link channel.D t
     → coming block (on_link link t) ≡ Some given
     → mention_of (option_map (λ b. b.first) o) ≡ burst_opening link channel.D t
-opening-is None link block given t is e = absurd (let no : None ≡ Some given =
-    sym (ap (λ beats. given_by block beats (on_link link t)) is) ∙ e in cc)
+opening-is None link block given t is e =
+    absurd (never (pending (GrantAckOf block) (on_link link t)) (ap (λ beats. given_by block beats (on_link link t)) is) e)
+  where
+    never : (b : Bool) {o : Option Perm} → o ≡ None → (if b then o else None) ≡ Some given → ⊥
+    never true none f = let no : None ≡ Some given = sym none ∙ f in cc
+    never false none f = cc
 opening-is (Some b) link block given t (newest, earlier, is, control, came, opening) e = sym opening
 
 -- the same of what a recorder keeps

@@ -9,6 +9,7 @@ use Rattle.tl_beat.specs.declared.beat.Beat.{Beat}
 use Rattle.tl_beat.specs.declared.beat.Beat.TheVariants as beat
 use Rattle.tl_beat.specs.declared.beat.BeatA.{BeatA}
 use Rattle.tl_beat.specs.declared.beat.BeatD.{BeatD}
+use Rattle.tl_beat.specs.declared.beat.Link.{Link}
 use Rattle.tl_beat.specs.declared.channel.Channel.TheVariants as channel
 use Rattle.tl_beat.specs.declared.opcode.OpA.{OpA}
 use Rattle.tl_beat.specs.declared.opcode.OpA.TheVariants as a
@@ -18,7 +19,7 @@ use Rattle.tl_beat.specs.statement.Opcode.{c_carries_data}
 use Rattle.tl_burst.specs.declared.message.Message.TheVariants as message
 use Rattle.tl_burst.specs.declared.message.MessageA.{MessageA}
 use Rattle.tl_burst.specs.statement.Burst.{byte_at, reaches}
-use Rattle.tl_burst.specs.statement.Messages.{History, channel_of, on, unfinished}
+use Rattle.tl_burst.specs.statement.Messages.{History, on, unfinished}
 use Rattle.tl_params.specs.declared.perm.Perm.TheVariants as perm
 use Rattle.tl_rules.specs.code.Open.{open_request}
 use Rattle.tl_rules.specs.declared.past.Request.{Request}
@@ -27,6 +28,9 @@ use Rattle.tl_rules.specs.statement.Conformance.{Trace, on_link}
 use Rattle.tl_rules.specs.statement.Effect.{Memory, effect}
 use Rattle.tl_rules.specs.statement.History.{block_at, ends, grants, is_release_ack, request_of}
 use Rattle.tl_rules.specs.statement.Windows.{needs}
+pub use Rattle.tl_bytes.specs.statement.Early.{ends_request}
+use Rattle.tl_bytes.specs.statement.Early.{Outrun, is_outrun, is_outrun_of, is_overtaken, is_release_of, is_released}
+use Rattle.tl_bytes.specs.statement.Early.{outrun_accesses, outruns, reaches_byte, settled_by, telling_beats}
 use Rattle.tl_bytes.specs.statement.Free.{is_free}
 use Rattle.tl_bytes.specs.statement.Shown.{is_window}
 
@@ -113,24 +117,30 @@ asked_since (Some access) moment = access.asked
 abbrev pub all_but : {w : ℕ} → ℕ → ℕ → List (Access w) → List (Access w)
 all_but link source accesses = filter (λ access. not (is_of link source access)) accesses
 
--- the beat of channel D completes an answer to a request of channel A
-abbrev pub ends_request : {w : ℕ} → BeatD w → History w → Bool
-ends_request x past = not (is_release_ack x.opcode) && ends (beat.D x) past
+-- with this beat an access may be performed, and it isn't one of those whose answers outran their requests
+abbrev pub asks_new : {w : ℕ} → ℕ → BeatA w → History w → List Outrun → Bool
+asks_new link x past outrun = asks x past && not (is_some (find (is_outrun_of link x.source) outrun))
 
--- the pending accesses with one more beat
-abbrev pub pending_with : {w : ℕ} → ℕ → Beat w → History w → ℕ → List (Access w) → List (Access w)
-pending_with link (beat.A x) past moment before =
-    if asks x past
+-- with this beat an access isn't pending any more: its answer is complete, or begins before its request is complete
+abbrev pub leaves_pending : {w : ℕ} → BeatD w → History w → Bool
+leaves_pending x past = ends_request x past || outruns x past
+
+-- The pending accesses with one more beat. Those whose answers outran their requests don't belong to them.
+abbrev pub pending_with : {w : ℕ} → ℕ → Beat w → History w → ℕ → List Outrun → List (Access w) → List (Access w)
+pending_with link (beat.A x) past moment outrun before =
+    if asks_new link x past outrun
     then asked_by link x (beat.A x ∷ unfinished channel.A past) (asked_since (find (is_of link x.source) before) moment)
     ∷ all_but link x.source before
     else before
-pending_with link (beat.D x) past moment before = if ends_request x past then all_but link x.source before else before
-pending_with link _ past moment before = before
+pending_with link (beat.D x) past moment outrun before =
+    if leaves_pending x past then all_but link x.source before else before
+pending_with link _ past moment outrun before = before
 
 -- the accesses that may be performed, and whose answers aren't complete
 unfoldable pub pending_accesses : {w : ℕ} → Trace w → List (Access w)
 pending_accesses [] = []
-pending_accesses (x ∷ t) = pending_with x.0.0 x.1 (on_link x.0.0 t) (suc (length t)) (pending_accesses t)
+pending_accesses (x ∷ t) =
+    pending_with x.0.0 x.1 (on_link x.0.0 t) (suc (length t)) (outrun_accesses t) (pending_accesses t)
 
 -- a request with this opcode may write the byte at an address
 abbrev pub writes : {w : ℕ} → OpA → MessageA w → ℕ → Bool
@@ -213,13 +223,23 @@ tells_granted d.GrantData asked = true
 tells_granted d.Grant asked = asks_unread asked
 tells_granted _ asked = false
 
--- A message that is complete with this beat sets the possible values of the block's bytes: a report or a Grant with
--- data, or a Grant that answers an AcquirePerm, after which they may have any value. A denied Grant doesn't.
+-- a Grant of the block that sets its bytes is complete with this beat, isn't denied, and wasn't overtaken
+abbrev pub tells_by_grant : {w : ℕ} → ℕ → BeatD w → History w → Bool
+tells_by_grant block x past =
+    grants block x past
+    && (not x.denied && (tells_granted x.opcode (request_of x.source past) && not (is_overtaken block x past)))
+
+-- This beat sets the possible values of the block's bytes. It completes a report or a Grant with data, or a Grant that
+-- answers an AcquirePerm, after which they may have any value. Or it answers a Release whose last beat is to come: then
+-- the bytes of the beats to come may have any value, and the last beat sets nothing.
 abbrev pub tells : {w : ℕ} → ℕ → Beat w → History w → Bool
-tells block (beat.C x) past = ends (beat.C x) past && (c_carries_data x.opcode && (block_at x.address == block))
+tells block (beat.C x) past =
+    ends (beat.C x) past
+    && (c_carries_data x.opcode && ((block_at x.address == block) && not (is_released block (beat.C x) past)))
 tells block (beat.D x) past =
     ends (beat.D x) past
-    && (grants block x past && (not x.denied && tells_granted x.opcode (request_of x.source past)))
+    && (if is_release_ack x.opcode then is_release_of block x.source (unfinished channel.C past)
+    else tells_by_grant block x past)
 tells block _ past = false
 
 -- the moment at which a message last set the block's bytes
@@ -267,16 +287,26 @@ after_beat n address link (beat.D x) t before =
     else before
 after_beat n address link _ t before = before
 
+-- with this beat an access is complete, request and answer, whose answer outran its request and that reaches the byte at
+-- an address
+abbrev pub is_settled : {w : ℕ} → ℕ → Link × Beat w → Trace w → Bool
+is_settled address x t = reaches_byte address (settled_by x.0.0 x.1 (on_link x.0.0 t) (outrun_accesses t))
+
+-- the same values, and any value if such an access is complete
+abbrev pub after_settling : {w : ℕ} → ℕ → Link × Beat w → Trace w → List Telling → List Telling
+after_settling address x t before =
+    if is_settled address x t then told_too (record { value = None; moment = length t }) before else before
+
 -- the possible values of the byte at an address, the newest first: any value before the trace
 unfoldable pub may_be : {w : ℕ} → ℕ → ℕ → Trace w → List Telling
 may_be n address [] = record { value = None; moment = 0 } ∷ []
 may_be n address (x ∷ t) =
     if tells (block_at address) x.1 (on_link x.0.0 t)
     then record {
-      value = carried_byte (x.1 ∷ unfinished (channel_of x.1) (on_link x.0.0 t)) (address % 64);
+      value = carried_byte (telling_beats x.1 (on_link x.0.0 t)) (address % 64);
       moment = length t;
     } ∷ []
-    else after_beat n address x.0.0 x.1 t (may_be n address t)
+    else after_settling address x t (after_beat n address x.0.0 x.1 t (may_be n address t))
 
 -- ---- the bytes that may be granted, and read
 
@@ -294,6 +324,10 @@ abbrev pub written_as : {w : ℕ} → ℕ → ℕ → List (Access w) → Bool
 written_as address v accesses =
     is_some (find (λ x. access_writes address x && could_be v (pending_value x.request.opcode x address)) accesses)
 
+-- one of these accesses, or of those whose answers outran their requests, may write v at the address
+abbrev pub may_write : {w : ℕ} → ℕ → ℕ → List (Access w) → List Outrun → Bool
+may_write address v accesses outrun = written_as address v accesses || is_outrun address outrun
+
 -- each of these bytes, the first of which is at this address, passes a test
 unfoldable pub each_from : (ℕ → ℕ → Bool) → ℕ → List ℕ → Bool
 each_from test address [] = true
@@ -310,7 +344,8 @@ before_last link (suc k) (x ∷ t) =
 abbrev pub may_grant : {w : ℕ} → ℕ → Trace w → ℕ → ℕ → Bool
 may_grant n t address v =
     told_as v (may_be n address t)
-    || written_as address v (filter (λ x. nat_lt 0 (windows_since n (block_at address) x.asked t)) (pending_accesses t))
+    || may_write address v (filter (λ x. nat_lt 0 (windows_since n (block_at address) x.asked t)) (pending_accesses t))
+    (outrun_accesses t)
 
 -- the pending accesses without this one
 abbrev pub others : {w : ℕ} → Access w → Trace w → List (Access w)
@@ -318,7 +353,8 @@ others access t = all_but access.link access.request.source (pending_accesses t)
 
 -- an access may find the byte v: it is possible, or another pending access may write it
 abbrev pub may_find : {w : ℕ} → ℕ → Access w → Trace w → ℕ → ℕ → Bool
-may_find n access t address v = told_as v (may_be n address t) || written_as address v (others access t)
+may_find n access t address v =
+    told_as v (may_be n address t) || may_write address v (others access t) (outrun_accesses t)
 
 -- in one of its windows since it was asked for, an access may have found the byte v
 unfoldable pub may_read : {w : ℕ} → ℕ → Access w → Trace w → ℕ → ℕ → Bool
@@ -350,11 +386,12 @@ reads_truly {w} n (Some access) k x t =
     each_from (λ address v. not (reaches access.request.address access.request.size address) || may_read n access t
     address v) (w * (access.request.address / w) + w * k) (lanes_of (beat.D x))
 
--- M2: the bytes of a beat of a GrantData may be granted
+-- M2: the bytes of a beat of a GrantData may be granted. Those that are in doubt aren't judged.
 abbrev pub is_true_grant : {w : ℕ} → ℕ → ℕ → BeatD w → Option Request → Trace w → Bool
 is_true_grant n link x None t = true
 is_true_grant n link x (Some asked) t =
-    grants_truly n asked.block (length (unfinished channel.D (on_link link t))) x
+    is_overtaken asked.block x (on_link link t)
+    || grants_truly n asked.block (length (unfinished channel.D (on_link link t))) x
     (before_last link (length (unfinished channel.D (on_link link t))) t)
 
 -- M3: the request may have found the bytes of a beat of its AccessAckData

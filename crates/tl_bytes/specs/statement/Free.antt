@@ -21,10 +21,23 @@ all_but_early = record {
   uncorrupt = true;
 }
 
+-- all liberties
+unfoldable pub all_liberties : Liberties
+all_liberties = record {
+  ids = true;
+  sinks = true;
+  writer = true;
+  early = true;
+  drops = true;
+  reports = true;
+  denied = true;
+  uncorrupt = true;
+}
+
 -- The most that a link may hold of a block. If no beat breaks a rule of its link under fewer liberties, this is the
 -- permission held under those.
 abbrev pub may_hold : {w : ℕ} → ℕ → History w → Perm
-may_hold block t = held_under all_but_early block t
+may_hold block t = held_under all_liberties block t
 
 -- after t none of the first n links may hold a permission of the block that conflicts with the given one
 unfoldable pub is_free : {w : ℕ} → ℕ → Perm → ℕ → Trace w → Bool

@@ -3,9 +3,9 @@ use Rattle.std.specs.Prelude.{ℕ, zero, suc, Bool, true, false, not, [], ◌∷
 use Rattle.std.specs.Prelude.{if◌then◌else◌, List, filter, find, is_some, length, nat_lt, Option, Some, None}
 use Rattle.tl_beat.specs.declared.beat.Beat.{Beat}
 use Rattle.tl_beat.specs.declared.beat.Link.{Link}
-use Rattle.tl_burst.specs.statement.Messages.{channel_of, unfinished}
 use Rattle.tl_params.specs.declared.perm.Perm.TheVariants as perm
 use Rattle.tl_rules.specs.statement.Conformance.{Trace, on_link}
+use Rattle.tl_bytes.specs.statement.Early.{Outrun, telling_beats}
 use Rattle.tl_bytes.specs.statement.Free.{is_free}
 use Rattle.tl_bytes.specs.declared.block_bytes.BlockBytes.{BlockBytes}
 use Rattle.tl_bytes.specs.code.Tellings.{is_written, left_as, telling_at, value_at}
@@ -22,7 +22,7 @@ use Rattle.tl_bytes.specs.declared.telling.Told.{Told}
 use Rattle.tl_bytes.specs.declared.windows.WindowCount.{WindowCount}
 use Rattle.tl_bytes.specs.declared.windows.WindowCount.TheVariants as count
 use Rattle.tl_bytes.specs.declared.windows.WritingWindows.{WritingWindows}
-use Rattle.tl_bytes.specs.statement.Bytes.{could_be, may_grant, may_read, pending_accesses, written_as}
+use Rattle.tl_bytes.specs.statement.Bytes.{after_beat, could_be, is_settled, may_grant, may_read, may_write, pending_accesses}
 use Rattle.tl_bytes.specs.statement.Bytes.{Access, access_writes, carried_byte, may_be, value_left}
 use Rattle.tl_bytes.specs.statement.Bytes.{windows_since, window_began, last_window, last_told}
 
@@ -54,9 +54,9 @@ pub record KnowsCarried {w : ℕ} (carried : CarriedBytes) (burst : List (Beat w
   pub bytes_are : HasBytes carried.bytes burst
   pub beats_are : carried.beats ≡ length burst
 
--- these are the bytes of the message that is complete with a beat
+-- these are the bytes of the message that says a block's bytes with a beat
 abbrev pub AreCarried : {w : ℕ} → KnownBytes → Link × Beat w → Trace w → Type 0
-AreCarried values x t = HasBytes values (x.1 ∷ unfinished (channel_of x.1) (on_link x.0.0 t))
+AreCarried values x t = HasBytes values (telling_beats x.1 (on_link x.0.0 t))
 
 -- this is the write of an access with this answer to the block
 abbrev pub IsWrite : {w : ℕ} → Write → ℕ → Access w → List (Beat w) → Type 0
@@ -64,10 +64,24 @@ IsWrite write block access answer = (place : ℕ) → place < 64
     → (is_written write place ≡ access_writes (64 * block + place) access)
     × (is_written write place ≡ true → value_at write place ≡ value_left access.request.opcode access answer (64 * block + place))
 
--- these are the writes of pending accesses to the block
-abbrev pub MayWrite : {w : ℕ} → List Write → ℕ → List (Access w) → Type 0
-MayWrite writes block accesses = (place byte : ℕ) → place < 64
-    → left_as place byte writes ≡ written_as (64 * block + place) byte accesses
+-- these are the writes of pending accesses to the block, and of those whose answers outran their requests
+abbrev pub MayWrite : {w : ℕ} → List Write → ℕ → List (Access w) → List Outrun → Type 0
+MayWrite writes block accesses outrun = (place byte : ℕ) → place < 64
+    → left_as place byte writes ≡ may_write (64 * block + place) byte accesses outrun
+
+-- with this beat no access is complete that reaches the block and whose answer outran its request
+abbrev pub NoneSettled : {w : ℕ} → ℕ → Link × Beat w → Trace w → Type 0
+NoneSettled block x t = (place : ℕ) → place < 64 → is_settled (64 * block + place) x t ≡ false
+
+-- with this beat no answer to a pending access is complete
+abbrev pub AnswersNone : {w : ℕ} → Link × Beat w → Trace w → Type 0
+AnswersNone x t = (n address : ℕ) (before : List Telling) → after_beat n address x.0.0 x.1 t before ≡ before
+
+-- this is the write of an access whose answer outran its request, which is complete with a beat: any value
+abbrev pub IsSettling : {w : ℕ} → Write → ℕ → Link × Beat w → Trace w → Type 0
+IsSettling write block x t = (place : ℕ) → place < 64
+    → (is_written write place ≡ is_settled (64 * block + place) x t)
+    × (is_written write place ≡ true → value_at write place ≡ None)
 
 -- the pending accesses that have had a window for writing the block
 abbrev pub windowed : {w : ℕ} → ℕ → ℕ → Trace w → List (Access w)

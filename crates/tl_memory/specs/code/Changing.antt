@@ -8,7 +8,7 @@ use Rattle.tl_bytes.specs.statement.Free.{is_free}
 use Rattle.tl_params.specs.declared.perm.Perm.TheVariants as perm
 use Rattle.tl_rules.specs.statement.Conformance.{Trace, on_link}
 use Rattle.tl_rules.specs.statement.History.{begins}
-use Rattle.tl_memory.specs.code.Elsewhere.{PassesBy}
+use Rattle.tl_memory.specs.code.Elsewhere.{IsConcerned, PassesBy}
 use Rattle.tl_memory.specs.code.Passing.{changes_held}
 use Rattle.tl_memory.specs.code.Taking.{IsNext, IsSeen}
 use Rattle.tl_memory.specs.declared.block.BlockState.{BlockState}
@@ -41,7 +41,8 @@ pub record KnowsFree {w : ℕ} (change : Change w) (n : ℕ) (t : Trace w) : Typ
   pub writing_is : (block : ℕ) → change.block ≡ Some block → change.writing ≡ is_free n perm.Trunk block t
 
 -- This is what the beat changes: the state of one block, of which one is kept at this place, or of none, what its link
--- holds of that block, and what the response may bring that begins with it, or whose beat it is.
+-- holds of that block, and what the response may bring that begins with it, or whose beat it is. If a Grant begins with the
+-- beat, this is the block of its request.
 pub record IsChange {w : ℕ} (change : Change w) (m : Memory w) (n : ℕ) (x : Link × Beat w) (t : Trace w) : Type 0 where
   pub block_is : IsBorne change.block x t
   pub held_is : change.held ≡ (if changes_held x.1 (on_link x.0.0 t) then change.block else None)
@@ -51,3 +52,4 @@ pub record IsChange {w : ℕ} (change : Change w) (m : Memory w) (n : ℕ) (x : 
       → IsNext change.next free s n block x t
   pub expected_is : ExpectsBegun change.expected n x t
   pub along_is : ExpectsAlong change.expected n x t
+  pub concerned : IsConcerned change.block x.1 (on_link x.0.0 t)

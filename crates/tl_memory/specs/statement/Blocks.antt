@@ -3,10 +3,10 @@ use Rattle.std.specs.Prelude.{ℕ, [], ◌≡◌, ◌<◌, ◌+◌, ◌*◌, len
 use Rattle.std.specs.BTreeMap.{get}
 use Rattle.std.specs.Ordering.{nat_cmp}
 use Rattle.tl_rules.specs.statement.Conformance.{Trace}
-use Rattle.tl_bytes.specs.statement.Bytes.{may_be, pending_accesses}
+use Rattle.tl_bytes.specs.statement.Bytes.{may_be}
 use Rattle.tl_memory.specs.declared.block.BlockState.{BlockState}
 use Rattle.tl_memory.specs.declared.blocks.Blocks.{Blocks}
-use Rattle.tl_memory.specs.statement.Known.{AllWriteInside, KnowsState}
+use Rattle.tl_memory.specs.statement.Known.{AreInside, KnowsState}
 
 -- the possible values of each byte of the block are those from before the trace
 abbrev pub IsUntold : {w : ℕ} → ℕ → ℕ → Trace w → Type 0
@@ -38,8 +38,8 @@ pub record IsTable {w : ℕ} (b : Blocks w) : Type 0 where
   pub apart : (block other place : ℕ) → place_in b block ≡ Some place → place_in b other ≡ Some place → block ≡ other
   pub last_is : (block place : ℕ) → b.last ≡ Some (block, place) → place_in b block ≡ Some place
 
--- the states of all blocks are kept; each pending access writes in its own block alone
+-- the states of all blocks are kept; no access writes outside its own block
 pub record KnowsBlocks {w : ℕ} (b : Blocks w) (n : ℕ) (t : Trace w) : Type 0 where
   pub table_is : IsTable b
   pub states_are : (block : ℕ) → KnowsKept (state_in b block) n block t
-  pub inside : AllWriteInside (pending_accesses t)
+  pub inside : AreInside t

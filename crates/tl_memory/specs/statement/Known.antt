@@ -7,7 +7,7 @@ use Rattle.tl_beat.specs.declared.beat.Link.{Link}
 use Rattle.tl_beat.specs.declared.opcode.OpA.{OpA}
 use Rattle.tl_beat.specs.declared.opcode.OpA.TheVariants as a
 use Rattle.tl_beat.specs.statement.Opcode.{a_carries_data}
-use Rattle.tl_burst.specs.statement.Burst.{bit}
+use Rattle.tl_burst.specs.statement.Burst.{bit, reaches}
 use Rattle.tl_params.specs.declared.level.Level.TheVariants as level
 use Rattle.tl_params.specs.declared.perm.Perm.{Perm}
 use Rattle.tl_params.specs.declared.perm.Perm.TheVariants as perm
@@ -18,6 +18,7 @@ use Rattle.tl_bytes.specs.statement.Bytes.{is_put, may_find, may_read, pending_v
 use Rattle.tl_rules.specs.statement.Conformance.{Trace, on_link, same_perm}
 use Rattle.tl_rules.specs.statement.History.{block_at}
 use Rattle.tl_rules.specs.statement.Windows.{needs}
+use Rattle.tl_bytes.specs.statement.Early.{Outrun, outrun_accesses}
 use Rattle.tl_bytes.specs.statement.Free.{is_free}
 use Rattle.tl_bytes.specs.statement.Shown.{shows}
 use Rattle.tl_bytes.specs.code.Tellings.{is_written, value_at}
@@ -25,6 +26,7 @@ use Rattle.tl_bytes.specs.declared.read_bytes.ReadBytes.{ReadBytes}
 use Rattle.tl_bytes.specs.declared.write.Write.{Write}
 use Rattle.tl_bytes.specs.statement.Known.{KnowsBlock, KnowsCarried, KnowsRead, KnowsWindows, may_bring}
 use Rattle.tl_memory.specs.declared.block.BlockState.{BlockState}
+use Rattle.tl_memory.specs.declared.early.OutrunAccess.{OutrunAccess}
 use Rattle.tl_memory.specs.declared.free.Freedom.{Freedom}
 use Rattle.tl_memory.specs.declared.expected.Expected.{Expected}
 use Rattle.tl_memory.specs.declared.pending.PendingAccess.{PendingAccess}
@@ -151,6 +153,44 @@ pub record KnowsAccesses {w : ℕ} (pending : List (PendingAccess w)) (admits : 
   pub accesses_are : AreKnown pending admits n block (filter (is_to block) (pending_accesses t)) seen
   pub inside : AllWriteInside (pending_accesses t)
 
+-- ---- accesses whose answers outran their requests
+
+-- this is the access; in the block it may write any values to the bytes that it reaches
+pub record IsOutrun (kept : OutrunAccess) (block : ℕ) (access : Outrun) : Type 0 where
+  pub link_is : kept.link.0 ≡ access.link
+  pub source_is : kept.source ≡ access.source
+  pub answered_is : kept.answered ≡ access.answered
+  pub reaches_it : (place : ℕ) → place < 64
+      → is_written kept.write place ≡ reaches access.address access.size (64 * block + place)
+  pub any : (place : ℕ) → value_at kept.write place ≡ None
+
+-- these are the accesses
+abbrev pub AreOutrun : List OutrunAccess → ℕ → List Outrun → Type 0
+AreOutrun [] block [] = ⊤
+AreOutrun (kept ∷ more) block (access ∷ accesses) = IsOutrun kept block access × AreOutrun more block accesses
+AreOutrun _ block _ = ⊥
+
+-- the access is to the block
+abbrev pub outruns_in : ℕ → Outrun → Bool
+outruns_in block access = block_at access.address == block
+
+-- each of these accesses reaches bytes of its own block alone
+abbrev pub AllReachInside : List Outrun → Type 0
+AllReachInside [] = ⊤
+AllReachInside (access ∷ accesses) =
+    ((address : ℕ) → reaches access.address access.size address ≡ true
+    → block_at address ≡ block_at access.address) × AllReachInside accesses
+
+-- these are those of the accesses that are to the block; each reaches bytes of its own block alone
+pub record KnowsOutrun (kept : List OutrunAccess) (block : ℕ) (accesses : List Outrun) : Type 0 where
+  pub are : AreOutrun kept block (filter (outruns_in block) accesses)
+  pub inside : AllReachInside accesses
+
+-- each access that is pending after t writes in its own block alone, and so may those whose answers outran their requests
+pub record AreInside {w : ℕ} (t : Trace w) : Type 0 where
+  pub inside : AllWriteInside (pending_accesses t)
+  pub reach_inside : AllReachInside (outrun_accesses t)
+
 -- ---- blocks
 
 -- whether the block is free with a beat for reading and for writing, and whether its bytes are shown
@@ -181,6 +221,7 @@ closed given = false
 pub record KnowsParts {w : ℕ} (s : BlockState w) (admits : Perm → Bool) (n block : ℕ) (seen t : Trace w) : Type 0 where
   pub bytes_are : KnowsBlock s.bytes n block t
   pub accesses_are : KnowsAccesses s.accesses.items admits n block seen t
+  pub outrun_are : KnowsOutrun s.outrun.items block (outrun_accesses t)
   pub free_is : (given : Perm) → free_for s.free given ≡ is_free n given block seen
   pub last_is : s.free.writing ≡ false → s.last_free ≡ last_window n block seen
 

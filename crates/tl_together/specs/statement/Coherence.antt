@@ -19,7 +19,7 @@ use Rattle.tl_rules.specs.statement.Liberties.{broken_on_link_under}
 use Rattle.tl_rules.specs.statement.Windows.{leaves, needs}
 use Rattle.tl_monitor.specs.statement.Granting.{granted_under}
 use Rattle.tl_bytes.specs.statement.Bytes.{is_true}
-use Rattle.tl_bytes.specs.statement.Free.{all_but_early}
+use Rattle.tl_bytes.specs.statement.Free.{all_liberties}
 use Rattle.tl_bytes.specs.statement.Shown.{had_window}
 use Rattle.tl_params.specs.declared.memory_rule.MemoryRule.{MemoryRule}
 use Rattle.tl_params.specs.declared.memory_rule.MemoryRule.TheVariants.{M1, M2, M3, M4}
@@ -39,7 +39,7 @@ is_access_ack _ = false
 unfoldable pub is_grantable : {w : ℕ} → ℕ → ℕ → Perm → ℕ → Trace w → Bool
 is_grantable zero link given block t = true
 is_grantable (suc n) link given block t =
-    is_grantable n link given block t && ((link == n) || leaves given (granted_under all_but_early block (on_link n t)))
+    is_grantable n link given block t && ((link == n) || leaves given (granted_under all_liberties block (on_link n t)))
 
 -- M1, at the first beat of a Grant that answers this request: another link holds, or is being granted, a permission
 -- that conflicts with the cap

@@ -9,7 +9,7 @@ pub loop-access-init : goal.loop-access-init
 loop-access-init g c = (
   [],
   sym (append-nil c.args.copies.now.items),
-  copied-none c.args.gone (found_by c.args.free c.args.bytes.now c.args.accesses.now) c.args.accesses.now,
+  copied-none c.args.gone (found_by c.args.free c.args.bytes.now c.args.accesses.now c.args.outrun.now) c.args.accesses.now,
 )
 
 pub loop-access-preserved : goal.loop-access-preserved
@@ -20,7 +20,7 @@ loop-access-preserved g c = elim c.if-stays.branch [
         so_far.0 ++ w.in_ok-renewed.field-0 ∷ [],
         pushed ∙ ap (λ l. l ++ w.in_ok-renewed.field-0 ∷ []) so_far.1
             ∙ append_assoc c.args.copies.now.items so_far.0 (w.in_ok-renewed.field-0 ∷ []),
-        copied-more c.args.gone (found_by c.args.free c.args.bytes.now c.args.accesses.now) c.loop-access.access-index
+        copied-more c.args.gone (found_by c.args.free c.args.bytes.now c.args.accesses.now c.args.outrun.now) c.loop-access.access-index
             c.args.accesses.now so_far.0 c.access-item.result w.in_ok-renewed.field-0 so_far.2 c.access-item.is
             c.loop-access-test.true (sym c.stays.ensures ∙ w.if-stays.true) w.in_ok-renewed.ensures,
       )
@@ -28,7 +28,7 @@ loop-access-preserved g c = elim c.if-stays.branch [
       let so_far = c.loop-access.invariant in (
         so_far.0,
         ap (λ v. v.items) w.copies-is ∙ so_far.1,
-        copied-left c.args.gone (found_by c.args.free c.args.bytes.now c.args.accesses.now) c.loop-access.access-index
+        copied-left c.args.gone (found_by c.args.free c.args.bytes.now c.args.accesses.now c.args.outrun.now) c.loop-access.access-index
             c.args.accesses.now so_far.0 c.access-item.result so_far.2 c.access-item.is c.loop-access-test.true
             (sym c.stays.ensures ∙ w.if-stays.false),
       )

@@ -6,4 +6,4 @@ use Rattle.tl_memory.proofs.accesses.append_renewed.Given as goal
 abbrev pub invariant-loop-access : goal.invariant-loop-access
 invariant-loop-access g l =
     (more : List (PendingAccess g.row.W)) × (l.copies.items ≡ l.initial.copies.items ++ more)
-    × AreRenewed (found_by l.free l.bytes l.accesses) (staying l.gone (take l.access-index l.accesses)) more
+    × AreRenewed (found_by l.free l.bytes l.accesses l.outrun) (staying l.gone (take l.access-index l.accesses)) more

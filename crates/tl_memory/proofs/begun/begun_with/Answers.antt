@@ -1,11 +1,11 @@
 use Rattle.std.proofs.Common.{sym, ◌∙◌, ◌≡◌, true, false}
 use Rattle.std.proofs.lemmas.Bool.{eq-eqb, ne_eqb}
-use Rattle.std.{proofs.Common.refl, proofs.Common.◌<◌, proofs.Common.◌^◌, proofs.lemmas.Result.IfOk-weaker}
+use Rattle.std.proofs.lemmas.Result.{IfOk-weaker}
 use Rattle.tl_beat.{specs.declared.beat.Beat.Beat, specs.declared.channel.Channel.Channel}
 use Rattle.tl_burst.specs.statement.Messages.{unfinished}
-use Rattle.tl_rules.{specs.code.Open.open_request, specs.statement.Conformance.on_link}
+use Rattle.tl_rules.specs.statement.Conformance.{on_link}
 use Rattle.tl_rules.specs.statement.History.{begins}
-use Rattle.tl_memory.proofs.Memories.{along-by, begun-by, block-small, no-response}
+use Rattle.tl_memory.proofs.Memories.{along-by, begun-by, no-response}
 use Rattle.tl_memory.proofs.{PassedBy.none-before, Taken.response-borne}
 use Rattle.tl_memory.proofs.begun.begun_with.Goals as goal
 
@@ -14,13 +14,11 @@ returns-then-count-eq0 g c = IfOk-weaker c.begun.result _ _ (λ expected h n t k
     let y = c.in-D.y in
     let link = c.args.link in
     let is = c.in-D.is in
-    let one = response-borne link.0 y (open_request y.source (on_link link.0 t)) c.args.block t (rw is at legal) refl
-    (rw is at borne) in
-    let small : c.args.block < 2 ^ 26 = rw (← one.3) (block-small y.source link.0 one.0 t all one.1) in
+    let answers = response-borne link.0 y c.args.block t (rw is at legal) (rw is at borne) in
     let first : begins (Beat.D y) (on_link link.0 t) ≡ true =
     sym (none-before c.count.result (unfinished Channel.D (on_link link.0 t)) (c.count.ensures g.row.W _
     message.bytes_are)) ∙ eq-eqb c.count.result 0 c.if-count-eq0.true in
-    begun-by expected n link c.args.x.now y t is first (h n one.0 t k one.2 one.3 small))
+    begun-by expected n link c.args.x.now y t is first (h n t k answers all))
     c.begun.ensures
 
 pub returns-else-count-eq0 : goal.returns-else-count-eq0
@@ -28,12 +26,11 @@ returns-else-count-eq0 g c = IfOk-weaker c.along.result _ _ (λ expected h n t k
     let y = c.in-D.y in
     let link = c.args.link in
     let is = c.in-D.is in
-    let one = response-borne link.0 y (open_request y.source (on_link link.0 t)) c.args.block t (rw is at legal) refl
-    (rw is at borne) in
+    let answers = response-borne link.0 y c.args.block t (rw is at legal) (rw is at borne) in
     let later : begins (Beat.D y) (on_link link.0 t) ≡ false =
     sym (none-before c.count.result (unfinished Channel.D (on_link link.0 t)) (c.count.ensures g.row.W _
     message.bytes_are)) ∙ ne_eqb c.count.result 0 c.if-count-eq0.false in
-    along-by expected n link c.args.x.now y t is later (h n c.args.block one.0 t k one.2 one.3))
+    along-by expected n link c.args.x.now y t is later (h n c.args.block t k answers))
     c.along.ensures
 
 pub returns-in_default : goal.returns-in_default

@@ -1,7 +1,7 @@
-use Rattle.std.{proofs.Common.arith, proofs.Common.◌≡◌, proofs.Common.◌/◌, specs.Prelude.length}
+use Rattle.std.{proofs.Common.arith, proofs.Common.◌≡◌, proofs.Common.◌/◌, specs.Prelude.length, specs.Prelude.Some}
 use Rattle.std.{proofs.lemmas.Result.IfOk-weaker}
 use Rattle.tl_beat.specs.declared.beat.Beat.{Beat}
-use Rattle.tl_memory.proofs.Taken.{none-borne, none-open, response-borne, response-is, same-block, seen-other}
+use Rattle.tl_memory.proofs.{Bearing.ack-elsewhere, Taken.none-borne, Taken.same-block, Taken.seen-other}
 use Rattle.tl_memory.proofs.next.after_beat.Goals as goal
 
 pub returns-in-A : goal.returns-in-A
@@ -18,28 +18,26 @@ returns-in-C g c = IfOk-weaker c.after_report.result _ _ (λ next h n block free
     let is = c.in-C.is in
     let before : c.saturating_sub-before.result ≡ length t = omega (arith, c.saturating_sub-before.ensures, now) in
     rw is (seen-other next free c.args.state.now n block (c.args.link, Beat.C y) t (rw is at seen)
-    (h n block c.args.link t k m.c_is (rw is at legal) (same-block (y.address / 64) block (rw is at borne)) before)))
+    (h n block c.args.link t k m (rw is at legal) (same-block (y.address / 64) block (rw is at borne)) before)))
     c.after_report.ensures
 
-pub returns-in-Some : goal.returns-in-Some
-returns-in-Some g c = IfOk-weaker c.after_response.result _ _ (λ next h n block free t k m legal asked borne now seen.
+pub returns-in-D : goal.returns-in-D
+returns-in-D g c = IfOk-weaker c.after_any_response.result _ _ (λ next h n block free t k m legal asked borne now seen.
     let y = c.in-D.y in
     let is = c.in-D.is in
     let before : c.saturating_sub-before.result ≡ length t = omega (arith, c.saturating_sub-before.ensures, now) in
-    let one = response-borne c.args.link.0 y c.args.asked block t (rw is at legal) (rw is at asked) (rw is at borne) in
-    let its = response-is c.args.link.0 y c.args.asked c.in-Some.asked one.0 block t c.in-Some.is one.1 (one.2, one.3)
-    in
     rw is (seen-other next free c.args.state.now n block (c.args.link, Beat.D y) t (rw is at seen)
-    (h n block t k m.d_is its.0 its.1 before)))
-    c.after_response.ensures
+    (h n block t k m (rw is at legal) (rw is at asked) (rw is at borne) before)))
+    c.after_any_response.ensures
 
-pub returns-in-None : goal.returns-in-None
-returns-in-None g c = λ n block free t k m legal asked borne now seen.
-    let is = c.in-D.is in
-    let one = response-borne c.args.link.0 c.in-D.y c.args.asked block t (rw is at legal) (rw is at asked)
-    (rw is at borne) in
-    none-open c.args.asked one.0 c.in-None.is one.1
+pub returns-in_ok-passed-in-E : goal.returns-in_ok-passed-in-E
+returns-in_ok-passed-in-E g c = λ n block free t k m legal asked borne now seen.
+    let is = c.in-E.is in
+    rw is (seen-other (Some c.in_ok-passed-in-E.field-0) free c.args.state.now n block (c.args.link, Beat.E c.in-E.field-0)
+    t (rw is at seen) (c.in_ok-passed-in-E.ensures n block (c.args.link, Beat.E c.in-E.field-0) t k
+    (ack-elsewhere block c.args.link c.in-E.field-0 t
+    (record { inside = k.accesses_are.inside; reach_inside = k.outrun_are.inside }))))
 
-pub returns-in_default : goal.returns-in_default
-returns-in_default g c = λ n block free t k m legal asked borne now seen.
-    none-borne c.args.beat.now _ block c.in_default.not-A c.in_default.not-C c.in_default.not-D borne
+pub returns-in-B : goal.returns-in-B
+returns-in-B g c = λ n block free t k m legal asked borne now seen.
+    none-borne c.args.beat.now _ block c.in-B.field-0 c.in-B.is borne

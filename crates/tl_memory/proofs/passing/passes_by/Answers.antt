@@ -1,9 +1,11 @@
-use Rattle.std.proofs.Common.{refl, sym, true, false, ◌≡◌, ap, ap₂, ◌∙◌, ◌||◌}
+use Rattle.std.proofs.Common.{refl, rules, sym, true, false, ◌≡◌, ap, ap₂, ◌∙◌, ◌||◌}
 use Rattle.std.specs.Prelude.{not}
 use Rattle.tl_beat.specs.declared.channel.Channel.{Channel}
 use Rattle.tl_burst.specs.statement.Messages.{unfinished}
 use Rattle.tl_memory.{specs.code.Passing.acquires_from_none}
-use Rattle.tl_memory.proofs.PassedBy.{none-before, others-pass}
+use Rattle.std.specs.Prelude.{is_none, is_some}
+use Rattle.tl_memory.proofs.EarlyMessages.{grants-with, none-some}
+use Rattle.tl_memory.proofs.PassedBy.{none-before}
 use Rattle.tl_memory.proofs.passing.passes_by.Goals as goal
 
 pub returns-then-acquires_from_none : goal.returns-then-acquires_from_none
@@ -31,7 +33,14 @@ returns-in-D g c = λ t k few.
     let last = c.completes-in-D.ensures burst k.d_is (rw is at few) in
     let first = none-before c.count.result burst (c.count.ensures g.row.W burst k.d_is.bytes_are) in
     rw is (ap not (c.either.ensures ∙ ap₂ (λ a b. a || b)
-    (c.either-bounds.ensures ∙ ap₂ (λ a b. a || b) first (rw is at last)) c.is_answer_data.ensures))
+    (c.either-bounds.ensures ∙ ap₂ (λ a b. a || b) first (rw is at last)) c.is_answer.ensures))
 
-pub returns-in_default : goal.returns-in_default
-returns-in_default g c = λ t k few. others-pass c.args.x.now t c.in_default.not-A c.in_default.not-C c.in_default.not-D
+pub returns-in-E : goal.returns-in-E
+returns-in-E g c = λ t k few.
+    let is = c.in-E.is in
+    let none : c.is_none.result ≡ is_none c.grants_with.result = search rules in
+    rw is (none ∙ none-some c.grants_with.result ∙ ap not (ap is_some c.grants_with.ensures
+    ∙ grants-with c.args.messages.now.granting c.in-E.y.sink t k.granting_is))
+
+pub returns-in-B : goal.returns-in-B
+returns-in-B g c = λ t k few. let is = c.in-B.is in rw is refl

@@ -1,6 +1,6 @@
 use Rattle.std.proofs.Common.{rules, ap, not, true, false, ◌∙◌, ◌≡◌, ◌++◌, [], ◌∷◌}
 use Rattle.std.proofs.lemmas.List.{take_all}
-use Rattle.tl_memory.specs.code.Writers.{names, writes_but}
+use Rattle.tl_memory.specs.code.Writers.{names, writes_but, writes_outrun}
 use Rattle.tl_memory.proofs.Writing.{none_yet, one_kept, one_left}
 use Rattle.tl_memory.proofs.pending.writes_of_others.Goals as goal
 use Rattle.tl_memory.proofs.pending.writes_of_others.Goals.{then-not-is_of+in_ok-push, else-not-is_of}
@@ -30,5 +30,6 @@ loop-access-preserved g c = elim c.if-not-is_of.branch [
 ]
 
 pub returns : goal.returns
-returns g c = c.loop-access.invariant ∙ ap (writes_but c.args.link.0 c.args.source)
-    (take_all c.loop-access.access-index c.args.accesses.now c.loop-access-test.false)
+returns g c = c.in_ok-append_outrun.ensures ∙ ap (λ l. l ++ writes_outrun c.args.outrun.now)
+    (c.loop-access.invariant ∙ ap (writes_but c.args.link.0 c.args.source)
+    (take_all c.loop-access.access-index c.args.accesses.now c.loop-access-test.false))

@@ -1,22 +1,26 @@
-use Rattle.std.proofs.Common.{rules, refl, ◌≡◌, ◌∷◌, ◌/◌}
+use Rattle.std.proofs.Common.{rules, refl, ◌≡◌, ◌∷◌, ◌+◌, ◌*◌, ◌/◌}
 use Rattle.std.specs.Prelude.{Some}
 use Rattle.std.proofs.lemmas.Bool.{eq-eqb}
 use Rattle.tl_beat.specs.declared.{beat.Beat.Beat, beat.Link.Link}
 use Rattle.tl_memory.specs.code.Taking.{asked_now}
-use Rattle.tl_memory.proofs.{Asked.asked-state, Bearing.asks-bare, Bearing.pending-asked, Bearing.request-leaves}
+use Rattle.tl_memory.proofs.{Asked.asked-state, Asked.leaves-asked, Asked.unsettled-asked}
+use Rattle.tl_memory.proofs.{Bearing.asks-bare, Bearing.pending-asked, Bearing.request-leaves}
 use Rattle.tl_memory.proofs.Elsewhere.{bytes-kept}
 use Rattle.tl_memory.proofs.block.BlockState.asked.Goals as goal
 
 pub returns : goal.returns
-returns g c = λ n block t k brought is asked here now.
+returns g c = λ n block t k brought is asked fresh here now.
     let old = c.args.self.now in
     let y = c.args.y.now in
     let link = c.args.link in
     let x : Link × Beat g.row.W = (link, Beat.A y) in
     let copies = c.in_ok-append_renewed.ensures in
     let items : c.append_renewed.new.copies.items ≡ c.in_ok-own.own ∷ copies.0 = search rules in
-    asked-state old _ (Some (link, y.source)) n block c.in_ok-own.own copies.0 (asked_now link.0 y t) x t k refl items
-    (pending-asked link y t asked) (eq-eqb (y.address / 64) block here) (is.inside asked)
+    asked-state old _ (Some (link, y.source)) n block c.in_ok-own.own copies.0 (asked_now link.0 y t) x t k refl refl items
+    (pending-asked link y t asked fresh) (eq-eqb (y.address / 64) block here) (is.inside asked)
     (request-leaves block link y t (asks-bare link y t asked)) refl
-    (bytes-kept n block old.bytes x t k.bytes_are refl (λ p lt. tt))
-    (c.in_ok-own.ensures n block t k brought is asked here now) (rw c.as_slice-before.ensures.value at copies.2)
+    (bytes-kept n block old.bytes x t k.bytes_are refl (λ p lt. tt)
+    (λ p lt. unsettled-asked link y t (64 * block + p) fresh))
+    (leaves-asked block link y t fresh k.outrun_are.inside)
+    (c.in_ok-own.ensures n block t k brought is asked here now)
+    (rw (c.as_slice-before.ensures.value, c.as_slice.ensures.value) at copies.2)

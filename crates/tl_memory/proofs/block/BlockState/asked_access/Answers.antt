@@ -65,7 +65,7 @@ returns g c = IfOk-weaker c.grown.result _ _ (λ own grown n block t k brought i
     let writer = c.new-writer-2.ensures older brought is.wide (whole_room g.row.W (length older) is.room.0) lawful in
     subst (λ m. KnowsAccess own (open_for (none_shown old.free)) n block (access m) (x ∷ t)) since
     (grown-access old c.in-Some.first.now own c.new-writer-2.result n block p
-    (access c.in-Some.first.now.writer.asked.moment) x t k one.2 (rw c.as_slice-accesses.ensures.value at grown)
+    (access c.in-Some.first.now.writer.asked.moment) x t k one.2 (rw (c.as_slice-accesses.ensures.value, c.as_slice.ensures.value) at grown)
     (record {
       link_is = sym (eqb-true p.link link.0 names.0);
       source_is = sym (eqb-true p.request.source y.source names.1);

@@ -1,6 +1,6 @@
+use Rattle.std.proofs.Common.{refl}
 use Rattle.tl_memory.proofs.LinkBeats.{none-carried}
 use Rattle.tl_memory.proofs.link.LinkMessages.new.Goals as goal
 
 pub returns : goal.returns
-returns c = λ w. none-carried (record { a = c.new.result; c = c.new-2.result; d = c.new-3.result }) (c.new.ensures w)
-    (c.new-2.ensures w) (c.new-3.ensures w)
+returns c = λ w. none-carried _ (c.new.ensures w) (c.new-2.ensures w) (c.new-3.ensures w) refl refl refl

@@ -2,7 +2,7 @@ use Rattle.std.proofs.Common.{rules, sym, ap, ◌∙◌, length}
 use Rattle.std.{specs.Prelude.if◌then◌else◌, specs.Prelude.Some, specs.Prelude.None, proofs.lemmas.Option.same_Some}
 use Rattle.tl_rules.specs.statement.Conformance.{on_link}
 use Rattle.tl_memory.{proofs.Kept.place-kept, proofs.Kept.place-there, proofs.LegalBeats.few-before}
-use Rattle.tl_memory.proofs.Memories.{held-own, is-borne, links-legal, none-free}
+use Rattle.tl_memory.proofs.Memories.{held-own, is-borne, is-concerned, links-legal, none-free}
 use Rattle.tl_memory.proofs.Taken.{same-block}
 use Rattle.tl_params.specs.declared.perm.Perm.{Perm}
 use Rattle.tl_memory.proofs.memory.Memory.changed.Goals as goal
@@ -28,6 +28,7 @@ returns-clause-change g c = λ levels t k legal fine asked now borne there.
           rw (← same, ← own) (c.in_ok-next.ensures n block free t state messages its asked borne now (rw same seen));
       expected_is = (c.in_ok-expected.ensures n t state messages.d_is its borne k.addressed).0;
       along_is = (c.in_ok-expected.ensures n t state messages.d_is its borne k.addressed).1;
+      concerned = is-concerned link x (Some block) t its borne;
     }
 
 pub returns-in_default-clause-change : goal.returns-in_default-clause-change

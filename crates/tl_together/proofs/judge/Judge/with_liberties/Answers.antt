@@ -6,6 +6,6 @@ pub returns : goal.returns
 returns g c = (
   c.in-Ok.ensures.0,
   new_knows _ c.args.levels.now c.args.liberties refl refl refl
-      (record { knows = c.in-Ok.ensures.1; late = c.requires.late; kept = tt }) (search rules) c.new-2.ensures
+      (record { knows = c.in-Ok.ensures.1; kept = tt }) (search rules) c.new-2.ensures
       c.in-Ok-new.ensures,
 )

@@ -1,0 +1,16 @@
+use Rattle.std.proofs.Common.{◌∙◌, refl}
+use Rattle.std.{proofs.lemmas.Result.IfOk-weaker, specs.Prelude.None}
+use Rattle.tl_bytes.specs.statement.Bytes.{pending_accesses}
+use Rattle.tl_memory.proofs.{Keeping.keeps-all, Settling.is-settling, Settling.settled-outrun, States.gone-here, States.gone-inside}
+use Rattle.tl_memory.proofs.block.BlockState.settled.Goals as goal
+
+pub returns : goal.returns
+returns g c = IfOk-weaker c.with_bytes.result _ _ (λ next h n block x t k s now.
+    let same = s.pending_stay ∙ keeps-all (pending_accesses t) in
+    h n block x t k
+    (c.in_ok-bytes.ensures.settled g.row.W n block x t k.bytes_are s.quiet s.answers_none refl now
+    (is-settling c.args.access.now block x t s))
+    (gone-here block None x t same) (gone-inside None x t same k.accesses_are.inside)
+    (rw (c.in_ok-append_outrun_but.ensures, c.as_slice.ensures.value, c.new-outrun.ensures.items)
+    (settled-outrun c.args.access.now c.args.self.now.outrun.items block x t s k.outrun_are)))
+    c.with_bytes.ensures

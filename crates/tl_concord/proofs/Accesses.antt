@@ -1,7 +1,7 @@
 -- The requests and answers of accesses are those of the one memory's open operations.
 use Rattle.tl_concord.proofs.Imports.{Beat, BeatA, BeatD, OpD, Message, beat_of, begun, d_beat_of, History, channel_of}
 use Rattle.tl_concord.proofs.Imports.{unfinished, Config, on_link, sourced, is_access_answer, Acquire, Answer, Grant}
-use Rattle.tl_concord.proofs.Imports.{GrantAck, Kind, Probe, ProbeAck, Release, ReleaseAck, Request, SourceState, is_on}
+use Rattle.tl_concord.proofs.Imports.{Kind, ReleaseAck, Request, SourceState, is_on}
 use Rattle.tl_concord.proofs.Imports.{packet, AbstractState, IsOpened, block_message, message_of, message_of_kind}
 use Rattle.tl_concord.proofs.Imports.{MonitorRelations, SimulationRelation, is_caching, trace_of, IsGiven, Log}
 use Rattle.tl_concord.proofs.Imports.{system_after, Requests, one_memory_after, each-taken, trace-flows, flowed}
@@ -18,7 +18,7 @@ use Rattle.tl_manager.specs.statement.Handing.{access_answer}
 use Rattle.tl_coherence.specs.{protocol.Invariant.is_asked, refinement.MemoryRelation.Answers}
 use Rattle.tl_coherence.specs.{refinement.MemoryRelation.IsAccess, refinement.PacketMessages.acquire_of}
 use Rattle.tl_coherence.specs.{statement.Machine.Machine}
-use Rattle.tl_coherence.specs.protocol.Phase.{AcquireOpen, AcquirePhase, NoAcquire}
+use Rattle.tl_coherence.specs.protocol.Phase.{AcquireOpen, AcquirePhase}
 use Rattle.tl_coherence.proofs.{deliveries.Matching.shadow, flow.Windowed.grants_no_access}
 use Rattle.tl_coherence.proofs.{protocol.BothParts.is_asked-is}
 use Rattle.tl_concord.proofs.Beats.{same_a, same_d}

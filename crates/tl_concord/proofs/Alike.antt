@@ -1,6 +1,6 @@
 -- On the links of a world is held what may be held at most, so that a block is as free as by what is held.
-use Rattle.tl_concord.proofs.Imports.{History, Config, Perm, on_link, held, leaves, trace_of, Log, IsGiven}
-use Rattle.std.proofs.Common.{◌≡◌, ◌≤◌, ◌<◌, ℕ, zero, suc, Bool, true, false, ◌&&◌, List, [], ◌∷◌, length, refl, sym, ap}
+use Rattle.tl_concord.proofs.Imports.{Config, Perm, on_link, held, trace_of, Log, IsGiven}
+use Rattle.std.proofs.Common.{◌≡◌, ◌≤◌, ◌<◌, ℕ, zero, suc, List, [], ◌∷◌, length, refl, sym}
 use Rattle.std.proofs.Common.{◌∙◌, arith}
 use Rattle.std.specs.Prelude.{None}
 use Rattle.std.proofs.lemmas.List.{length-map}
@@ -32,7 +32,7 @@ pub held-alike : {w : ℕ} (levels : List Level) (p : Profile) (c block : ℕ) (
     → KeepRules (liberties_of p) levels t → c < length levels
     → may_hold block (on_link c t) ≡ held block (on_link c t)
 held-alike levels p c block t kept lt =
-    sym (most levels (liberties_of p) c block t refl kept lt) ∙ held-of p block (on_link c t)
+    sym (most levels (liberties_of p) c block t kept lt) ∙ held-of p block (on_link c t)
 
 pub free-alike : {w : ℕ} (levels : List Level) (p : Profile) (n : ℕ) (given : Perm) (block : ℕ) (t : Trace w)
     → KeepRules (liberties_of p) levels t → n ≤ length levels

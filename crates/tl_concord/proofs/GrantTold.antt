@@ -1,7 +1,7 @@
 -- What a Grant says of a block: who had nothing of it gets the bytes of the one memory, or writes them all.
 use Rattle.tl_concord.proofs.Imports.{Beat, BeatD, OpD, Message, beat_of, begun, d_beat_of, History, unfinished, Config}
 use Rattle.tl_concord.proofs.Imports.{Perm, same_perm, Memory, ends, grants, held, request_of, says_held, carried_byte}
-use Rattle.tl_concord.proofs.Imports.{could_be, tells, is_access_answer, Acquire, Answer, Grant, GrantAck, Kind, Probe}
+use Rattle.tl_concord.proofs.Imports.{could_be, tells_late, is_access_answer, Acquire, Answer, Grant, GrantAck, Kind, Probe}
 use Rattle.tl_concord.proofs.Imports.{ProbeAck, Release, ReleaseAck, Request, Acquires, is_on, packet, AbstractState}
 use Rattle.tl_concord.proofs.Imports.{block_message, message_of, message_of_kind, MonitorRelations, SimulationRelation}
 use Rattle.tl_concord.proofs.Imports.{is_caching, flow, IsGiven, Log, system_after, one_memory_after, flowed}
@@ -154,7 +154,7 @@ module _ {w : ℕ} (config : Config) (log : Log w) (given : IsGiven config log) 
   pub grant-told : (block : ℕ) → IsToldBy memory block (Beat.D y) past
   grant-told block = record { told = told; untold = untold }
     where
-      told : tells block (Beat.D y) past ≡ true → (place : ℕ) → place < 64
+      told : tells_late block (Beat.D y) past ≡ true → (place : ℕ) → place < 64
           → could_be (memory (64 * block + place)) (carried_byte (Beat.D y ∷ unfinished Channel.D past) place) ≡ true
       told e place lt =
           rw (whole, is.beside.memory block place lt)
@@ -172,7 +172,7 @@ module _ {w : ℕ} (config : Config) (log : Log w) (given : IsGiven config log) 
               burst.rest_is
 
       untold : (p : Perm) → ends (Beat.D y) past ≡ true → says_held block (Beat.D y) past ≡ Some p
-          → tells block (Beat.D y) past ≡ false
+          → tells_late block (Beat.D y) past ≡ false
           → (held block past ≡ Perm.None → p ≡ Perm.None) × (same_perm (held block past) Perm.Trunk ≡ false)
       untold p last said e = go burst.due.data_too burst.due.whole refl refl
         where

@@ -9,6 +9,7 @@ pub use Rattle.tl_burst.specs.statement.Messages.{History, channel_of}
 unfoldable pub use Rattle.tl_burst.specs.statement.Messages.{unfinished}
 pub use Rattle.tl_bytes.specs.statement.Bytes.{could_be, tells}
 unfoldable pub use Rattle.tl_bytes.specs.statement.Bytes.{carried_byte}
+pub use Rattle.tl_bytes.proofs.LateAnswers.{tells_late}
 pub use Rattle.tl_client.specs.statement.Send.{sourced}
 pub use Rattle.tl_coherence.proofs.flow.FlowTaken.{each-taken}
 pub use Rattle.tl_coherence.proofs.flow.FlowTraces.{trace-flows}

@@ -10,4 +10,5 @@ pub mod Responses
 pub mod Told
 pub mod WholeStores
 pub mod WritesBeside
+pub mod Late
 pub mod Imports

@@ -8,13 +8,13 @@ use Rattle.std.proofs.Common.{◌∙◌, ap, inl, inr}
 use Rattle.std.specs.Prelude.{if◌then◌else◌, Option, Some, None, is_some, unwrap_or, ◌==◌}
 use Rattle.std.proofs.lemmas.Bool.{and_from, cases_eq, eq-eqb}
 use Rattle.tl_beat.{specs.declared.channel.Channel.Channel, specs.declared.opcode.OpA.OpA}
-use Rattle.tl_params.specs.declared.key.Key.TheVariants.{RequestSource}
+use Rattle.tl_params.specs.declared.key.Key.TheVariants.{GrantAckOf, RequestSource}
 use Rattle.tl_rules.{specs.code.Open.open_request, specs.code.Open.request_fields, specs.declared.past.Request.Request}
 use Rattle.tl_rules.{specs.statement.Windows.has_window, specs.statement.Windows.needs}
 use Rattle.tl_bytes.specs.statement.Shown.{had_window, shows}
 use Rattle.tl_rules.specs.statement.Conformance.{Trace, comes_in_request, same_perm}
 use Rattle.tl_rules.specs.statement.History.{begins, capped, is_grant, pending}
-use Rattle.tl_bytes.specs.statement.Free.{all_but_early, may_hold}
+use Rattle.tl_bytes.specs.statement.Free.{all_liberties, may_hold}
 use Rattle.tl_concord.proofs.Alike.{free-alike, held-alike, kept-world, links-few}
 use Rattle.tl_memory.specs.statement.Links.{KeepRules}
 use Rattle.tl_monitor.specs.statement.Granting.{coming, given_by, granted_under}
@@ -64,7 +64,7 @@ unfolding is_free is_grantable
 grantable levels p zero link given block t kept le free none = refl
 grantable {w} levels p (suc n) link given block t kept le free none =
     and_from (is_grantable n link given block t) ((link == n) || leaves given
-    (granted_under all_but_early block (on_link n t)))
+    (granted_under all_liberties block (on_link n t)))
     (grantable levels p n link given block t kept (omega (arith, le)) (and_left (is_free n (Some link) given block t) _ free) none)
     (elim (cases_eq n link) [
       | inl own ↦ rw (eq-eqb link n (sym own)) refl
@@ -76,11 +76,22 @@ grantable {w} levels p (suc n) link given block t kept le free none =
     ])
 
 -- what is being granted of a block that no unfinished Grant is of
-nothing-coming : {w : ℕ} (block : ℕ) (past : History w) (beats : List (Beat w))
-    → ((x : BeatD w) (older : List (Beat w)) → beats ≡ Beat.D x ∷ older → grants block x past ≡ false)
-    → given_by block beats past ≡ None
-nothing-coming block past (Beat.D x ∷ older) off = rw (off x older refl) refl
-nothing-coming block past v off = refl
+nothing-coming : {w : ℕ} (block : ℕ) (past : History w)
+    → ((x : BeatD w) (older : List (Beat w)) → unfinished Channel.D past ≡ Beat.D x ∷ older
+    → grants block x past ≡ false)
+    → coming block past ≡ None
+nothing-coming {w} block past off = go (pending (GrantAckOf block) past) (nothing (unfinished Channel.D past) off)
+  where
+    nothing : (beats : List (Beat w))
+        → ((x : BeatD w) (older : List (Beat w)) → beats ≡ Beat.D x ∷ older → grants block x past ≡ false)
+        → given_by block beats past ≡ None
+    nothing (Beat.D x ∷ older) none = rw (none x older refl) refl
+    nothing v none = refl
+
+    go : (b : Bool) → given_by block (unfinished Channel.D past) past ≡ None
+        → (if b then given_by block (unfinished Channel.D past) past else None) ≡ None
+    go true e = e
+    go false e = refl
 
 -- where its block was free, an access could be performed
 window-had : {w : ℕ} (levels : List Level) (p : Profile) (n link source : ℕ) (given : Perm) (block : ℕ) (t : Trace w)
@@ -118,7 +129,7 @@ module _ {w : ℕ} (levels : List Level) (p : Profile) (n link : ℕ) (y : BeatD
   grant-quiet alone response grant (Some r) e =
       ap (λ (b : Bool). if b then None else Some M1)
       (grantable levels p n link (capped y.param) r.block t kept le (alone n r.block begun of_block)
-      (λ other apart. nothing-coming r.block (on_link other t) (unfinished Channel.D (on_link other t))
+      (λ other apart. nothing-coming r.block (on_link other t)
       (λ x older e. not_true (grants r.block x (on_link other t))
       (λ of_other. apart (response.alone r.block of_block other x older e of_other)))))
     where

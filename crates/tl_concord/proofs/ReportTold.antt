@@ -1,7 +1,7 @@
 -- What a ProbeAck or a Release says of a block: Trunk is given up with the bytes of the one memory.
 use Rattle.tl_concord.proofs.Imports.{Beat, Message, beat_of, begun, History, channel_of, unfinished, Config, Perm}
 use Rattle.tl_concord.proofs.Imports.{on_link, same_perm, Memory, block_at, ends, held, says_held, carried_byte}
-use Rattle.tl_concord.proofs.Imports.{could_be, tells, ProbeAck, Release, Block, packet, view, AbstractState}
+use Rattle.tl_concord.proofs.Imports.{could_be, tells_late, ProbeAck, Release, Block, packet, view, AbstractState}
 use Rattle.tl_concord.proofs.Imports.{block_message, message_of, MonitorRelations, SimulationRelation, is_caching, flow}
 use Rattle.tl_concord.proofs.Imports.{IsGiven, Log, system_after, one_memory_after, flowed, matched-given, IsNext}
 use Rattle.tl_concord.proofs.Imports.{first-token, and_left, and_right, holds-first}
@@ -16,7 +16,7 @@ use Rattle.tl_params.{specs.declared.param.Prune.Prune, specs.declared.param.Rep
 use Rattle.tl_params.specs.statement.Param.{prune_code, prune_left, report_code, report_left}
 use Rattle.tl_rules.specs.statement.History.{is_probe_ack, is_release, reported}
 use Rattle.tl_coherence.specs.{protocol.Packet.Packet, protocol.Tokens.is_granting, protocol.Tokens.shown}
-use Rattle.tl_coherence.specs.protocol.Phase.{Granting, Idle, Own, Other, Acknowledging, GrantedOther, ProbeAnswered}
+use Rattle.tl_coherence.specs.protocol.Phase.{Granting, Other, ProbeAnswered}
 use Rattle.tl_coherence.specs.protocol.Phase.{ReleaseSent, View, ok, is_unprobed, is_unreleased}
 use Rattle.tl_coherence.specs.refinement.PacketMessages.{prune_told, report_told}
 use Rattle.tl_coherence.proofs.{deliveries.Matching.shadow, flow.ChannelCE.report_rendered}
@@ -31,9 +31,9 @@ use Rattle.tl_concord.{proofs.Beats.same_c, proofs.Carried.carried-begun}
 -- neither
 -- nothing, unless it stays so, nor Trunk.
 pub record IsToldBy {w : ℕ} (memory : Memory) (block : ℕ) (x : Beat w) (past : History w) : Type 0 where
-  pub told : tells block x past ≡ true → (place : ℕ) → place < 64
+  pub told : tells_late block x past ≡ true → (place : ℕ) → place < 64
       → could_be (memory (64 * block + place)) (carried_byte (x ∷ unfinished (channel_of x) past) place) ≡ true
-  pub untold : (p : Perm) → ends x past ≡ true → says_held block x past ≡ Some p → tells block x past ≡ false
+  pub untold : (p : Perm) → ends x past ≡ true → says_held block x past ≡ Some p → tells_late block x past ≡ false
       → (held block past ≡ Perm.None → p ≡ Perm.None) × (same_perm (held block past) Perm.Trunk ≡ false)
 
 report_none : (r : Report) → report_left r ≡ Perm.None → reported (report_code r) ≡ Perm.None
@@ -94,7 +94,7 @@ module _ {w : ℕ} (config : Config) (log : Log w) (given : IsGiven config log) 
       burst = ap (λ (r : List (Beat w)). Beat.C y ∷ r) ((values c).rest_is Channel.C ∙ rest_is)
           ∙ ap (λ (z : Beat w). z ∷ begun (Message.C m) k) beat_is
 
-      told : tells block (Beat.C y) past ≡ true → (place : ℕ) → place < 64
+      told : tells_late block (Beat.C y) past ≡ true → (place : ℕ) → place < 64
           → could_be (memory (64 * block + place)) (carried_byte (Beat.C y ∷ unfinished Channel.C past) place) ≡ true
       told e place lt =
           rw (burst, ← here, is.beside.memory n place lt, ← says.payload_is (sym carries ∙ with_data))
@@ -111,7 +111,7 @@ module _ {w : ℕ} (config : Config) (log : Log w) (given : IsGiven config log) 
               (and_right (c_carries_data y.opcode) (block_at y.address == block) parts)
 
       untold : (p : Perm) → ends (Beat.C y) past ≡ true → says_held block (Beat.C y) past ≡ Some p
-          → tells block (Beat.C y) past ≡ false
+          → tells_late block (Beat.C y) past ≡ false
           → (held block past ≡ Perm.None → p ≡ Perm.None) × (same_perm (held block past) Perm.Trunk ≡ false)
       untold p last said e = (
         λ none. said_it.1 ∙ ap (λ (z : BeatC w). reported z.param) same ∙ ap reported says.param_is

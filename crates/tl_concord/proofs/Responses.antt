@@ -22,7 +22,7 @@ use Rattle.tl_beat.specs.declared.channel.Channel.{Channel}
 use Rattle.tl_burst.specs.statement.Burst.{a_beat_of}
 use Rattle.tl_params.{specs.declared.param.Cap.Cap, specs.declared.param.Grow.Grow, specs.statement.Param.cap_right}
 use Rattle.tl_rules.specs.statement.History.{is_grant, is_release_ack}
-use Rattle.tl_coherence.specs.protocol.Phase.{AcquireOpen, cap_fits, grow_fits, AcquirePhase, NoAcquire, Granting}
+use Rattle.tl_coherence.specs.protocol.Phase.{AcquireOpen, cap_fits, grow_fits, AcquirePhase, Granting}
 use Rattle.tl_coherence.specs.protocol.Protocol.{GrantSent, packets_on, Asked, Replied}
 use Rattle.tl_coherence.specs.protocol.Tokens.{is_unserved, is_wanting, shown}
 use Rattle.tl_concord.{proofs.Beats.same_a, proofs.Beats.same_d, proofs.GrantAsked.grant-block}

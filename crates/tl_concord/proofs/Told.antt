@@ -1,6 +1,10 @@
 -- Each beat that is delivered tells of the one memory.
 use Rattle.tl_concord.proofs.Imports.{Beat, History, channel_of, unfinished, Config, Perm, on_link, same_perm, Memory}
 use Rattle.tl_concord.proofs.Imports.{block_at, ends, held, says_held, is_free, leaves, carried_byte, could_be, tells}
+use Rattle.tl_concord.proofs.Imports.{tells_late}
+use Rattle.tl_concord.proofs.Late.{each-kept, telling-late, tells-kept}
+use Rattle.tl_coherence.specs.statement.Delivery.{levels_of}
+use Rattle.tl_params.specs.statement.Liberties.{liberties_of}
 use Rattle.tl_concord.proofs.Imports.{flow, trace_of, IsGiven, Log, system_after, one_memory_after, each-taken}
 use Rattle.tl_concord.proofs.Imports.{trace-flows}
 use Rattle.std.proofs.Common.{◌≡◌, ℕ, zero, suc, Bool, true, false, not, ◌%◌, ◌<◌, List, ◌∷◌, Some, None, refl, sym}
@@ -27,7 +31,7 @@ free-kept (suc n) given block t t' each e =
 -- ---- one more beat
 
 module _ {w : ℕ} (memory : Memory) (link block : ℕ) (x : Beat w) (t : Trace w)
-    (is : IsToldBy memory block x (on_link link t)) (untold : tells block x (on_link link t) ≡ false) where
+    (is : IsToldBy memory block x (on_link link t)) (untold : tells_late block x (on_link link t) ≡ false) where
   abbrev past : History w
   past = on_link link t
 
@@ -93,38 +97,48 @@ in-block : (address : ℕ) → address % 64 < 64
 in-block address = omega arith
 
 told-of : {w : ℕ} (memory : Memory) (link : ℕ) (x : Beat w) (t : Trace w)
+    → ((block : ℕ) → tells block x (on_link link t) ≡ tells_late block x (on_link link t))
     → ((block : ℕ) → IsToldBy memory block x (on_link link t)) → IsToldOf memory link x t
-told-of {w} memory link x t is = record {
-  told = λ address e. subst
+told-of {w} memory link x t late is = record {
+  told = λ address e.
+      let told = sym (late (block_at address)) ∙ e in
+      rw (telling-late (block_at address) x (on_link link t) told)
+      (subst
       (λ (i : ℕ). could_be (memory i) (carried_byte (x ∷ unfinished (channel_of x) (on_link link t)) (address % 64))
-      ≡ true) (div-add-mod address 64) ((is (block_at address)).told e (address % 64) (in-block address));
+      ≡ true) (div-add-mod address 64) ((is (block_at address)).told told (address % 64) (in-block address)));
   got_told = λ n block free closed. always (tells block x (on_link link t)) (λ untold.
       let no : false ≡ true = sym closed ∙ free-kept n Perm.Trunk block t ((record { 0 = link }, x) ∷ t)
-      (still_none memory link block x t (is block) untold) free in cc);
+      (still_none memory link block x t (is block) (sym (late block) ∙ untold)) free in cc);
   given_up_told = λ n block held free. always (tells block x (on_link link t)) (λ untold.
       let no : false ≡ true = sym held ∙ free-kept n Perm.Branch block ((record { 0 = link }, x) ∷ t) t
-      (wasnt_trunk memory link block x t (is block) untold) free in cc);
+      (wasnt_trunk memory link block x t (is block) (sym (late block) ∙ untold)) free in cc);
 }
   where
     always : (b : Bool) → (b ≡ false → ⊥) → b ≡ true
     always true e = refl
     always false e = absurd (e refl)
 
+-- what a delivered beat tells of each block
+abbrev ToldMoved : {w : ℕ} → Config → Log w → ℕ → Beat w → Type 0
+ToldMoved config log c x =
+    (block : ℕ) → IsToldBy (one_memory_after config log).memory block x (on_link c (trace_of log))
+
 told-moved : {w : ℕ} (config : Config) (log : Log w) → IsGiven config log → (c : ℕ) (x : Beat w) (queue : List (Beat w))
-    → (system_after config log).channels c (channel_of x) ≡ x ∷ queue
-    → IsToldOf (one_memory_after config log).memory c x (trace_of log)
-told-moved {w} config log given c x queue beats = told-of (one_memory_after config log).memory c x (trace_of log)
-    (λ block. subst (λ (past : History w). IsToldBy (one_memory_after config log).memory block x past)
-    (sym (trace-flows c log)) (by x beats block))
+    → (system_after config log).channels c (channel_of x) ≡ x ∷ queue → ToldMoved config log c x
+told-moved {w} config log given c x queue beats block =
+    subst (λ (past : History w). IsToldBy (one_memory_after config log).memory block x past)
+    (sym (trace-flows c log)) (by x beats)
   where
-    by : (x : Beat w) → (system_after config log).channels c (channel_of x) ≡ x ∷ queue → (block : ℕ)
+    by : (x : Beat w) → (system_after config log).channels c (channel_of x) ≡ x ∷ queue
         → IsToldBy (one_memory_after config log).memory block x (flow c log)
-    by (Beat.C y) beats block = report-told config log given c y queue beats block
-    by (Beat.D y) beats block = grant-told config log given c y queue beats block
-    by v beats block = record { told = λ e. absurd cc; untold = λ p last said e. absurd cc }
+    by (Beat.C y) beats = report-told config log given c y queue beats block
+    by (Beat.D y) beats = grant-told config log given c y queue beats block
+    by v beats = record { told = λ e. absurd cc; untold = λ p last said e. absurd cc }
 
 pub tells_of_memory : {w : ℕ} → TellsOfMemory w
 tells_of_memory config log given =
-    each-taken config
+    each-kept config (ToldMoved config)
     (λ earlier link x. IsToldOf (one_memory_after config earlier).memory link x (trace_of earlier))
-    (told-moved config) log given
+    (λ earlier link x kept is. told-of (one_memory_after config earlier).memory link.0 x (trace_of earlier)
+    (tells-kept (levels_of config) (liberties_of config.profile) (link, x) (trace_of earlier) refl kept) is)
+    log given (each-taken config (ToldMoved config) (told-moved config) log given)

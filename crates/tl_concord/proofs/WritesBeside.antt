@@ -8,7 +8,7 @@ use Rattle.tl_beat.specs.declared.channel.Channel.{Channel}
 use Rattle.tl_burst.specs.declared.message.MessageA.{MessageA}
 use Rattle.tl_rules.{specs.statement.Effect.AccessResult, specs.statement.Windows.needs}
 use Rattle.tl_client.specs.declared.operation.Op.{Op}
-use Rattle.tl_coherence.specs.protocol.Protocol.{Asked, InService, Replied, SourceFree, State}
+use Rattle.tl_coherence.specs.protocol.Protocol.{Replied, SourceFree, State}
 use Rattle.tl_coherence.specs.{refinement.PacketMessages.AccessMessages, statement.Machine.Open}
 use Rattle.tl_coherence.proofs.{bound.Settling.given-before, deliveries.Matching.shadow, flow.Renewed.IsSettledFor}
 use Rattle.tl_coherence.proofs.{flow.Windowed.renewed-followed, memory.BesideTaken.same_message}

@@ -15,7 +15,8 @@ use Rattle.tl_rules.specs.statement.Admission.{bytes_carried, lanes_of}
 use Rattle.tl_rules.specs.statement.Effect.{bytes_from, number_from}
 use Rattle.tl_rules.specs.statement.History.{request_of}
 use Rattle.tl_rules.specs.statement.Liberties.{held_under}
-use Rattle.tl_bytes.specs.statement.Free.{all_but_early}
+use Rattle.tl_bytes.specs.statement.Free.{all_liberties}
+use Rattle.tl_bytes.specs.statement.Early.{outrun_accesses}
 use Rattle.tl_bytes.specs.statement.Bytes.{carried_mask, each_from, is_put, is_true, may_read, window_began}
 use Rattle.tl_bytes.proofs.WorkedBeats.{done, eight, found, get, put}
 use Rattle.tl_one_memory.specs.statement.Run.{GoesOn, everywhere}
@@ -26,7 +27,7 @@ use Rattle.tl_one_memory.proofs.Worked.{pending_of, plain, response, takes, writ
 -- ---- the run, from its first beat on
 
 -- a beat of a Put of 16 nines
-abbrev nines : Link × Beat 8
+abbrev pub nines : Link × Beat 8
 nines = put 0 0 4 (eight 9) 255
 
 -- the bytes of its first beat, and those of its second
@@ -36,7 +37,7 @@ first_half address = nat_lt address 8
 abbrev second_half : ℕ → Bool
 second_half address = nat_le 8 address
 
-abbrev begun : Run 8
+abbrev pub begun : Run 8
 begun = takes nines ∷ written
 
 abbrev half_written : Run 8
@@ -98,18 +99,16 @@ half-asked link x y run put low same long begun_so unwritten =
 
 -- ---- what happens
 
-begun-taken : IsTaken 2 zeros (at-link 0) nines.1 written
-unfolding trace_in found_in memory_in on_link unfinished pending_accesses held_under all_but_early request_of is_free
-    carried_byte
-    carried_mask bytes_carried effect bytes_from number_from
-begun-taken = plain (at-link 0) nines.1 written refl (asks-as (at-link 0) _ written (λ address. inl refl))
+pub begun-taken : IsTaken 2 zeros (at-link 0) nines.1 written
+unfolding trace_in found_in memory_in on_link unfinished pending_accesses outrun_accesses held_under all_liberties
+    request_of is_free carried_byte carried_mask bytes_carried effect bytes_from number_from
+begun-taken = plain (at-link 0) nines.1 written refl (λ z e. absurd cc) (asks-as (at-link 0) _ written (λ address. inl refl))
     (λ z access e. absurd cc)
-    (λ z e. absurd cc) (λ block. refl) (λ block. refl) (λ block. refl)
+    (λ z e. absurd cc) (λ block. refl) (λ block. refl)
 
 half-performed : IsPerformed 2 zeros 0 0 first_half begun
-unfolding trace_in found_in memory_in on_link unfinished pending_accesses held_under all_but_early request_of is_free
-    carried_byte
-    carried_mask bytes_carried effect bytes_from number_from
+unfolding trace_in found_in memory_in on_link unfinished pending_accesses outrun_accesses held_under all_liberties
+    request_of is_free carried_byte carried_mask bytes_carried effect bytes_from number_from
 half-performed = record {
   access = _;
   pending = refl;
@@ -120,16 +119,14 @@ half-performed = record {
 }
 
 get-taken : IsTaken 2 zeros (at-link 1) (get 1 0 3 255).1 half_written
-unfolding trace_in found_in memory_in on_link unfinished pending_accesses held_under all_but_early request_of is_free
-    carried_byte
-    carried_mask bytes_carried effect bytes_from number_from
-get-taken = plain (at-link 1) (get 1 0 3 255).1 half_written refl (λ z address e. inl refl) (λ z access e. absurd cc)
-    (λ z e. absurd cc) (λ block. refl) (λ block. refl) (λ block. refl)
+unfolding trace_in found_in memory_in on_link unfinished pending_accesses outrun_accesses held_under all_liberties
+    request_of is_free carried_byte carried_mask bytes_carried effect bytes_from number_from
+get-taken = plain (at-link 1) (get 1 0 3 255).1 half_written refl (λ z e. absurd cc) (λ z address e. inl refl) (λ z access e. absurd cc)
+    (λ z e. absurd cc) (λ block. refl) (λ block. refl)
 
 get-performed : IsPerformed 2 zeros 1 0 everywhere wanted
-unfolding trace_in found_in memory_in on_link unfinished pending_accesses held_under all_but_early request_of is_free
-    carried_byte
-    carried_mask bytes_carried effect bytes_from number_from
+unfolding trace_in found_in memory_in on_link unfinished pending_accesses outrun_accesses held_under all_liberties
+    request_of is_free carried_byte carried_mask bytes_carried effect bytes_from number_from
 get-performed = record {
   access = _;
   pending = refl;
@@ -143,16 +140,15 @@ get-performed = record {
 nines-found : (address : ℕ) → reaches 0 3 address ≡ true
     → carried_byte {w = 8} ((found 1 0 3 (eight 9)).1 ∷ []) (address - 8 * (0 / 8)) ≡ Some
     (memory_in zeros wanted address)
-unfolding trace_in found_in memory_in on_link unfinished pending_accesses held_under all_but_early request_of is_free
-    carried_byte
-    carried_mask bytes_carried effect bytes_from number_from
+unfolding trace_in found_in memory_in on_link unfinished pending_accesses outrun_accesses held_under all_liberties
+    request_of is_free carried_byte carried_mask bytes_carried effect bytes_from number_from
 nines-found address reached = each-eight (λ k. carried_byte {w = 8} ((found 1 0 3 (eight 9)).1 ∷ []) (k - 8 * (0 / 8))
     ≡ Some (memory_in zeros wanted k)) refl refl refl refl refl refl refl refl address reached
 
 get-answered : (z : BeatD 8) (access : Access 8)
     → IsAnswer zeros 1 (response (found 1 0 3 (eight 9)).1 z) (pending_of 1 0 looked access) looked
-unfolding trace_in found_in memory_in on_link unfinished pending_accesses held_under all_but_early request_of is_free
-    carried_mask bytes_carried effect bytes_from number_from
+unfolding trace_in found_in memory_in on_link unfinished pending_accesses outrun_accesses held_under all_liberties
+    request_of is_free carried_mask bytes_carried effect bytes_from number_from
 get-answered z access = record {
   written = λ address writing. refl;
   admitted = refl;
@@ -163,34 +159,30 @@ get-answered z access = record {
 }
 
 found-taken : IsTaken 2 zeros (at-link 1) (found 1 0 3 (eight 9)).1 looked
-unfolding trace_in found_in memory_in on_link unfinished pending_accesses held_under all_but_early request_of is_free
-    carried_byte
-    carried_mask bytes_carried effect bytes_from number_from
-found-taken = plain (at-link 1) (found 1 0 3 (eight 9)).1 looked refl (λ z address e. absurd cc)
+unfolding trace_in found_in memory_in on_link unfinished pending_accesses outrun_accesses held_under all_liberties
+    request_of is_free carried_byte carried_mask bytes_carried effect bytes_from number_from
+found-taken = plain (at-link 1) (found 1 0 3 (eight 9)).1 looked refl (λ z e. refl) (λ z address e. absurd cc)
     (λ z access e granted pending. answers-one zeros 1 (response (found 1 0 3 (eight 9)).1 z)
     (pending_of 1 0 looked access) looked
     refl (get-answered z access) z access e pending)
-    (λ z e grant. cc) (λ block. refl) (λ block. refl) (λ block. refl)
+    (λ z e grant. cc) (λ block. refl) (λ block. refl)
 
 -- the second beat of the Put asks for the bytes that weren't written yet
 unwritten : (address : ℕ) → nat_lt address 8 ≡ false → found_in zeros 0 0 read address ≡ None
-unfolding trace_in found_in memory_in on_link unfinished pending_accesses held_under all_but_early request_of is_free
-    carried_byte
-    carried_mask bytes_carried effect bytes_from number_from
+unfolding trace_in found_in memory_in on_link unfinished pending_accesses outrun_accesses held_under all_liberties
+    request_of is_free carried_byte carried_mask bytes_carried effect bytes_from number_from
 unwritten address f = rw f refl
 
 more-taken : IsTaken 2 zeros (at-link 0) nines.1 read
-unfolding trace_in found_in memory_in on_link unfinished pending_accesses held_under all_but_early request_of is_free
-    carried_byte
-    carried_mask bytes_carried effect bytes_from number_from
-more-taken = plain (at-link 0) nines.1 read refl (half-asked (at-link 0) _ _ read refl refl refl refl refl unwritten)
+unfolding trace_in found_in memory_in on_link unfinished pending_accesses outrun_accesses held_under all_liberties
+    request_of is_free carried_byte carried_mask bytes_carried effect bytes_from number_from
+more-taken = plain (at-link 0) nines.1 read refl (λ z e. absurd cc) (half-asked (at-link 0) _ _ read refl refl refl refl refl unwritten)
     (λ z access e. absurd cc)
-    (λ z e. absurd cc) (λ block. refl) (λ block. refl) (λ block. refl)
+    (λ z e. absurd cc) (λ block. refl) (λ block. refl)
 
 rest-performed : IsPerformed 2 zeros 0 0 second_half whole
-unfolding trace_in found_in memory_in on_link unfinished pending_accesses held_under all_but_early request_of is_free
-    carried_byte
-    carried_mask bytes_carried effect bytes_from number_from
+unfolding trace_in found_in memory_in on_link unfinished pending_accesses outrun_accesses held_under all_liberties
+    request_of is_free carried_byte carried_mask bytes_carried effect bytes_from number_from
 rest-performed = record {
   access = _;
   pending = refl;
@@ -202,9 +194,8 @@ rest-performed = record {
 
 -- each byte was written with its beat
 each-written : (address : ℕ) → is_some (found_in zeros 0 0 all_written address) ≡ true
-unfolding trace_in found_in memory_in on_link unfinished pending_accesses held_under all_but_early request_of is_free
-    carried_byte
-    carried_mask bytes_carried effect bytes_from number_from
+unfolding trace_in found_in memory_in on_link unfinished pending_accesses outrun_accesses held_under all_liberties
+    request_of is_free carried_byte carried_mask bytes_carried effect bytes_from number_from
 each-written address = elim (cases_lt address 8) [
   | inl first ↦ rw (lt-leb 8 address first, lt-ltb address 8 first) refl
   | inr second ↦ rw (le-leb 8 address second) refl
@@ -212,8 +203,8 @@ each-written address = elim (cases_lt address 8) [
 
 put-answered : (z : BeatD 8) (access : Access 8)
     → IsAnswer zeros 0 (response (done 0 0 4).1 z) (pending_of 0 0 all_written access) all_written
-unfolding trace_in found_in memory_in on_link unfinished pending_accesses held_under all_but_early request_of is_free
-    carried_mask bytes_carried effect bytes_from number_from
+unfolding trace_in found_in memory_in on_link unfinished pending_accesses outrun_accesses held_under all_liberties
+    request_of is_free carried_mask bytes_carried effect bytes_from number_from
 put-answered z access = record {
   written = λ address writing. each-written address;
   admitted = refl;
@@ -223,13 +214,12 @@ put-answered z access = record {
 }
 
 done-taken : IsTaken 2 zeros (at-link 0) (done 0 0 4).1 all_written
-unfolding trace_in found_in memory_in on_link unfinished pending_accesses held_under all_but_early request_of is_free
-    carried_byte
-    carried_mask bytes_carried effect bytes_from number_from
-done-taken = plain (at-link 0) (done 0 0 4).1 all_written refl (λ z address e. absurd cc)
+unfolding trace_in found_in memory_in on_link unfinished pending_accesses outrun_accesses held_under all_liberties
+    request_of is_free carried_byte carried_mask bytes_carried effect bytes_from number_from
+done-taken = plain (at-link 0) (done 0 0 4).1 all_written refl (λ z e. refl) (λ z address e. absurd cc)
     (λ z access e granted pending. answers-one zeros 0 (response (done 0 0 4).1 z) (pending_of 0 0 all_written access)
     all_written
-    refl (put-answered z access) z access e pending) (λ z e grant. cc) (λ block. refl) (λ block. refl) (λ block. refl)
+    refl (put-answered z access) z access e pending) (λ z e grant. cc) (λ block. refl) (λ block. refl)
 
 writes_as_beats_come : IsRun 2 zeros answered
 unfolding IsRun
@@ -247,9 +237,9 @@ writes_as_beats_come = (
 -- what was read is true by M3
 and_keeps_m3 : (z : BeatD 8) → is_true OpD.AccessAckData 2 1 (response (found 1 0 3 (eight 9)).1 z) (trace_in looked)
     ≡ true
-unfolding trace_in on_link unfinished pending_accesses held_under all_but_early request_of is_free carried_byte
-    carried_mask
-    bytes_carried effect bytes_from may_be may_read each_from windows_since window_began before_last
+unfolding trace_in on_link unfinished pending_accesses outrun_accesses held_under all_liberties request_of is_free
+    carried_byte carried_mask bytes_carried effect bytes_from may_be may_read each_from windows_since window_began
+    before_last
 and_keeps_m3 z = refl
 
 -- ---- a Get of two beats, after 16 sevens were written, and the first beat of a Put of nines has come
@@ -260,12 +250,12 @@ half_read = found 1 0 4 (eight 9) ∷ get 1 0 4 255 ∷ nines ∷ done 0 0 4 ∷
 
 each_beat_may_be_read_by_itself : (z : BeatD 8)
     → is_true OpD.AccessAckData 2 1 (response (found 1 0 4 (eight 7)).1 z) half_read ≡ true
-unfolding on_link unfinished pending_accesses held_under all_but_early request_of is_free carried_byte carried_mask
-    bytes_carried effect bytes_from may_be may_read each_from windows_since window_began before_last
+unfolding on_link unfinished pending_accesses outrun_accesses held_under all_liberties request_of is_free carried_byte
+    carried_mask bytes_carried effect bytes_from may_be may_read each_from windows_since window_began before_last
 each_beat_may_be_read_by_itself z = refl
 
 but_not_before_it_came : (z : BeatD 8)
     → is_true OpD.AccessAckData 2 1 (response (found 1 0 4 (eight 9)).1 z) half_read ≡ false
-unfolding on_link unfinished pending_accesses held_under all_but_early request_of is_free carried_byte carried_mask
-    bytes_carried effect bytes_from may_be may_read each_from windows_since window_began before_last
+unfolding on_link unfinished pending_accesses outrun_accesses held_under all_liberties request_of is_free carried_byte
+    carried_mask bytes_carried effect bytes_from may_be may_read each_from windows_since window_began before_last
 but_not_before_it_came z = refl

@@ -1,7 +1,7 @@
 -- What each response brings is true.
 use Rattle.tl_one_memory.proofs.Imports.{Beat, BeatD, Link, reaches, unfinished, on_link, Memory, is_release_ack}
 use Rattle.tl_one_memory.proofs.Imports.{Access, before_last, carried_byte, is_of, pending_accesses, same-some}
-use Rattle.tl_one_memory.proofs.Imports.{IsAnswer, IsRun, IsTaken, Performs, Run, Stores, Takes, found_in, trace_in}
+use Rattle.tl_one_memory.proofs.Imports.{IsAnswer, IsRun, IsTaken, Leaves, Performs, Run, Stores, Takes, found_in, trace_in}
 use Rattle.std.proofs.Common.{◌≡◌, ℕ, suc, Bool, true, false, not, ◌||◌, ◌+◌, ◌-◌, ◌*◌, ◌/◌, ◌%◌, ◌<◌, List, [], ◌∷◌}
 use Rattle.std.proofs.Common.{◌⊎◌, inl, inr, refl, sym, ap, ◌∙◌, arith, length}
 use Rattle.std.specs.Prelude.{if◌then◌else◌, find, Option, Some, None, slice_get}
@@ -15,7 +15,8 @@ use Rattle.tl_rules.specs.statement.Conformance.{answers}
 use Rattle.tl_bytes.specs.statement.Bytes.{each_from, found_after, is_get, is_true, is_true_read, may_read}
 use Rattle.tl_bytes.specs.statement.Bytes.{reads_truly}
 use Rattle.tl_one_memory.proofs.Granted.{granted}
-use Rattle.tl_one_memory.proofs.Read.{IsFoundBefore, are-begun_read, are-read, read-next}
+use Rattle.tl_one_memory.proofs.Read.{IsFoundBefore, are-begun_read, are-read, put-unread, read-next}
+use Rattle.tl_bytes.specs.statement.Early.{outruns}
 use Rattle.tl_rules.specs.statement.Conformance.{Trace}
 use Rattle.tl_one_memory.specs.statement.Run.{IsBrought, place_in, returns, spoiled_at}
 use Rattle.tl_one_memory.specs.statement.TrueBytes.{AreTrue, IsTrueBeat, TrueBytes}
@@ -73,19 +74,20 @@ module _ {w : ℕ} (n : ℕ) (first : Memory) (link : Link) (z : BeatD w) (run :
   before o = found_after o link.0 (length older) (trace_in run)
 
   read-byte : (p : Access w) → IsAnswer first link.0 z p run → is_release_ack z.opcode ≡ false → z.denied ≡ false
+      → outruns z (on_link link.0 (trace_in run)) ≡ false
       → is_spoiled (Beat.D z) ≡ false
       → answers OpD.AccessAckData p.request.opcode ≡ true
       → find (is_of link.0 z.source) (pending_accesses (trace_in run)) ≡ Some p → (address v : ℕ)
       → reaches p.request.address p.request.size address ≡ true → place_in p address / w ≡ length older → (j : ℕ)
       → place_in p address % w ≡ j → slice_get (lanes_of (Beat.D z)) j ≡ Some v
       → may_read n p (before (Some p)) address v ≡ true
-  read-byte p answer no_ack granted sound admitted pending address v reached at j in_lane lane =
+  read-byte p answer no_ack granted late sound admitted pending address v reached at j in_lane lane =
       elim (cases_Bool (is_get p.request.opcode)) [
         | inl get ↦ rw get (ap (may_read n p (trace_in run) address) (sym value)
             ∙ are-read n first run is link.0 z.source p address here.byte here.found_is pending back reached)
         | inr other ↦ rw other (before_it (read-next n first link z p run taken is (are-begun_read n first run is)
             no_ack
-            granted pending other back address reached))
+            granted late pending other back address reached))
       ]
     where
       back : returns p.request.opcode ≡ true
@@ -123,8 +125,20 @@ module _ {w : ℕ} (n : ℕ) (first : Memory) (link : Link) (z : BeatD w) (run :
           no_ack : is_release_ack z.opcode ≡ false
           no_ack = ap is_release_ack e
 
+          -- it doesn't come before the request of a Put is complete, since it brings bytes
+          late : outruns z (on_link link.0 (trace_in run)) ≡ false
+          late = in-time (outruns z (on_link link.0 (trace_in run))) refl
+            where
+              in-time : (b : Bool) → outruns z (on_link link.0 (trace_in run)) ≡ b → b ≡ false
+              in-time false g = refl
+              in-time true g =
+                  let put = taken.outruns_put z p refl g f in
+                  let back = answered-reads p.request.opcode
+                  (ap (λ (o : OpD). answers o p.request.opcode) (sym e) ∙ put.1) in
+                  sym back ∙ put-unread p.request.opcode put.0
+
           answer : IsAnswer first link.0 z p run
-          answer = taken.answers_rightly z p refl no_ack granted f
+          answer = taken.answers_rightly z p refl no_ack granted late f
 
           each : (j v : ℕ) → slice_get (lanes_of (Beat.D z)) j ≡ Some v
               → (not (reaches p.request.address p.request.size (w * (p.request.address / w) + w * length older + j))
@@ -143,7 +157,7 @@ module _ {w : ℕ} (n : ℕ) (first : Memory) (link : Link) (z : BeatD w) (run :
               byte : (b : Bool) → reaches p.request.address p.request.size address ≡ b
                   → (not b || may_read n p (before (Some p)) address v) ≡ true
               byte false g = refl
-              byte true g = read-byte p answer no_ack granted sound
+              byte true g = read-byte p answer no_ack granted late sound
                   (ap (λ (o : OpD). answers o p.request.opcode) (sym e) ∙ answer.admitted) f address v g
                   (ap (λ (i : ℕ). i / w) place ∙ place-div w (length older) j within) j
                   (ap (λ (i : ℕ). i % w) place ∙ place-mod w (length older) j within) lane
@@ -173,6 +187,7 @@ are-true n first [] is = tt
 are-true n first (Takes link x ∷ run) is = (true-beat n first link x run is.0 is.1, are-true n first run is.1)
 are-true n first (Performs d i test left ∷ run) is = are-true n first run is.1
 are-true n first (Stores block bytes ∷ run) is = are-true n first run is.1
+are-true n first (Leaves d i bytes ∷ run) is = are-true n first run is.1
 
 pub true_bytes : {w : ℕ} → TrueBytes w
 true_bytes n first run is = are-true n first run is

@@ -1,8 +1,8 @@
 -- What a Grant brings may be granted.
 use Rattle.tl_one_memory.proofs.Imports.{Beat, BeatD, Link, unfinished, Trace, on_link, Memory, block_at, is_free}
 use Rattle.tl_one_memory.proofs.Imports.{Access, access_writes, before_last, could_be, may_be, pending_accesses}
-use Rattle.tl_one_memory.proofs.Imports.{pending_value, windows_since, among-filter, asked-by_now, IsRun, IsTaken}
-use Rattle.tl_one_memory.proofs.Imports.{Performs, Run, Stores, Takes, memory_in, trace_in}
+use Rattle.tl_one_memory.proofs.Imports.{pending_value, windows_since, among-filter, IsRun, IsTaken}
+use Rattle.tl_one_memory.proofs.Imports.{Leaves, Performs, Run, Stores, Takes, memory_in, trace_in}
 use Rattle.std.proofs.Common.{◌≡◌, ℕ, zero, suc, Bool, true, false, ◌&&◌, ◌||◌, ◌+◌, ◌*◌, ◌/◌, ◌<◌, ◌≤◌, List, [], ◌∷◌}
 use Rattle.std.proofs.Common.{inl, inr, refl, ap, ◌∙◌, arith, length}
 use Rattle.std.specs.Prelude.{if◌then◌else◌, filter, Option, Some, None, ◌==◌, nat_lt}
@@ -12,13 +12,13 @@ use Rattle.tl_burst.specs.statement.Messages.{on}
 use Rattle.tl_params.specs.declared.perm.Perm.{Perm}
 use Rattle.tl_rules.{specs.code.Open.open_request, specs.declared.past.Request.Request}
 use Rattle.tl_rules.specs.statement.{Admission.is_spoiled, Effect.bytes_from}
-use Rattle.tl_bytes.specs.statement.Bytes.{each_from, is_true_grant, may_grant, told_as, written_as}
-use Rattle.tl_one_memory.proofs.Covered.{IsToldLate, IsWrittenNow}
+use Rattle.tl_bytes.specs.statement.Early.{is_overtaken}
+use Rattle.tl_bytes.specs.statement.Bytes.{each_from, grants_truly, is_true_grant, may_grant, told_as, written_as}
+use Rattle.tl_one_memory.proofs.Covered.{AreWindowed, IsToldLate, IsWrittenNow}
 use Rattle.tl_bytes.proofs.Finding.{Among, among-found, found-among}
 use Rattle.tl_one_memory.proofs.Known.{Answers, IsDone, IsKnown, clean-free, known}
-use Rattle.tl_bytes.proofs.Pending.{IsAsked}
-use Rattle.tl_one_memory.{proofs.Spans.windowed-free, specs.statement.Run.IsGranted, specs.statement.Run.run_before}
-use Rattle.tl_one_memory.specs.statement.Run.{IsClean}
+use Rattle.tl_one_memory.proofs.Outrun.{may-leave}
+use Rattle.tl_one_memory.specs.statement.Run.{IsClean, run_before}
 
 -- ---- before the last beats of a response
 
@@ -39,6 +39,7 @@ trace-before {w} link (suc k) (Takes l x ∷ run) =
     go false e f = f
 trace-before link (suc k) (Performs d i test left ∷ run) = trace-before link (suc k) run
 trace-before link (suc k) (Stores block bytes ∷ run) = trace-before link (suc k) run
+trace-before link (suc k) (Leaves d i bytes ∷ run) = trace-before link (suc k) run
 
 pub is_run-before : {w : ℕ} (n : ℕ) (first : Memory) (link k : ℕ) (run : Run w) → IsRun n first run
     → IsRun n first (run_before link k run)
@@ -56,6 +57,7 @@ is_run-before {w} n first link (suc k) (Takes l x ∷ run) is =
     go false e f = f
 is_run-before n first link (suc k) (Performs d i test left ∷ run) is = is_run-before n first link (suc k) run is.1
 is_run-before n first link (suc k) (Stores block bytes ∷ run) is = is_run-before n first link (suc k) run is.1
+is_run-before n first link (suc k) (Leaves d i bytes ∷ run) is = is_run-before n first link (suc k) run is.1
 
 -- ---- what may be granted
 
@@ -66,10 +68,10 @@ told-as n address v done t told = found-among (IsToldLate n address v done t) (�
     (may_be n address t) (λ e each. each.0) told
 
 may-grant : {w : ℕ} (n address v : ℕ) (done : ℕ → ℕ → Type 0) (Answering : ℕ → ℕ → Access w → List (Beat w) → Type 0)
-    (t : Trace w) → IsWrittenNow n address v done Answering t
+    (t : Trace w) → AreWindowed n address done t → IsWrittenNow n address v done Answering t
     → written_as address v (filter (λ x. nat_lt 0 (windows_since n (block_at address) x.asked t)) (pending_accesses t))
     ≡ true
-may-grant {w} n address v done Answering t now =
+may-grant {w} n address v done Answering t windowed now =
     found-among Writes (λ x. access_writes address x && could_be v (pending_value x.request.opcode x address))
     (filter (λ x. nat_lt 0 (windows_since n (block_at address) x.asked t)) (pending_accesses t))
     (λ x is. and_from (access_writes address x) (could_be v (pending_value x.request.opcode x address)) is.0 is.1)
@@ -78,12 +80,9 @@ may-grant {w} n address v done Answering t now =
     (among-found Writes _ (pending_accesses t) now.access now.pending (
       now.writes,
       now.pending_is,
-      windowed-free n (block_at address) now.access.asked t asked.some asked.by_now now.free,
+      windowed now.link now.source now.access now.performed now.pending now.writes,
     )))
   where
-    asked : IsAsked now.access t
-    asked = asked-by_now now.link now.source now.access t now.pending
-
     Writes : Access w → Type 0
     Writes x = (access_writes address x ≡ true) × (could_be v (pending_value x.request.opcode x address) ≡ true)
         × (0 < windows_since n (block_at address) x.asked t)
@@ -94,9 +93,9 @@ granted-known : {w : ℕ} (n : ℕ) (first : Memory) (address : ℕ) (run : Run 
 granted-known {w} n first address run is clean = elim (is.covered clean) [
   | inl told ↦ or_left _ _ (told-as n address (memory_in first run address) (IsDone first run address) (trace_in run)
       told)
-  | inr now ↦ or_right _ _ (may-grant n address (memory_in first run address) (IsDone first run address)
-      (Answers first run)
-      (trace_in run) now)
+  | inr (inl now) ↦ or_right _ _ (or_left _ _ (may-grant n address (memory_in first run address)
+      (IsDone first run address) (Answers first run) (trace_in run) is.windowed now))
+  | inr (inr left) ↦ or_right _ _ (or_right _ _ (may-leave address (trace_in run) left))
 ]
 
 -- ---- the lanes of a beat
@@ -130,17 +129,24 @@ granted {w} n first link z run taken is granting =
         → open_request z.source (on_link link.0 (trace_in run)) ≡ o
         → is_true_grant n link.0 z o (trace_in run) ≡ true
     go sound None e = refl
-    go sound (Some asked) e =
-        rw (grant.lanes_are, ← trace-before link.0 k run)
-        (each-of (may_grant n (trace_in old)) (memory_in first old) (64 * asked.block + w * k) w
-        (λ address from to. granted-known n first address old
-        (known n first address old (is_run-before n first link.0 k run is))
-        (clean-free n first address old (is_run-before n first link.0 k run is)
-        (ap (λ (b : ℕ). is_free n Perm.Branch b (trace_in old))
-        (in-block asked.block k w address grant.within from to) ∙ grant.free))))
+    go sound (Some asked) e = doubted (is_overtaken asked.block z (on_link link.0 (trace_in run))) refl
       where
-        grant : IsGranted n first link.0 z asked.block k run
-        grant = taken.grants_rightly z asked refl granting sound e
+        sure : is_overtaken asked.block z (on_link link.0 (trace_in run)) ≡ false
+            → grants_truly n asked.block k z (before_last link.0 k (trace_in run)) ≡ true
+        sure f =
+            let grant = taken.grants_rightly z asked refl granting sound e f in
+            rw (grant.lanes_are, ← trace-before link.0 k run)
+            (each-of (may_grant n (trace_in old)) (memory_in first old) (64 * asked.block + w * k) w
+            (λ address from to. granted-known n first address old
+            (known n first address old (is_run-before n first link.0 k run is))
+            (clean-free n first address old (is_run-before n first link.0 k run is)
+            (ap (λ (b : ℕ). is_free n Perm.Branch b (trace_in old))
+            (in-block asked.block k w address grant.within from to) ∙ grant.free))))
+
+        doubted : (b : Bool) → is_overtaken asked.block z (on_link link.0 (trace_in run)) ≡ b
+            → is_true_grant n link.0 z (Some asked) (trace_in run) ≡ true
+        doubted true f = rw f refl
+        doubted false f = rw f (sure f)
 
     judged : (b : Bool) → (z.corrupt || z.denied) ≡ b
         → (b || is_true_grant n link.0 z (open_request z.source (on_link link.0 (trace_in run))) (trace_in run)) ≡ true

@@ -22,13 +22,15 @@ use Rattle.tl_burst.specs.statement.Messages.{History, burst_length}
 use Rattle.tl_rules.specs.statement.Admission.{is_spoiled, lanes_of}
 use Rattle.tl_rules.specs.statement.Effect.{after}
 use Rattle.tl_rules.specs.statement.History.{ends}
-use Rattle.tl_bytes.specs.statement.Bytes.{asked_by, asked_since, asks, found_memory, is_access, is_put, writes}
+use Rattle.tl_bytes.specs.statement.Bytes.{asked_by, asked_since, asks_new, found_memory, is_access, is_put, writes}
+use Rattle.tl_bytes.specs.statement.Early.{outrun_accesses}
 use Rattle.tl_bytes.proofs.Finding.{none-some}
 use Rattle.tl_bytes.proofs.Pending.{AsksNot, IsAskedNow, pending-before}
 use Rattle.tl_memory.proofs.OpenAccesses.{other-link, own-link}
 use Rattle.tl_memory.proofs.Payloads.{wide-length}
 use Rattle.tl_memory.proofs.Writing.{put_pending}
 use Rattle.tl_memory.specs.statement.Known.{AreWide}
+use Rattle.tl_one_memory.proofs.Outrun.{asks-or, never-both}
 use Rattle.tl_one_memory.specs.statement.Run.{GoesOn}
 
 -- ---- the beats of an unfinished request
@@ -67,7 +69,7 @@ put-so-far c y older p [] e put pending = absurd (none-some p pending)
 put-so-far {w} c y older p (x ∷ t) e put pending = elim (pending-before c y.source p x t pending) [
   | inl old ↦ elim (cases_eq x.0.0 c) [
     | inr other ↦ put-so-far c y older p t (ap (unfinished Channel.A) (sym (other-link c x t other)) ∙ e) put old.0
-    | inl own ↦ mine own old.1 x.1 refl (ap (unfinished Channel.A) (sym (own-link c x t own)) ∙ e)
+    | inl own ↦ mine own old.0 old.1 x.1 refl (ap (unfinished Channel.A) (sym (own-link c x t own)) ∙ e)
         (λ f. put-so-far c y older p t f put old.0)
   ]
   | inr new ↦
@@ -80,19 +82,21 @@ put-so-far {w} c y older p (x ∷ t) e put pending = elim (pending-before c y.so
       (parts.1 ∙ ap (λ d. unfinished Channel.A (on_link d t)) new.link_is) new.access_is
 ]
   where
-    mine : x.0.0 ≡ c → AsksNot c y.source x t → (b : Beat w) → x.1 ≡ b
+    mine : x.0.0 ≡ c → IsPending c y.source p t → AsksNot c y.source x t → (b : Beat w) → x.1 ≡ b
         → unfinished Channel.A (b ∷ on_link c t) ≡ Beat.A y ∷ older
         → (unfinished Channel.A (on_link c t) ≡ Beat.A y ∷ older → p ≡ asked_by c y (Beat.A y ∷ older) p.asked)
         → p ≡ asked_by c y (Beat.A y ∷ older) p.asked
-    mine own never (Beat.A z) is f before =
+    mine own was never (Beat.A z) is f before =
         let parts = newest-a z y older (on_link c t) f in
-        absurd (never z is (put-asks z.opcode (ends (Beat.A z) (on_link x.0.0 t))
-        (ap (λ (b : BeatA w). is_put b.opcode) (sym parts.0) ∙ put)) (sym own)
-        (ap (λ (b : BeatA w). b.source) parts.0))
-    mine own never (Beat.B z) is f before = before f
-    mine own never (Beat.C z) is f before = before f
-    mine own never (Beat.D z) is f before = before f
-    mine own never (Beat.E z) is f before = before f
+        let source : y.source ≡ z.source = ap (λ (b : BeatA w). b.source) parts.0 in
+        absurd (asks-or x.0.0 z (on_link x.0.0 t) t (put-asks z.opcode (ends (Beat.A z) (on_link x.0.0 t))
+        (ap (λ (b : BeatA w). is_put b.opcode) (sym parts.0) ∙ put))
+        (λ new. never z is new (sym own) source)
+        (λ access outrun. never-both c y.source p access t was (rw (← own, source) outrun)))
+    mine own was never (Beat.B z) is f before = before f
+    mine own was never (Beat.C z) is f before = before f
+    mine own was never (Beat.D z) is f before = before f
+    mine own was never (Beat.E z) is f before = before f
 
 -- ---- the byte at an address that has come
 
@@ -281,10 +285,12 @@ asked-or {w} c s y t = go y.1 refl
     same_a : (x z : BeatA w) → Beat.A x ≡ Beat.A z → x ≡ z
     same_a x z e = cc
 
-    by : (z : BeatA w) → y.1 ≡ Beat.A z → (b : Bool) → asks z (on_link y.0.0 t) ≡ b
+    by : (z : BeatA w) → y.1 ≡ Beat.A z → (b : Bool)
+        → asks_new y.0.0 z (on_link y.0.0 t) (outrun_accesses t) ≡ b
         → AsksNot c s y t ⊎ ((p : Access w) × IsAskedNow c s p y t)
     by z e false f = inl (λ x h over. absurd (let no : true ≡ false =
-        sym over ∙ ap (λ v. asks v (on_link y.0.0 t)) (same_a x z (sym h ∙ e)) ∙ f in cc))
+        sym over ∙ ap (λ v. asks_new y.0.0 v (on_link y.0.0 t) (outrun_accesses t)) (same_a x z (sym h ∙ e)) ∙ f
+        in cc))
     by z e true f = elim (cases_eq c y.0.0) [
       | inr ne ↦ inl (λ x h over link source. ne link)
       | inl link ↦ elim (cases_eq s z.source) [
@@ -298,7 +304,7 @@ asked-or {w} c s y t = go y.1 refl
     ]
 
     go : (b : Beat w) → y.1 ≡ b → AsksNot c s y t ⊎ ((p : Access w) × IsAskedNow c s p y t)
-    go (Beat.A z) e = by z e (asks z (on_link y.0.0 t)) refl
+    go (Beat.A z) e = by z e (asks_new y.0.0 z (on_link y.0.0 t) (outrun_accesses t)) refl
     go (Beat.B z) e = inl (λ x h. absurd (let no : Beat.A x ≡ Beat.B z = sym h ∙ e in cc))
     go (Beat.C z) e = inl (λ x h. absurd (let no : Beat.A x ≡ Beat.C z = sym h ∙ e in cc))
     go (Beat.D z) e = inl (λ x h. absurd (let no : Beat.A x ≡ Beat.D z = sym h ∙ e in cc))

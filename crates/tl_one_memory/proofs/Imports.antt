@@ -9,7 +9,8 @@ pub use Rattle.tl_bytes.proofs.Pending.{IsPending, asked-by_now}
 pub use Rattle.tl_bytes.specs.statement.Bytes.{Access, access_writes, could_be, is_of, pending_value}
 unfoldable pub use Rattle.tl_bytes.specs.statement.Bytes.{before_last, carried_byte, may_be, pending_accesses}
 unfoldable pub use Rattle.tl_bytes.specs.statement.Bytes.{windows_since}
-pub use Rattle.tl_one_memory.specs.statement.Run.{IsAnswer, IsPerformed, IsTaken, Performs, Run, Stores, Takes}
+pub use Rattle.tl_one_memory.specs.statement.Run.{IsAnswer, IsPerformed, IsTaken, Leaves, Performs, Run, Stores}
+pub use Rattle.tl_one_memory.specs.statement.Run.{Takes}
 unfoldable pub use Rattle.tl_one_memory.specs.statement.Run.{IsRun, found_in, memory_in, trace_in}
 pub use Rattle.tl_rules.specs.statement.Conformance.{Trace}
 unfoldable pub use Rattle.tl_rules.specs.statement.Conformance.{on_link}

@@ -4,26 +4,27 @@ use Rattle.tl_one_memory.proofs.Imports.{effect, block_at, is_release_ack, is_fr
 use Rattle.tl_one_memory.proofs.Imports.{Access, access_writes, carried_byte, could_be, may_be, pending_accesses}
 use Rattle.tl_one_memory.proofs.Imports.{pending_value, reaches}
 use Rattle.tl_one_memory.proofs.Imports.{same-some, unfinished, IsPending, asked-by_now, IsPerformed, IsRun, IsTaken}
-use Rattle.tl_one_memory.proofs.Imports.{Performs, Run, Stores, Takes, found_in, memory_in, trace_in}
+use Rattle.tl_one_memory.proofs.Imports.{Leaves, Performs, Run, Stores, Takes, found_in, memory_in, trace_in}
 use Rattle.std.proofs.Common.{◌⊎◌, ◌/◌, length, ◌≡◌, ℕ, Bool, true, false, not}
 use Rattle.std.proofs.Common.{◌&&◌, List, [], ◌∷◌, inl, inr, refl, sym, ap, ◌∙◌}
-use Rattle.std.specs.Prelude.{if◌then◌else◌, find, is_some, Some, ◌==◌, ◌||◌}
+use Rattle.std.specs.Prelude.{if◌then◌else◌, find, is_some, None, Option, Some, ◌==◌, ◌||◌}
 use Rattle.std.proofs.lemmas.Bool.{and_parts, eqb-true, not-true}
 use Rattle.tl_beat.{specs.declared.channel.Channel.Channel, specs.declared.opcode.OpA.OpA}
 use Rattle.tl_burst.specs.declared.message.MessageA.{MessageA}
 use Rattle.tl_params.specs.declared.perm.Perm.{Perm}
 use Rattle.tl_rules.{specs.statement.Effect.after, specs.statement.History.ends}
-use Rattle.tl_rules.specs.statement.Admission.{is_spoiled}
+use Rattle.tl_rules.specs.statement.{Admission.is_spoiled, Conformance.comes_in_request}
 use Rattle.tl_bytes.specs.statement.Bytes.{tells, value_left, writes}
+use Rattle.tl_bytes.specs.statement.Early.{Outrun, is_outrun_of, outrun_accesses, outruns}
 use Rattle.tl_bytes.proofs.Finding.{none-some}
 use Rattle.tl_memory.specs.statement.Known.{is_atomic}
 use Rattle.tl_one_memory.proofs.Covered.{AreWindowed, IsCovered, IsOrderly, covered-after, covered-as}
-use Rattle.tl_one_memory.proofs.Covered.{windowed-after, windowed-as}
+use Rattle.tl_one_memory.proofs.Covered.{untold-free, windowed-after, windowed-as}
 use Rattle.tl_one_memory.proofs.Performed.{asked-again, found-here, found-other, found-performed, found-still}
 use Rattle.tl_one_memory.proofs.Performed.{found-taken, performed-once, some-value, unanswered}
 use Rattle.tl_one_memory.proofs.Spans.{windowed-free}
 use Rattle.tl_one_memory.proofs.Values.{after-unwritten, spoilt-left, spoilt-pending, value-left, value-pending}
-use Rattle.tl_one_memory.specs.statement.Run.{IsClean, TellsTrue, left_by, place_in, returns, spoiled_at}
+use Rattle.tl_one_memory.specs.statement.Run.{IsClean, TellsTrue, left_by, place_in, returns, spoiled_at, with_reached}
 
 -- the access with this source was performed at an address, and isn't answered whole
 abbrev pub IsDone : {w : ℕ} → Memory → Run w → ℕ → ℕ → ℕ → Type 0
@@ -87,21 +88,27 @@ module _ {w : ℕ} (n : ℕ) (first : Memory) (address : ℕ) where
     asks_again = λ c s p now done.
         (asked-again n first c s p link x run address done.0 taken is done.1 now).0;
     answers_done = λ z p e completes pending writing.
-        let both = and_parts (not (is_release_ack z.opcode)) (ends (Beat.D z) (on_link link.0 (trace_in run)))
-        completes in
+        let whole = and_parts (not (is_release_ack z.opcode) && ends (Beat.D z) (on_link link.0 (trace_in run)))
+        (not (comes_in_request z.source (unfinished Channel.A (on_link link.0 (trace_in run))))) completes in
+        let both = and_parts (not (is_release_ack z.opcode)) (ends (Beat.D z) (on_link link.0 (trace_in run))) whole.0 in
+        let late : outruns z (on_link link.0 (trace_in run)) ≡ false =
+        rw (both.0, not-true (comes_in_request z.source (unfinished Channel.A (on_link link.0 (trace_in run)))) whole.1)
+        refl in
         let no_ack = not-true (is_release_ack z.opcode) both.0 in (
           λ granted. some-value (found_in first link.0 z.source run address)
-              ((taken.answers_rightly z p e no_ack granted pending).written address writing),
+              ((taken.answers_rightly z p e no_ack granted late pending).written address writing),
           λ sound reads k reached.
               let answer = taken.answers_rightly z p e no_ack
               (sound-granted z (unfinished Channel.D (on_link link.0 (trace_in run))) sound)
-              pending in
+              late pending in
               let brought = answer.brings reads k reached (inr completes) in
               sound-carried (Beat.D z ∷ unfinished Channel.D (on_link link.0 (trace_in run))) (place_in p k)
               brought.byte
               sound brought.carried_is ∙ sym brought.found_is,
         );
-    closes_told = λ free closed. taken.closes_told (block_at address) free closed;
+    outruns_own = λ c s written now z older begun.
+        taken.outruns_own now.beat z older address now.beat_is now.early begun
+        (rw (← now.link_is, ← now.source_is) written);
   }
 
   -- where no link holds Trunk of the block, nothing is stored
@@ -111,6 +118,7 @@ module _ {w : ℕ} (n : ℕ) (first : Memory) (address : ℕ) where
   clean-free [] is free = tt
   clean-free (Takes link x ∷ run) is free = inl free
   clean-free (Performs d i test left ∷ run) is free = clean-free run is.1 free
+  clean-free (Leaves d i bytes ∷ run) is free = clean-free run is.1 free
   clean-free (Stores block bytes ∷ run) is free = (apart (block_at address == block) refl, clean-free run is.1 free)
     where
       apart : (b : Bool) → (block_at address == block) ≡ b → b ≡ false
@@ -309,7 +317,7 @@ module _ {w : ℕ} (n : ℕ) (first : Memory) (address : ℕ) where
           → ((burst : List (Beat w)) → answers' d i p burst
           → could_be v (value_left p.request.opcode p burst address) ≡ true)
           → could_be v (pending_value p.request.opcode p address) ≡ true → IsCovered n address v done' answers' t
-      written v passes writing value pending = inr (record {
+      written v passes writing value pending = inr (inl (record {
         link = d;
         source = i;
         access = p;
@@ -318,8 +326,8 @@ module _ {w : ℕ} (n : ℕ) (first : Memory) (address : ℕ) where
         writes = writing;
         value_is = value;
         pending_is = pending;
-        free = is.writes_free address passes writing;
-      })
+        untold = untold-free n address t (is.writes_free address passes writing);
+      }))
 
       writes-now : IsClean n first address run → test address ≡ true → (s : Bool) → p.spoiled ≡ s → (b : Bool)
           → access_writes address p ≡ b
@@ -357,6 +365,30 @@ module _ {w : ℕ} (n : ℕ) (first : Memory) (address : ℕ) where
     covered = λ clean. rw clean.0 (known.covered clean.1);
   }
 
+  -- ---- an access that was answered early leaves its bytes
+
+  known-left : (d i : ℕ) (bytes : Memory) (run : Run w) → IsKnown n first address run
+      → IsKnown n first address (Leaves d i bytes ∷ run)
+  unfolding trace_in memory_in found_in IsClean
+  known-left d i bytes run known = record {
+    windowed = known.windowed;
+    covered = λ clean. go (find (is_outrun_of d i) (outrun_accesses (trace_in run))) refl (known.covered clean);
+  }
+    where
+      Covered : ℕ → Type 0
+      Covered v = IsCovered n address v (IsDone first run address) (Answers first run) (trace_in run)
+
+      go : (o : Option Outrun) → find (is_outrun_of d i) (outrun_accesses (trace_in run)) ≡ o
+          → Covered (memory_in first run address) → Covered (with_reached o bytes (memory_in first run) address)
+      go None e old = old
+      go (Some access) e old = by (reaches access.address access.size address) refl
+        where
+          by : (b : Bool) → reaches access.address access.size address ≡ b
+              → Covered (if b then bytes address else memory_in first run address)
+          by false f = old
+          by true f =
+              inr (inr (record { link = d; source = i; access = access; is = e; reached = f }))
+
   -- ---- all that has happened
 
   known-first : IsKnown {w = w} n first address []
@@ -372,3 +404,4 @@ module _ {w : ℕ} (n : ℕ) (first : Memory) (address : ℕ) where
   known (Takes link x ∷ run) is = known-taken link x run is.0 is.1 (known run is.1)
   known (Performs d i test left ∷ run) is = known-performed d i test left run is.0 (known run is.1)
   known (Stores block bytes ∷ run) is = known-stored block bytes run (known run is.1)
+  known (Leaves d i bytes ∷ run) is = known-left d i bytes run (known run is.1)

@@ -4,6 +4,7 @@ pub mod Covered
 pub mod Granted
 pub mod Growing
 pub mod Known
+pub mod Outrun
 pub mod OpenPending
 pub mod OpenWindows
 pub mod Performed
@@ -15,6 +16,7 @@ pub mod Values
 pub mod Wider
 pub mod Windowed
 pub mod Worked
+pub mod WorkedEarly
 pub mod WorkedWindows
 pub mod WrittenBefore
 pub mod Imports

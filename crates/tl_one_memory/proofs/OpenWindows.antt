@@ -2,11 +2,11 @@
 -- block with its last beat.
 use Rattle.tl_one_memory.proofs.Imports.{Beat, BeatD, Link, Trace, on_link, Memory, block_at, unfinished}
 use Rattle.tl_one_memory.proofs.Imports.{reaches, Access, access_writes, same-some, IsAnswer, IsPending, IsPerformed}
-use Rattle.tl_one_memory.proofs.Imports.{IsRun, IsTaken, Performs, Run, Stores, Takes, found_in, trace_in}
+use Rattle.tl_one_memory.proofs.Imports.{IsRun, IsTaken, Leaves, Performs, Run, Stores, Takes, found_in, trace_in}
 use Rattle.std.proofs.Common.{◌≡◌, ◌+◌, ◌-◌, ◌*◌, ◌/◌, ◌^◌, ◌<◌, ◌≤◌, arith}
 use Rattle.std.proofs.Common.{ℕ, Bool, true, false, not, ◌&&◌, ◌||◌, List, []}
 use Rattle.std.proofs.Common.{◌∷◌, inl, inr, length, refl, sym, ap, ◌∙◌}
-use Rattle.std.specs.Prelude.{if◌then◌else◌, IsTrue, None, Some, ◌==◌, min, nat_le, nat_lt}
+use Rattle.std.specs.Prelude.{find, if◌then◌else◌, IsTrue, None, Some, ◌==◌, min, nat_le, nat_lt}
 use Rattle.std.proofs.Math.Nat.{div-eq_of_lt}
 use Rattle.std.proofs.lemmas.Nat.{pow_pos}
 use Rattle.std.proofs.lemmas.Bool.{le-leb, lt-leb, lt-ltb, ltb-true, and_parts, cases_eq, eq-eqb, eqb-true, not-false}
@@ -22,14 +22,16 @@ use Rattle.tl_rules.specs.statement.Conformance.{comes_in_request}
 use Rattle.tl_rules.specs.statement.History.{ends, is_release_ack}
 use Rattle.tl_rules.specs.statement.Liberties.{broken_after_under}
 use Rattle.tl_rules.specs.statement.Windows.{needs}
-use Rattle.tl_bytes.specs.statement.Bytes.{asks, is_access, is_put}
-use Rattle.tl_bytes.specs.statement.Free.{all_but_early}
+use Rattle.tl_bytes.specs.statement.Bytes.{asks, is_access, is_put, leaves_pending}
+use Rattle.tl_bytes.specs.statement.Early.{is_outrun_of, outrun_accesses, outruns}
+use Rattle.tl_bytes.specs.statement.Free.{all_liberties}
 use Rattle.tl_bytes.specs.statement.Shown.{is_window}
 unfoldable use Rattle.tl_bytes.specs.statement.Shown.{had_window}
 use Rattle.tl_bytes.proofs.Finding.{none-some}
 use Rattle.tl_bytes.proofs.Pending.{AsksNot, IsAskedNow, pending-before}
 use Rattle.tl_memory.specs.statement.Links.{AreLegal, IsLegal}
-use Rattle.tl_memory.proofs.Answering.{coming, fields_of}
+use Rattle.tl_memory.proofs.Answering.{fields_of, last-request}
+use Rattle.tl_memory.proofs.Outrunning.{kept-fields}
 use Rattle.tl_memory.proofs.Lawful.{by_itself, goes_on, is-request}
 use Rattle.tl_memory.proofs.Open.{IsOpen, completes_answer, open-parts, open-whole}
 use Rattle.tl_memory.proofs.OpenAccesses.{IsFine, IsRequestOf, is-fine, legal-link}
@@ -38,7 +40,8 @@ use Rattle.tl_memory.proofs.Puts.{put-carries}
 use Rattle.tl_one_memory.proofs.Performed.{asked-again, found-performed, found-taken, some-value}
 use Rattle.tl_one_memory.proofs.Read.{put-unread}
 unfoldable use Rattle.tl_one_memory.proofs.Read.{in-window}
-use Rattle.tl_one_memory.proofs.OpenPending.{open-pending}
+use Rattle.tl_one_memory.proofs.OpenPending.{IsPendingOrOut, open-pending}
+use Rattle.tl_one_memory.proofs.Outrun.{asks-or, never-both}
 use Rattle.tl_one_memory.proofs.Windowed.{performing-window, touches}
 use Rattle.tl_one_memory.specs.statement.Run.{IsBrought, has_come, is_answered_by, place_in, returns}
 use Rattle.tl_one_memory.specs.statement.OpenWindows.{IsInWindow, is_last}
@@ -72,11 +75,11 @@ no e = cc
 -- where a beat doesn't ask for an access, and its request is complete with it, that was so before
 complete-before : {w : ℕ} (levels : List Level) (c s : ℕ) (p : Access w) (asked : Request) (x : Link × Beat w)
     (t : Trace w)
-    → AreLegal levels t → IsLegal levels x t → IsRequestOf c s p t → AsksNot c s x t
+    → AreLegal levels t → IsLegal levels x t → IsPending c s p t → IsRequestOf c s p t → AsksNot c s x t
     → IsOpen s asked (on_link c (x ∷ t))
     → comes_in_request s (unfinished Channel.A (on_link c t)) ≡ false
 unfolding unfinished
-complete-before {w} levels c s p asked x t legal fine k unasked o = go (unfinished Channel.A (on_link c t)) refl
+complete-before {w} levels c s p asked x t legal fine pending k unasked o = go (unfinished Channel.A (on_link c t)) refl
   where
     go : (burst : List (Beat w)) → unfinished Channel.A (on_link c t) ≡ burst → comes_in_request s burst ≡ false
     go (Beat.A z ∷ older) e = by (z.source == s) refl
@@ -84,13 +87,13 @@ complete-before {w} levels c s p asked x t legal fine k unasked o = go (unfinish
         same : z.source ≡ s → k.asked ≡ fields_of z
         same source =
             let l = legal-link levels c t legal in
-            same-some (fields_of z) k.asked (sym (coming l.0 (on_link c t) z older l.1 e)
-            ∙ rw source k.is_kept)
+            same-some (fields_of z) k.asked (sym (last-request l.0 (on_link c t) z older l.1 e)
+            ∙ rw source (kept-fields s k.asked (on_link c t) k.is_kept))
 
         accesses : z.source ≡ s → is_access z.opcode ≡ true
         accesses source = ap (λ (r : Request). is_access r.opcode) (sym (same source)) ∙ k.accesses
 
-        f : IsFine all_but_early levels x t
+        f : IsFine all_liberties levels x t
         f = is-fine _ levels x t fine
 
         -- the burst is unfinished with the beat
@@ -98,9 +101,9 @@ complete-before {w} levels c s p asked x t legal fine k unasked o = go (unfinish
             → comes_in_request s (unfinished Channel.A (b ∷ on_link c t)) ≡ true
         goes own link (Beat.A y) is = this (ends (Beat.A y) (on_link c t)) refl
           where
-            fine_y : broken_after_under all_but_early f.level (Beat.A y) (on_link c t) ≡ None
-            fine_y = ap (λ b. broken_after_under all_but_early f.level b (on_link c t)) (sym is)
-                ∙ ap (λ m. broken_after_under all_but_early f.level x.1 (on_link m t)) (sym link) ∙ f.fine
+            fine_y : broken_after_under all_liberties f.level (Beat.A y) (on_link c t) ≡ None
+            fine_y = ap (λ b. broken_after_under all_liberties f.level b (on_link c t)) (sym is)
+                ∙ ap (λ m. broken_after_under all_liberties f.level x.1 (on_link m t)) (sym link) ∙ f.fine
 
             alike : IsTrue (same_control (Beat.A y) (Beat.A z))
             alike = not-false (same_control (Beat.A y) (Beat.A z))
@@ -109,9 +112,13 @@ complete-before {w} levels c s p asked x t legal fine k unasked o = go (unfinish
             this : (last : Bool) → ends (Beat.A y) (on_link c t) ≡ last
                 → comes_in_request s (if last then [] else Beat.A y ∷ unfinished Channel.A (on_link c t)) ≡ true
             this false g = rw (control_a y z alike).3 own
-            this true g = absurd (unasked y is asking (sym link)
-                (sym ((control_a y z alike).3 ∙ eqb-true z.source s own)))
+            this true g = absurd (asks-or x.0.0 y (on_link x.0.0 t) t asking
+                (λ new. unasked y is new (sym link) (sym source))
+                (λ a out. never-both c s p a t pending (rw (← link, ← source) out)))
               where
+                source : y.source ≡ s
+                source = (control_a y z alike).3 ∙ eqb-true z.source s own
+
                 asking : asks y (on_link x.0.0 t) ≡ true
                 asking = rw (link, g, ap is_access (control_a y z alike).0 ∙ accesses (eqb-true z.source s own))
                     (or_right (is_put y.opcode) true refl)
@@ -194,6 +201,18 @@ same-kept : {w : ℕ} (c s : ℕ) (p : Access w) (asked : Request) (t : Trace w)
     → IsOpen s asked (on_link c t) → k.asked ≡ asked
 same-kept c s p asked t k o = same-some asked k.asked (sym o.kept ∙ k.is_kept)
 
+-- with the last beat of its answer an access isn't pending any more
+complete-leaves : {w : ℕ} (z : BeatD w) (h : History w) → not (is_release_ack z.opcode) && ends (Beat.D z) h ≡ true
+    → leaves_pending z h ≡ true
+complete-leaves z h =
+    go (not (is_release_ack z.opcode)) (ends (Beat.D z) h) (comes_in_request z.source (unfinished Channel.A h))
+  where
+    go : (a b comes : Bool) → a && b ≡ true → ((a && b) && not comes) || (a && comes) ≡ true
+    go true true true e = refl
+    go true true false e = refl
+    go true false comes e = absurd cc
+    go false b comes e = absurd cc
+
 -- an answer that isn't complete with a beat
 unended : {w : ℕ} (c s : ℕ) (link : Link) (x : Beat w) (t : Trace w) → is_answered_by c s link x t ≡ false → link.0 ≡ c
     → completes_answer s x (on_link c t) ≡ false
@@ -204,7 +223,9 @@ unended c s link (Beat.D z) t e same = go (completes_answer s (Beat.D z) (on_lin
     go true f =
         let first = and_parts (ends (Beat.D z) (on_link c t)) (not (is_release_ack z.opcode) && (z.source == s)) f in
         let rest = and_parts (not (is_release_ack z.opcode)) (z.source == s) first.1 in
-        sym (rw (same, eq-eqb c c refl, rest.1, rest.0, first.0) refl) ∙ e
+        let leaves : leaves_pending z (on_link c t) ≡ true =
+        complete-leaves z (on_link c t) (rw (rest.0, first.0) refl) in
+        sym (rw (same, eq-eqb c c refl, rest.1, leaves) refl) ∙ e
 unended c s link (Beat.A z) t e same = refl
 unended c s link (Beat.B z) t e same = refl
 unended c s link (Beat.C z) t e same = refl
@@ -229,12 +250,12 @@ module _ {w : ℕ} (n : ℕ) (first : Memory) (width : IsWidth w) (levels : List
       parts : (is_put z.opcode ≡ true) × (nat_lt (address - w * (z.address / w)) (w * length burst) ≡ true)
       parts = and_parts (is_put z.opcode) (nat_lt (address - w * (z.address / w)) (w * length burst)) came
 
-      f : IsFine all_but_early levels (link, x) t
+      f : IsFine all_liberties levels (link, x) t
       f = is-fine _ levels (link, x) t fine
 
       small : z.size ≤ 6
       small = (is-request f.level z width (by_itself f.level (Beat.A z) (on_link link.0 t)
-          (ap (λ b. broken_after_under all_but_early f.level b (on_link link.0 t)) (sym now.beat_is) ∙ f.fine))).small
+          (ap (λ b. broken_after_under all_liberties f.level b (on_link link.0 t)) (sym now.beat_is) ∙ f.fine))).small
 
       size_is : p.request.size ≡ z.size
       size_is =
@@ -289,7 +310,7 @@ module _ {w : ℕ} (n : ℕ) (first : Memory) (width : IsWidth w) (levels : List
           k = pending-open levels c s p t width legal old
 
           whole : comes_in_request s (unfinished Channel.A (on_link c t)) ≡ false
-          whole = complete-before levels c s p asked (link, x) t legal fine k unasked o
+          whole = complete-before levels c s p asked (link, x) t legal fine old k unasked o
 
           open_before : IsOpen s k.asked (on_link c t)
           open_before = record { kept = k.is_kept; complete = whole }
@@ -329,6 +350,7 @@ module _ {w : ℕ} (n : ℕ) (first : Memory) (width : IsWidth w) (levels : List
   have-had (Performs d i test left ∷ run) is legal =
       had-performed d i test left run is.0 legal (have-had run is.1 legal)
   have-had (Stores block bytes ∷ run) is legal = have-had run is.1 legal
+  have-had (Leaves d i bytes ∷ run) is legal = have-had run is.1 legal
 
   -- one that reads has found the byte at its address, with the first beat of its answer
   reading : (link : Link) (asked : Request) (z : BeatD w) (p : Access w) (run : Run w) → IsRun n first run
@@ -361,15 +383,23 @@ module _ {w : ℕ} (n : ℕ) (first : Memory) (width : IsWidth w) (levels : List
       come = answer.brings opcode p.request.address reached
           (inl (in-first w p.request.address (length (unfinished Channel.D (on_link link.0 (trace_in run)))) width))
 
+  -- an access whose answer didn't outrun its request is pending
+  only-pending : (c s : ℕ) (t : Trace w) → find (is_outrun_of c s) (outrun_accesses t) ≡ None → IsPendingOrOut c s t
+      → (p : Access w) × IsPending c s p t
+  only-pending c s t late (inl pending) = pending
+  only-pending c s t late (inr out) = absurd (none-some out.0 (sym late ∙ out.1))
+
   in-window-now : (link : Link) (x : Beat w) (run : Run w) → IsTaken n first link x run → IsRun n first run
       → AreLegal levels (trace_in run) → IsInWindow n link.0 x (trace_in run)
   in-window-now link (Beat.A x) run taken is legal = tt
   in-window-now link (Beat.B x) run taken is legal = tt
   in-window-now link (Beat.C x) run taken is legal = tt
-  in-window-now link (Beat.D z) run taken is legal = λ asked no_ack granted open_so accesses.
+  in-window-now link (Beat.D z) run taken is legal = λ asked no_ack granted late open_so accesses.
       let o = open-parts z.source asked (on_link link.0 (trace_in run)) open_so in
-      let p = open-pending levels link.0 z.source asked (trace_in run) legal o accesses in
-      let answer = taken.answers_rightly z p.0 refl no_ack granted p.1 in
+      let p = only-pending link.0 z.source (trace_in run) late
+      (open-pending levels width link.0 z.source asked (trace_in run) legal o accesses) in
+      let in_time : outruns z (on_link link.0 (trace_in run)) ≡ false = rw (o.complete, no_ack) refl in
+      let answer = taken.answers_rightly z p.0 refl no_ack granted in_time p.1 in
       record {
         access = p.0;
         pending = p.1;
@@ -390,3 +420,4 @@ module _ {w : ℕ} (n : ℕ) (first : Memory) (width : IsWidth w) (levels : List
       (in-window-now link x run is.0 is.1 legal.1, all-in-windows run is.1 legal.1)
   all-in-windows (Performs d i test left ∷ run) is legal = all-in-windows run is.1 legal
   all-in-windows (Stores block bytes ∷ run) is legal = all-in-windows run is.1 legal
+  all-in-windows (Leaves d i bytes ∷ run) is legal = all-in-windows run is.1 legal

@@ -1,12 +1,13 @@
 -- What was performed of an access, with one more happening.
-use Rattle.tl_one_memory.proofs.Imports.{Beat, Link, on_link, Memory, Trace, Access}
+use Rattle.tl_one_memory.proofs.Imports.{Beat, BeatD, Link, on_link, Memory, Trace, Access}
 use Rattle.tl_one_memory.proofs.Imports.{is_of, pending_accesses, same-some, IsPending}
-use Rattle.tl_one_memory.proofs.Imports.{unfinished, IsPerformed, IsRun, IsTaken, Performs}
+use Rattle.tl_one_memory.proofs.Imports.{unfinished, IsPerformed, IsRun, IsTaken, Leaves, Performs}
 use Rattle.tl_one_memory.proofs.Imports.{Run, Stores, Takes, found_in, memory_in, trace_in}
-use Rattle.std.proofs.Common.{◌≡◌, ℕ, Bool, true, false, not, ◌&&◌, [], ◌∷◌, ◌⊎◌, inl, inr, refl, sym, ◌∙◌}
+use Rattle.std.proofs.Common.{◌≡◌, ℕ, Bool, true, false, not, ◌&&◌, ◌||◌, [], ◌∷◌, ◌⊎◌, inl, inr, refl, sym, ◌∙◌}
 use Rattle.std.specs.Prelude.{if◌then◌else◌, ◌==◌, find, filter, is_some, Option, Some, None}
 use Rattle.std.proofs.lemmas.Bool.{and_parts, eq-eqb, eqb-true}
-use Rattle.tl_bytes.specs.statement.Bytes.{ends_request}
+use Rattle.tl_bytes.specs.statement.Bytes.{leaves_pending}
+use Rattle.tl_bytes.specs.statement.Early.{ends_request, outruns}
 use Rattle.tl_bytes.proofs.Finding.{find-left_out, none-some}
 use Rattle.tl_beat.specs.declared.channel.Channel.{Channel}
 use Rattle.tl_bytes.proofs.Pending.{IsAnsweredNow, IsAskedNow, pending-after}
@@ -26,8 +27,8 @@ unfolding pending_accesses
 answered-gone {w} c s p link (Beat.D z) t answered pending =
     none-some p (sym (rw (whole.1) gone) ∙ pending)
   where
-    whole : ((link.0 == c) && (z.source == s) ≡ true) × (ends_request z (on_link link.0 t) ≡ true)
-    whole = and_parts ((link.0 == c) && (z.source == s)) (ends_request z (on_link link.0 t)) answered
+    whole : ((link.0 == c) && (z.source == s) ≡ true) × (leaves_pending z (on_link link.0 t) ≡ true)
+    whole = and_parts ((link.0 == c) && (z.source == s)) (leaves_pending z (on_link link.0 t)) answered
 
     same : ((link.0 == c) ≡ true) × ((z.source == s) ≡ true)
     same = and_parts (link.0 == c) (z.source == s) whole.0
@@ -48,6 +49,17 @@ unanswered c s p link x t pending = go (is_answered_by c s link x t) refl
     go : (b : Bool) → is_answered_by c s link x t ≡ b → b ≡ false
     go true e = absurd (answered-gone c s p link x t e pending)
     go false e = refl
+
+-- and its answer didn't come before its request was complete
+pub still-late : {w : ℕ} (c s : ℕ) (p : Access w) (link : Link) (z : BeatD w) (t : Trace w)
+    → IsPending c s p ((link, Beat.D z) ∷ t) → link.0 ≡ c → z.source ≡ s → outruns z (on_link link.0 t) ≡ false
+still-late c s p link z t pending own source =
+    neither (ends_request z (on_link link.0 t)) (outruns z (on_link link.0 t))
+    (rw (eq-eqb link.0 c own, eq-eqb z.source s source) at (unanswered c s p link (Beat.D z) t pending))
+  where
+    neither : (a b : Bool) → a || b ≡ false → b ≡ false
+    neither true b e = absurd cc
+    neither false b e = e
 
 -- one that wasn't stays pending, or is asked for again
 still-pending : {w : ℕ} (c s : ℕ) (p : Access w) (link : Link) (x : Beat w) (t : Trace w)
@@ -158,6 +170,8 @@ found-pending n first c s address v (Performs d i test left ∷ run) is found =
       | inr old ↦ found-pending n first c s address v run is.1 old
     ]
 found-pending n first c s address v (Stores block bytes ∷ run) is found =
+    found-pending n first c s address v run is.1 found
+found-pending n first c s address v (Leaves d i bytes ∷ run) is found =
     found-pending n first c s address v run is.1 found
 
 -- if an access is asked for that was performed at an address, it is a Put that goes on, and the byte there came before

@@ -2,7 +2,7 @@
 use Rattle.tl_one_memory.proofs.Imports.{Beat, BeatD, Link, reaches, unfinished, Trace, on_link, Memory, is_release_ack}
 use Rattle.tl_one_memory.proofs.Imports.{Access, access_writes, before_last, could_be, is_of, may_be, pending_accesses}
 use Rattle.tl_one_memory.proofs.Imports.{pending_value, among-filter, same-some, IsPending, asked-by_now, IsAnswer}
-use Rattle.tl_one_memory.proofs.Imports.{IsPerformed, IsRun, IsTaken, Performs, Run, Stores, Takes, found_in, memory_in}
+use Rattle.tl_one_memory.proofs.Imports.{IsPerformed, IsRun, IsTaken, Leaves, Performs, Run, Stores, Takes, found_in, memory_in}
 use Rattle.tl_one_memory.proofs.Imports.{trace_in}
 use Rattle.std.proofs.Common.{◌≡◌, ℕ, suc, Bool, true, false, not, ◌&&◌, ◌+◌, List, [], ◌∷◌, ◌⊎◌, inl, inr, refl, sym}
 use Rattle.std.proofs.Common.{ap, ◌∙◌, arith, length}
@@ -15,13 +15,16 @@ use Rattle.tl_burst.specs.declared.message.MessageA.{MessageA}
 use Rattle.tl_params.specs.declared.perm.Perm.{Perm}
 use Rattle.tl_rules.specs.statement.{History.block_at, Windows.needs}
 use Rattle.tl_bytes.specs.statement.{Free.is_free, Shown.is_window}
-use Rattle.tl_bytes.specs.statement.Bytes.{is_get, is_put, may_read, others, told_as, writes, written_as}
+use Rattle.tl_bytes.specs.statement.Bytes.{is_get, is_put, may_read, may_write, others, told_as, writes}
+use Rattle.tl_bytes.specs.statement.Bytes.{written_as}
+use Rattle.tl_bytes.specs.statement.Early.{outrun_accesses, outruns}
 use Rattle.tl_one_memory.{proofs.Covered.IsWrittenNow, proofs.Granted.told-as}
 use Rattle.tl_bytes.proofs.Finding.{among-found, found-among, found-passes, none-some}
 use Rattle.tl_one_memory.proofs.Known.{Answers, IsDone, clean-free, known}
+use Rattle.tl_one_memory.proofs.Outrun.{may-leave}
 use Rattle.tl_one_memory.proofs.Performed.{asked-again, found-other, found-performed}
 use Rattle.tl_one_memory.proofs.Performed.{found-still, found-taken, performed-once}
-use Rattle.tl_one_memory.proofs.Performed.{some-value, unanswered}
+use Rattle.tl_one_memory.proofs.Performed.{some-value, still-late, unanswered}
 use Rattle.tl_one_memory.specs.statement.Run.{IsClean, MayBeRead, returns}
 use Rattle.tl_bytes.proofs.Pending.{pending-before}
 
@@ -35,7 +38,7 @@ in-window n p address (x ∷ t) = is_window n (needs p.request.opcode) (block_at
 -- all that may be so now, or that another writes now
 read-now : {w : ℕ} (n c s : ℕ) (p : Access w) (t : Trace w) (address v : ℕ) → IsPending c s p t
     → in-window n p address t ≡ true
-    → (told_as v (may_be n address t) ≡ true) ⊎ (written_as address v (others p t) ≡ true)
+    → (told_as v (may_be n address t) ≡ true) ⊎ (may_write address v (others p t) (outrun_accesses t) ≡ true)
     → may_read n p t address v ≡ true
 unfolding may_read pending_accesses in-window
 read-now n c s p [] address v pending window is = absurd (none-some p pending)
@@ -143,8 +146,11 @@ module _ {w : ℕ} (n : ℕ) (first : Memory) where
           (elim ((known n first address run runs).covered (clean may)) [
             | inl told ↦ inl
                 (told-as n address (memory_in first run address) (IsDone first run address) (trace_in run) told)
-            | inr written ↦ inr (written-by n address (memory_in first run address) (IsDone first run address)
-                (Answers first run) (trace_in run) p.link p.request.source written (other written))
+            | inr by ↦ inr (elim by [
+              | inl written ↦ or_left _ _ (written-by n address (memory_in first run address) (IsDone first run address)
+                  (Answers first run) (trace_in run) p.link p.request.source written (other written))
+              | inr left ↦ or_right _ _ (may-leave address (trace_in run) left)
+            ])
           ]))
         where
           this : is.access ≡ p
@@ -185,6 +191,7 @@ module _ {w : ℕ} (n : ℕ) (first : Memory) where
   are-read (Takes link x ∷ run) is = read-taken link x run is.0 is.1 (are-read run is.1)
   are-read (Performs d i test left ∷ run) is = read-performed d i test left run is.0 is.1 (are-read run is.1)
   are-read (Stores block bytes ∷ run) is = are-read run is.1
+  are-read (Leaves d i bytes ∷ run) is = are-read run is.1
 
   -- ---- an answer that has begun
 
@@ -235,14 +242,14 @@ module _ {w : ℕ} (n : ℕ) (first : Memory) where
   -- at a beat of an answer
   pub read-next : (link : Link) (z : BeatD w) (p : Access w) (run : Run w) → IsTaken n first link (Beat.D z) run
       → IsRun n first run → AreBegunRead run → is_release_ack z.opcode ≡ false → z.denied ≡ false
-      → IsPending link.0 z.source p (trace_in run)
+      → outruns z (on_link link.0 (trace_in run)) ≡ false → IsPending link.0 z.source p (trace_in run)
       → IsReadBefore link.0 z.source p (length (unfinished Channel.D (on_link link.0 (trace_in run)))) run
   unfolding before_last
-  read-next link z p run taken is begun no_ack granted pending =
+  read-next link z p run taken is begun no_ack granted late pending =
       go (unfinished Channel.D (on_link link.0 (trace_in run))) refl
     where
       answer : IsAnswer first link.0 z p run
-      answer = taken.answers_rightly z p refl no_ack granted pending
+      answer = taken.answers_rightly z p refl no_ack granted late pending
 
       go : (burst : List (Beat w)) → unfinished Channel.D (on_link link.0 (trace_in run)) ≡ burst
           → IsReadBefore link.0 z.source p (length burst) run
@@ -269,11 +276,12 @@ module _ {w : ℕ} (n : ℕ) (first : Memory) where
   begun-here : (link : Link) (y : BeatD w) (run : Run w) → IsTaken n first link (Beat.D y) run → IsRun n first run
       → AreBegunRead run → (c : ℕ) (z : BeatD w) (older : List (Beat w)) (p : Access w) → link.0 ≡ c → z ≡ y
       → older ≡ unfinished Channel.D (on_link c (trace_in run)) → is_release_ack z.opcode ≡ false → z.denied ≡ false
-      → IsPending c z.source p (trace_in run) → IsReadBefore c z.source p (length older) run
-  begun-here link y run taken is begun c z older p own same rest no_ack granted pending =
+      → outruns y (on_link link.0 (trace_in run)) ≡ false → IsPending c z.source p (trace_in run)
+      → IsReadBefore c z.source p (length older) run
+  begun-here link y run taken is begun c z older p own same rest no_ack granted late pending =
       rw (rest, same, ← own)
       (read-next link y p run taken is begun (ap (λ (b : BeatD w). is_release_ack b.opcode) (sym same) ∙ no_ack)
-      (ap (λ (b : BeatD w). b.denied) (sym same) ∙ granted)
+      (ap (λ (b : BeatD w). b.denied) (sym same) ∙ granted) late
       (rw (own, ← same) pending))
 
   begun-taken : (link : Link) (x : Beat w) (run : Run w) → IsTaken n first link x run → IsRun n first run
@@ -317,6 +325,7 @@ module _ {w : ℕ} (n : ℕ) (first : Memory) where
           let parts = same-newest y z (unfinished Channel.D (on_link c t)) older g in
           still (length older) same
           (begun-here link y run (rw (← f) taken) is begun c z older p own parts.0 parts.1 no_ack granted
+          (still-late c z.source p link y t (rw (← f) pending) own (ap (λ (b : BeatD w). b.source) (sym parts.0)))
           (elim (pending-before c z.source p (link, x) t pending) [
             | inl old ↦ old.0
             | inr new ↦ absurd (let no : Beat.D y ≡ Beat.A new.beat = sym f ∙ new.beat_is in cc)
@@ -352,5 +361,8 @@ module _ {w : ℕ} (n : ℕ) (first : Memory) where
   are-begun_read (Takes link x ∷ run) is = begun-taken link x run is.0 is.1 (are-begun_read run is.1)
   are-begun_read (Performs d i test left ∷ run) is = begun-performed d i test left run is.0 (are-begun_read run is.1)
   are-begun_read (Stores block bytes ∷ run) is = λ c z older p e no_ack granted pending other back address reached.
+      let was = are-begun_read run is.1 c z older p e no_ack granted pending other back address reached in
+      record { byte = was.byte; found_is = was.found_is; brings = was.brings }
+  are-begun_read (Leaves d i bytes ∷ run) is = λ c z older p e no_ack granted pending other back address reached.
       let was = are-begun_read run is.1 c z older p e no_ack granted pending other back address reached in
       record { byte = was.byte; found_is = was.found_is; brings = was.brings }

@@ -8,7 +8,8 @@ use Rattle.tl_rules.specs.statement.Admission.{bytes_carried}
 use Rattle.tl_rules.specs.statement.Effect.{bytes_from, number_from}
 use Rattle.tl_rules.specs.statement.History.{request_of}
 use Rattle.tl_rules.specs.statement.Liberties.{held_under}
-use Rattle.tl_bytes.specs.statement.Free.{all_but_early}
+use Rattle.tl_bytes.specs.statement.Free.{all_liberties}
+use Rattle.tl_bytes.specs.statement.Early.{outrun_accesses}
 use Rattle.tl_bytes.specs.statement.Bytes.{carried_mask}
 use Rattle.tl_bytes.proofs.WorkedBeats.{done, eight, found, get, put, spoilt}
 use Rattle.tl_one_memory.specs.statement.Run.{everywhere}
@@ -46,34 +47,29 @@ corrupted = takes (spoilt (found 1 0 3 (eight 0))) ∷ looked
 -- ---- what happens
 
 asked-taken : IsTaken 2 zeros (at-link 1) (put 1 0 3 (eight 9) 255).1 written
-unfolding trace_in found_in memory_in on_link unfinished pending_accesses held_under all_but_early request_of is_free
-    carried_byte
-    carried_mask bytes_carried effect bytes_from number_from
-asked-taken = plain (at-link 1) (put 1 0 3 (eight 9) 255).1 written refl (λ z address e. inl refl)
+unfolding trace_in found_in memory_in on_link unfinished pending_accesses outrun_accesses held_under all_liberties
+    request_of is_free carried_byte carried_mask bytes_carried effect bytes_from number_from
+asked-taken = plain (at-link 1) (put 1 0 3 (eight 9) 255).1 written refl (λ z e. absurd cc) (λ z address e. inl refl)
     (λ z access e. absurd cc)
-    (λ z e. absurd cc) (λ block. refl) (λ block. refl) (λ block. refl)
+    (λ z e. absurd cc) (λ block. refl) (λ block. refl)
 
 refused-taken : IsTaken 2 zeros (at-link 1) (denied (done 1 0 3)).1 asked
-unfolding trace_in found_in memory_in on_link unfinished pending_accesses held_under all_but_early request_of is_free
-    carried_byte
-    carried_mask bytes_carried effect bytes_from number_from
-refused-taken = plain (at-link 1) (denied (done 1 0 3)).1 asked refl (λ z address e. absurd cc)
+unfolding trace_in found_in memory_in on_link unfinished pending_accesses outrun_accesses held_under all_liberties
+    request_of is_free carried_byte carried_mask bytes_carried effect bytes_from number_from
+refused-taken = plain (at-link 1) (denied (done 1 0 3)).1 asked refl (λ z e. refl) (λ z address e. absurd cc)
     (λ z access e granted. absurd (unequal (ap is_denied e ∙ granted))) (λ z e grant. cc) (λ block. refl)
-    (λ block. refl)
     (λ block. refl)
 
 get-taken : IsTaken 2 zeros (at-link 1) (get 1 0 3 255).1 refused
-unfolding trace_in found_in memory_in on_link unfinished pending_accesses held_under all_but_early request_of is_free
-    carried_byte
-    carried_mask bytes_carried effect bytes_from number_from
-get-taken = plain (at-link 1) (get 1 0 3 255).1 refused refl
+unfolding trace_in found_in memory_in on_link unfinished pending_accesses outrun_accesses held_under all_liberties
+    request_of is_free carried_byte carried_mask bytes_carried effect bytes_from number_from
+get-taken = plain (at-link 1) (get 1 0 3 255).1 refused refl (λ z e. absurd cc)
     (asks-as (at-link 1) _ refused (λ address. inl refl)) (λ z access e. absurd cc)
-    (λ z e. absurd cc) (λ block. refl) (λ block. refl) (λ block. refl)
+    (λ z e. absurd cc) (λ block. refl) (λ block. refl)
 
 get-performed : IsPerformed 2 zeros 1 0 everywhere wanted
-unfolding trace_in found_in memory_in on_link unfinished pending_accesses held_under all_but_early request_of is_free
-    carried_byte
-    carried_mask bytes_carried effect bytes_from number_from
+unfolding trace_in found_in memory_in on_link unfinished pending_accesses outrun_accesses held_under all_liberties
+    request_of is_free carried_byte carried_mask bytes_carried effect bytes_from number_from
 get-performed = record {
   access = _;
   pending = refl;
@@ -89,8 +85,8 @@ at-first address lt = omega (arith, lt)
 
 get-answered : (z : BeatD 8) (access : Access 8)
     → IsAnswer zeros 1 (response (spoilt (found 1 0 3 (eight 0))).1 z) (pending_of 1 0 looked access) looked
-unfolding trace_in found_in memory_in on_link unfinished pending_accesses held_under all_but_early request_of is_free
-    carried_mask bytes_carried effect bytes_from number_from
+unfolding trace_in found_in memory_in on_link unfinished pending_accesses outrun_accesses held_under all_liberties
+    request_of is_free carried_mask bytes_carried effect bytes_from number_from
 get-answered z access = record {
   written = λ address writing. refl;
   admitted = refl;
@@ -104,13 +100,12 @@ get-answered z access = record {
 }
 
 corrupted-taken : IsTaken 2 zeros (at-link 1) (spoilt (found 1 0 3 (eight 0))).1 looked
-unfolding trace_in found_in memory_in on_link unfinished pending_accesses held_under all_but_early request_of is_free
-    carried_byte
-    carried_mask bytes_carried effect bytes_from number_from
-corrupted-taken = plain (at-link 1) (spoilt (found 1 0 3 (eight 0))).1 looked refl (λ z address e. absurd cc)
+unfolding trace_in found_in memory_in on_link unfinished pending_accesses outrun_accesses held_under all_liberties
+    request_of is_free carried_byte carried_mask bytes_carried effect bytes_from number_from
+corrupted-taken = plain (at-link 1) (spoilt (found 1 0 3 (eight 0))).1 looked refl (λ z e. refl) (λ z address e. absurd cc)
     (λ z access e granted pending. answers-one zeros 1 (response (spoilt (found 1 0 3 (eight 0))).1 z)
     (pending_of 1 0 looked access) looked refl (get-answered z access) z access e pending)
-    (λ z e grant. cc) (λ block. refl) (λ block. refl) (λ block. refl)
+    (λ z e grant. cc) (λ block. refl) (λ block. refl)
 
 denies_and_corrupts : IsRun 2 zeros corrupted
 unfolding IsRun
@@ -121,7 +116,8 @@ denies_and_corrupts = (
 
 -- memory has the sevens still
 and_the_put_left_nothing : memory_in zeros corrupted 0 ≡ 7
-unfolding trace_in memory_in on_link unfinished pending_accesses carried_byte carried_mask bytes_carried effect
+unfolding trace_in memory_in on_link unfinished pending_accesses outrun_accesses carried_byte carried_mask bytes_carried
+    effect
 and_the_put_left_nothing = refl
 
 -- ---- a request that is corrupt
@@ -132,5 +128,6 @@ corrupt x = x
 
 a_corrupt_put_may_leave_any_bytes :
     memory_in zeros (Performs 0 0 everywhere (λ address. 5) ∷ takes (corrupt (put 0 0 3 (eight 9) 255)) ∷ []) 0 ≡ 5
-unfolding trace_in memory_in on_link unfinished pending_accesses carried_byte carried_mask bytes_carried effect
+unfolding trace_in memory_in on_link unfinished pending_accesses outrun_accesses carried_byte carried_mask bytes_carried
+    effect
 a_corrupt_put_may_leave_any_bytes = refl

@@ -14,7 +14,8 @@ use Rattle.tl_rules.specs.statement.Admission.{bytes_carried}
 use Rattle.tl_rules.specs.statement.Effect.{bytes_from, number_from}
 use Rattle.tl_rules.specs.statement.History.{pending, probe_of, request_of}
 use Rattle.tl_rules.specs.statement.Liberties.{held_under}
-use Rattle.tl_bytes.specs.statement.Free.{all_but_early}
+use Rattle.tl_bytes.specs.statement.Free.{all_liberties}
+use Rattle.tl_bytes.specs.statement.Early.{outrun_accesses}
 use Rattle.tl_bytes.specs.statement.Bytes.{carried_mask}
 unfoldable use Rattle.tl_bytes.specs.statement.Shown.{had_window}
 use Rattle.tl_bytes.proofs.WorkedBeats.{done, eight, part}
@@ -44,25 +45,22 @@ answered = takes (done 1 0 3) ∷ performed
 -- ---- what is taken
 
 put-taken : IsTaken 2 zeros (at-link 1) put_nothing.1 owned
-unfolding trace_in found_in memory_in on_link unfinished pending_accesses held_under all_but_early request_of is_free
-    carried_byte
-    carried_mask bytes_carried effect bytes_from number_from
-put-taken = still (at-link 1) put_nothing.1 owned refl (λ z address e. inl refl) (λ z access e. absurd cc)
+unfolding trace_in found_in memory_in on_link unfinished pending_accesses outrun_accesses held_under all_liberties
+    request_of is_free carried_byte carried_mask bytes_carried effect bytes_from number_from
+put-taken = still (at-link 1) put_nothing.1 owned refl (λ z e. absurd cc) (λ z address e. inl refl) (λ z access e. absurd cc)
     (λ z e. absurd cc)
     (λ block. refl) (λ given block. refl)
 
 probed-taken : IsTaken 2 zeros (at-link 0) (probed 0).1 (takes put_nothing ∷ owned)
-unfolding trace_in found_in memory_in on_link unfinished pending_accesses held_under all_but_early request_of is_free
-    carried_byte
-    carried_mask bytes_carried effect bytes_from number_from
-probed-taken = still (at-link 0) (probed 0).1 (takes put_nothing ∷ owned) refl (λ z address e. absurd cc)
+unfolding trace_in found_in memory_in on_link unfinished pending_accesses outrun_accesses held_under all_liberties
+    request_of is_free carried_byte carried_mask bytes_carried effect bytes_from number_from
+probed-taken = still (at-link 0) (probed 0).1 (takes put_nothing ∷ owned) refl (λ z e. absurd cc) (λ z address e. absurd cc)
     (λ z access e. absurd cc) (λ z e. absurd cc) (λ block. refl) (λ given block. refl)
 
 shown-taken : IsTaken 2 zeros (at-link 0) (reported 3).1 wanted
-unfolding trace_in found_in memory_in on_link unfinished pending_accesses held_under all_but_early request_of is_free
-    carried_byte
-    carried_mask bytes_carried effect bytes_from number_from
-shown-taken = still (at-link 0) (reported 3).1 wanted refl (λ z address e. absurd cc) (λ z access e. absurd cc)
+unfolding trace_in found_in memory_in on_link unfinished pending_accesses outrun_accesses held_under all_liberties
+    request_of is_free carried_byte carried_mask bytes_carried effect bytes_from number_from
+shown-taken = still (at-link 0) (reported 3).1 wanted refl (λ z e. absurd cc) (λ z address e. absurd cc) (λ z access e. absurd cc)
     (λ z e. absurd cc) (λ block. refl) same
   where
     same : (given : Perm) (block : ℕ) → is_free 2 given block ((at-link 0, (reported 3).1) ∷ trace_in wanted)
@@ -95,9 +93,8 @@ may-be-read address reached =
     inr (rw here refl, clean-shown address)
 
 put-performed : IsPerformed 2 zeros 1 0 everywhere shown
-unfolding trace_in found_in memory_in on_link unfinished pending_accesses held_under all_but_early request_of is_free
-    carried_byte
-    carried_mask bytes_carried effect bytes_from number_from
+unfolding trace_in found_in memory_in on_link unfinished pending_accesses outrun_accesses held_under all_liberties
+    request_of is_free carried_byte carried_mask bytes_carried effect bytes_from number_from
 put-performed = record {
   access = _;
   pending = refl;
@@ -109,8 +106,8 @@ put-performed = record {
 
 put-answered : (z : BeatD 8) (access : Access 8)
     → IsAnswer zeros 1 (response (done 1 0 3).1 z) (pending_of 1 0 performed access) performed
-unfolding trace_in found_in memory_in on_link unfinished pending_accesses held_under all_but_early request_of is_free
-    carried_mask bytes_carried effect bytes_from number_from
+unfolding trace_in found_in memory_in on_link unfinished pending_accesses outrun_accesses held_under all_liberties
+    request_of is_free carried_mask bytes_carried effect bytes_from number_from
 put-answered z access = record {
   written = λ address writing. refl;
   admitted = refl;
@@ -120,10 +117,9 @@ put-answered z access = record {
 }
 
 done-taken : IsTaken 2 zeros (at-link 1) (done 1 0 3).1 performed
-unfolding trace_in found_in memory_in on_link unfinished pending_accesses held_under all_but_early request_of is_free
-    carried_byte
-    carried_mask bytes_carried effect bytes_from number_from
-done-taken = still (at-link 1) (done 1 0 3).1 performed refl (λ z address e. absurd cc)
+unfolding trace_in found_in memory_in on_link unfinished pending_accesses outrun_accesses held_under all_liberties
+    request_of is_free carried_byte carried_mask bytes_carried effect bytes_from number_from
+done-taken = still (at-link 1) (done 1 0 3).1 performed refl (λ z e. refl) (λ z address e. absurd cc)
     (λ z access e granted pending. answers-one zeros 1 (response (done 1 0 3).1 z) (pending_of 1 0 performed access)
     performed refl (put-answered z access) z access e pending)
     (λ z e grant. cc) (λ block. refl) (λ given block. refl)
@@ -137,8 +133,8 @@ is_a_run = (
 
 -- before its answer it has had no window of its block: by M4 it may not be answered
 and_has_no_window : had_window 2 1 0 Perm.Trunk 0 (trace_in performed) ≡ false
-unfolding had_window trace_in on_link unfinished pending_accesses held_under all_but_early request_of is_free pending
-    probe_of
+unfolding had_window trace_in on_link unfinished pending_accesses outrun_accesses held_under all_liberties request_of
+    is_free pending probe_of
 and_has_no_window = refl
 
 its_request_is_open : is_some (open_request 0 (on_link 1 (trace_in performed))) ≡ true

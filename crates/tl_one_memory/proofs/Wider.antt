@@ -14,12 +14,13 @@ use Rattle.tl_rules.specs.statement.Effect.{bytes_from, number_from}
 use Rattle.tl_rules.specs.statement.Conformance.{Trace}
 use Rattle.tl_rules.specs.statement.History.{pending, probe_of, request_of}
 use Rattle.tl_rules.specs.statement.Liberties.{held_under}
-use Rattle.tl_bytes.specs.statement.Free.{all_but_early, may_hold}
+use Rattle.tl_bytes.specs.statement.Free.{all_liberties, may_hold}
+use Rattle.tl_bytes.specs.statement.Early.{outrun_accesses}
 use Rattle.tl_rules.specs.statement.Windows.{leaves}
 use Rattle.tl_bytes.specs.statement.Bytes.{carried_mask, could_be, tells}
 use Rattle.tl_bytes.proofs.WorkedBeats.{acquire_unread, eight, found, get, grant_unread}
 use Rattle.tl_one_memory.specs.statement.Run.{IsClean, MayBeRead, OneOf, TellsTrue, everywhere}
-use Rattle.tl_one_memory.proofs.Worked.{AsksRightly, answers-one, each-eight, first-eight}
+use Rattle.tl_one_memory.proofs.Worked.{AnswersLate, AsksRightly, answers-one, each-eight, first-eight}
 use Rattle.tl_one_memory.proofs.Worked.{pending_of, plain, response, single, takes, unequal, zeros}
 
 -- ---- beats of block 0
@@ -102,7 +103,7 @@ free-as given block s t e f = rw (e, f) refl
 
 -- a beat that tells nothing, is no Grant, and leaves each block as free as it was
 pub still : (link : Link) (x : Beat 8) (run : Run 8) → unfinished Channel.D (on_link link.0 (trace_in run)) ≡ []
-    → AsksRightly link x run
+    → AnswersLate link x run → AsksRightly link x run
     → ((z : BeatD 8) (access : Access 8) → x ≡ Beat.D z → z.denied ≡ false
     → find (is_of link.0 z.source) (pending_accesses (trace_in run)) ≡ Some access → IsAnswer zeros link.0 z access run)
     → ((z : BeatD 8) → x ≡ Beat.D z → z.opcode ≡ OpD.GrantData → ⊥)
@@ -110,58 +111,47 @@ pub still : (link : Link) (x : Beat 8) (run : Run 8) → unfinished Channel.D (o
     → ((given : Perm) (block : ℕ)
     → is_free 2 given block ((link, x) ∷ trace_in run) ≡ is_free 2 given block (trace_in run))
     → IsTaken 2 zeros link x run
-still link x run fresh asks answers no_grant untold same =
-    single link x run fresh asks answers no_grant
+still link x run fresh late asks answers no_grant untold same =
+    single link x run fresh late asks answers no_grant
     (λ address free told. absurd (unequal (sym told ∙ untold (block_at address))))
-    (λ block free closed. absurd (unequal (sym free ∙ sym (same Perm.Trunk block) ∙ closed)))
     (λ address held_so free. absurd (unequal (sym free ∙ same Perm.Branch (block_at address) ∙ held_so)))
 
 pub asked-taken : IsTaken {w = 8} 2 zeros (at-link 0) (acquire_unread 0 0 255).1 []
-unfolding trace_in found_in memory_in on_link unfinished pending_accesses held_under all_but_early request_of is_free
-    carried_byte
-    carried_mask bytes_carried effect bytes_from number_from
-asked-taken = plain (at-link 0) (acquire_unread 0 0 255).1 [] refl (λ z address e. inl refl) (λ z access e. absurd cc)
-    (λ z e. absurd cc) (λ block. refl) (λ block. refl) (λ block. (free_if (0 == block)).1)
+unfolding trace_in found_in memory_in on_link unfinished pending_accesses outrun_accesses held_under all_liberties
+    request_of is_free carried_byte carried_mask bytes_carried effect bytes_from number_from
+asked-taken = plain (at-link 0) (acquire_unread 0 0 255).1 [] refl (λ z e. absurd cc) (λ z address e. inl refl) (λ z access e. absurd cc)
+    (λ z e. absurd cc) (λ block. refl) (λ block. refl)
 
 -- with a Grant of Trunk a block isn't free, if it is the one that is told of
 pub granted_if : (b : Bool) → (leaves Perm.Branch (trunk_if b (none_if b)) && true) ≡ true → (b && true) ≡ true → ⊥
 granted_if true f t = cc
 granted_if false f t = cc
 
-pub told_if : (b : Bool) → (leaves Perm.Trunk (trunk_if b (none_if b)) && true) ≡ false → (b && true) ≡ true
-told_if true f = refl
-told_if false f = absurd cc
-
 pub granted-taken : IsTaken 2 zeros (at-link 0) (grant_unread 0 0 0).1 asked
-unfolding trace_in found_in memory_in on_link unfinished pending_accesses held_under all_but_early request_of is_free
-    carried_byte
-    carried_mask bytes_carried effect bytes_from number_from
-granted-taken = single (at-link 0) (grant_unread 0 0 0).1 asked refl (λ z address e. absurd cc)
+unfolding trace_in found_in memory_in on_link unfinished pending_accesses outrun_accesses held_under all_liberties
+    request_of is_free carried_byte carried_mask bytes_carried effect bytes_from number_from
+granted-taken = single (at-link 0) (grant_unread 0 0 0).1 asked refl (λ z e. refl) (λ z address e. absurd cc)
     (λ z access e granted pending. absurd cc) (λ z e grant. cc)
     (λ address free told. absurd (granted_if (0 == block_at address) free told))
-    (λ block free closed. told_if (0 == block) closed)
     (λ address held_so free. absurd (unequal (sym (free_if (0 == block_at address)).0 ∙ held_so)))
 
 get-taken : IsTaken 2 zeros (at-link 1) (get 1 0 3 255).1 owned
-unfolding trace_in found_in memory_in on_link unfinished pending_accesses held_under all_but_early request_of is_free
-    carried_byte
-    carried_mask bytes_carried effect bytes_from number_from
-get-taken = still (at-link 1) (get 1 0 3 255).1 owned refl (λ z address e. inl refl) (λ z access e. absurd cc)
+unfolding trace_in found_in memory_in on_link unfinished pending_accesses outrun_accesses held_under all_liberties
+    request_of is_free carried_byte carried_mask bytes_carried effect bytes_from number_from
+get-taken = still (at-link 1) (get 1 0 3 255).1 owned refl (λ z e. absurd cc) (λ z address e. inl refl) (λ z access e. absurd cc)
     (λ z e. absurd cc)
     (λ block. refl) (λ given block. refl)
 
 probed-taken : IsTaken 2 zeros (at-link 0) (probed 0).1 (takes (get 1 0 3 255) ∷ owned)
-unfolding trace_in found_in memory_in on_link unfinished pending_accesses held_under all_but_early request_of is_free
-    carried_byte
-    carried_mask bytes_carried effect bytes_from number_from
-probed-taken = still (at-link 0) (probed 0).1 (takes (get 1 0 3 255) ∷ owned) refl (λ z address e. absurd cc)
+unfolding trace_in found_in memory_in on_link unfinished pending_accesses outrun_accesses held_under all_liberties
+    request_of is_free carried_byte carried_mask bytes_carried effect bytes_from number_from
+probed-taken = still (at-link 0) (probed 0).1 (takes (get 1 0 3 255) ∷ owned) refl (λ z e. absurd cc) (λ z address e. absurd cc)
     (λ z access e. absurd cc) (λ z e. absurd cc) (λ block. refl) (λ given block. refl)
 
 shown-taken : IsTaken 2 zeros (at-link 0) (reported 3).1 wanted
-unfolding trace_in found_in memory_in on_link unfinished pending_accesses held_under all_but_early request_of is_free
-    carried_byte
-    carried_mask bytes_carried effect bytes_from number_from
-shown-taken = still (at-link 0) (reported 3).1 wanted refl (λ z address e. absurd cc) (λ z access e. absurd cc)
+unfolding trace_in found_in memory_in on_link unfinished pending_accesses outrun_accesses held_under all_liberties
+    request_of is_free carried_byte carried_mask bytes_carried effect bytes_from number_from
+shown-taken = still (at-link 0) (reported 3).1 wanted refl (λ z e. absurd cc) (λ z address e. absurd cc) (λ z access e. absurd cc)
     (λ z e. absurd cc) (λ block. refl) same
   where
     same : (given : Perm) (block : ℕ) → is_free 2 given block ((at-link 0, (reported 3).1) ∷ trace_in wanted)
@@ -190,7 +180,7 @@ tells-anything address = go (address % 64 / 8 == 0) (address % 64 % 8)
     go false n = refl
 
 pub clean-owned : (address : ℕ) → IsClean 2 zeros address owned
-unfolding IsClean trace_in on_link held_under all_but_early is_free unfinished
+unfolding IsClean trace_in on_link held_under all_liberties is_free unfinished
 clean-owned address = inr (either (tells (block_at address) (grant_unread 0 0 0).1 (on_link 0 (trace_in asked)))
     (tells-anything address) (inl (free_if (0 == block_at address)).0))
 
@@ -211,9 +201,8 @@ may-be-read address reached =
     inr (rw here refl, clean-shown address)
 
 get-performed : IsPerformed 2 zeros 1 0 everywhere shown
-unfolding trace_in found_in memory_in on_link unfinished pending_accesses held_under all_but_early request_of is_free
-    carried_byte
-    carried_mask bytes_carried effect bytes_from number_from
+unfolding trace_in found_in memory_in on_link unfinished pending_accesses outrun_accesses held_under all_liberties
+    request_of is_free carried_byte carried_mask bytes_carried effect bytes_from number_from
 get-performed = record {
   access = _;
   pending = refl;
@@ -235,8 +224,8 @@ zeros-found address reached =
 
 get-answered : (z : BeatD 8) (access : Access 8)
     → IsAnswer zeros 1 (response (found 1 0 3 (eight 0)).1 z) (pending_of 1 0 looked access) looked
-unfolding trace_in found_in memory_in on_link unfinished pending_accesses held_under all_but_early request_of is_free
-    carried_mask bytes_carried effect bytes_from number_from
+unfolding trace_in found_in memory_in on_link unfinished pending_accesses outrun_accesses held_under all_liberties
+    request_of is_free carried_mask bytes_carried effect bytes_from number_from
 get-answered z access = record {
   written = λ address writing. refl;
   admitted = refl;
@@ -247,10 +236,9 @@ get-answered z access = record {
 }
 
 found-taken : IsTaken 2 zeros (at-link 1) (found 1 0 3 (eight 0)).1 looked
-unfolding trace_in found_in memory_in on_link unfinished pending_accesses held_under all_but_early request_of is_free
-    carried_byte
-    carried_mask bytes_carried effect bytes_from number_from
-found-taken = still (at-link 1) (found 1 0 3 (eight 0)).1 looked refl (λ z address e. absurd cc)
+unfolding trace_in found_in memory_in on_link unfinished pending_accesses outrun_accesses held_under all_liberties
+    request_of is_free carried_byte carried_mask bytes_carried effect bytes_from number_from
+found-taken = still (at-link 1) (found 1 0 3 (eight 0)).1 looked refl (λ z e. refl) (λ z address e. absurd cc)
     (λ z access e granted pending. answers-one zeros 1 (response (found 1 0 3 (eight 0)).1 z)
     (pending_of 1 0 looked access)
     looked refl (get-answered z access) z access e pending)
@@ -259,31 +247,17 @@ found-taken = still (at-link 1) (found 1 0 3 (eight 0)).1 looked refl (λ z addr
 -- ---- Trunk is given up
 
 probed-again : IsTaken 2 zeros (at-link 0) (probed 2).1 read
-unfolding trace_in found_in memory_in on_link unfinished pending_accesses held_under all_but_early request_of is_free
-    carried_byte
-    carried_mask bytes_carried effect bytes_from number_from
-probed-again = still (at-link 0) (probed 2).1 read refl (λ z address e. absurd cc) (λ z access e. absurd cc)
+unfolding trace_in found_in memory_in on_link unfinished pending_accesses outrun_accesses held_under all_liberties
+    request_of is_free carried_byte carried_mask bytes_carried effect bytes_from number_from
+probed-again = still (at-link 0) (probed 2).1 read refl (λ z e. absurd cc) (λ z address e. absurd cc) (λ z access e. absurd cc)
     (λ z e. absurd cc) (λ block. refl) (λ given block. refl)
 
 given_up-taken : IsTaken 2 zeros (at-link 0) (reported 1).1 (takes (probed 2) ∷ read)
-unfolding trace_in found_in memory_in on_link unfinished pending_accesses held_under all_but_early request_of is_free
-    carried_byte
-    carried_mask bytes_carried effect bytes_from number_from
-given_up-taken = single (at-link 0) (reported 1).1 (takes (probed 2) ∷ read) refl (λ z address e. absurd cc)
-    (λ z access e. absurd cc) (λ z e. absurd cc) (λ address free told. absurd cc) closes
+unfolding trace_in found_in memory_in on_link unfinished pending_accesses outrun_accesses held_under all_liberties
+    request_of is_free carried_byte carried_mask bytes_carried effect bytes_from number_from
+given_up-taken = single (at-link 0) (reported 1).1 (takes (probed 2) ∷ read) refl (λ z e. absurd cc) (λ z address e. absurd cc)
+    (λ z access e. absurd cc) (λ z e. absurd cc) (λ address free told. absurd cc)
     (λ address held_so free. inr (clean-read address))
-  where
-    closes : (block : ℕ) → is_free 2 Perm.Trunk block (trace_in (takes (probed 2) ∷ read)) ≡ true
-        → is_free 2 Perm.Trunk block ((at-link 0, (reported 1).1) ∷ trace_in (takes (probed 2) ∷ read)) ≡ false
-        → tells block (reported 1).1 (on_link 0 (trace_in (takes (probed 2) ∷ read))) ≡ true
-    closes block free closed = absurd (go (0 == block) free closed)
-      where
-        go : (b : Bool) → (leaves Perm.Trunk (trunk_if b (trunk_if b (none_if b))) && true) ≡ true
-            → (leaves Perm.Trunk (unwrap_or (if b then Some Perm.None else None) (trunk_if b (trunk_if b (none_if b))))
-            && true)
-            ≡ false → ⊥
-        go true f g = cc
-        go false f g = cc
 
 shows_a_clean_copy : IsRun 2 zeros given_up
 unfolding IsRun

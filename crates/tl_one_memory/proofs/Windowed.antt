@@ -2,7 +2,7 @@
 use Rattle.tl_one_memory.proofs.Imports.{Beat, BeatD, Link, reaches, unfinished}
 use Rattle.tl_one_memory.proofs.Imports.{Trace, on_link, Memory, block_at, is_free}
 use Rattle.tl_one_memory.proofs.Imports.{Access, access_writes, pending_accesses, same-some, IsPending, IsPerformed}
-use Rattle.tl_one_memory.proofs.Imports.{IsAnswer, IsRun, IsTaken, Performs, Run, Stores, Takes, found_in, trace_in}
+use Rattle.tl_one_memory.proofs.Imports.{IsAnswer, IsRun, IsTaken, Leaves, Performs, Run, Stores, Takes, found_in, trace_in}
 use Rattle.std.proofs.Common.{◌≡◌, ◌/◌, ℕ, Bool, true, false, not, ◌&&◌, ◌||◌, [], ◌∷◌, inl, inr, refl, sym, ap, ◌∙◌}
 use Rattle.std.proofs.Common.{length}
 use Rattle.std.specs.Prelude.{◌==◌, nat_le, Some}
@@ -10,7 +10,8 @@ use Rattle.std.proofs.lemmas.Bool.{and_parts, eqb-true, leb-true, or_left, or_ri
 use Rattle.tl_beat.specs.declared.{channel.Channel.Channel, opcode.OpA.OpA}
 use Rattle.tl_params.specs.declared.perm.Perm.{Perm}
 use Rattle.tl_rules.specs.statement.Windows.{needs}
-use Rattle.tl_bytes.specs.statement.Bytes.{asks}
+use Rattle.tl_bytes.specs.statement.Bytes.{asks_new}
+use Rattle.tl_bytes.specs.statement.Early.{outrun_accesses}
 use Rattle.tl_bytes.specs.statement.Shown.{is_window}
 use Rattle.tl_bytes.proofs.Finding.{none-some}
 use Rattle.tl_bytes.proofs.Pending.{pending-before}
@@ -91,9 +92,9 @@ module _ {w : ℕ} (n : ℕ) (first : Memory) where
 
       go : (b : Bool) → asks_now c s address (link, Beat.A z) t ≡ b → b ≡ false
       go true e =
-          let own = and_parts (link.0 == c) ((z.source == s) && (asks z (on_link link.0 t) && not came)) e in
-          let same = and_parts (z.source == s) (asks z (on_link link.0 t) && not came) own.1 in
-          let asked = and_parts (asks z (on_link link.0 t)) (not came) same.1 in
+          let own = and_parts (link.0 == c) ((z.source == s) && (asks_new link.0 z (on_link link.0 t) (outrun_accesses t) && not came)) e in
+          let same = and_parts (z.source == s) (asks_new link.0 z (on_link link.0 t) (outrun_accesses t) && not came) own.1 in
+          let asked = and_parts (asks_new link.0 z (on_link link.0 t) (outrun_accesses t)) (not came) same.1 in
           elim (taken.asks_new z address refl asked.0) [
             | inl none ↦ absurd (none-some v (sym none
                 ∙ rw (eqb-true link.0 c own.0, eqb-true z.source s same.0) found))
@@ -166,14 +167,15 @@ module _ {w : ℕ} (n : ℕ) (first : Memory) where
   are-windowed (Takes link x ∷ run) is = windowed-taken link x run is.0 is.1 (are-windowed run is.1)
   are-windowed (Performs d i test left ∷ run) is = windowed-performed d i test left run is.0 (are-windowed run is.1)
   are-windowed (Stores block bytes ∷ run) is = are-windowed run is.1
+  are-windowed (Leaves d i bytes ∷ run) is = are-windowed run is.1
 
   answered-after : (link : Link) (z : BeatD w) (run : Run w) → IsTaken n first link (Beat.D z) run → IsRun n first run
       → IsAfterWindows n link.0 (Beat.D z) (trace_in run)
-  answered-after link z run taken is access no_ack granted pending address touched =
+  answered-after link z run taken is access no_ack granted late pending address touched =
       by (access_writes address access) refl
     where
       answer : IsAnswer first link.0 z access run
-      answer = taken.answers_rightly z access refl no_ack granted pending
+      answer = taken.answers_rightly z access refl no_ack granted late pending
 
       had : (v : ℕ) → found_in first link.0 z.source run address ≡ Some v → touches address access ≡ true
           → had_window_since n link.0 z.source (needs access.request.opcode) address (trace_in run) ≡ true
@@ -215,3 +217,4 @@ module _ {w : ℕ} (n : ℕ) (first : Memory) where
   all-after-windows (Takes link x ∷ run) is = (after-windows link x run is.0 is.1, all-after-windows run is.1)
   all-after-windows (Performs d i test left ∷ run) is = all-after-windows run is.1
   all-after-windows (Stores block bytes ∷ run) is = all-after-windows run is.1
+  all-after-windows (Leaves d i bytes ∷ run) is = all-after-windows run is.1

@@ -1,8 +1,8 @@
 -- A worked run: one link writes eight bytes, and then another reads them.
 use Rattle.tl_one_memory.proofs.Imports.{Beat, BeatD, Link, reaches, unfinished, on_link, Memory, effect, block_at}
-use Rattle.tl_one_memory.proofs.Imports.{is_free, Access, carried_byte, is_of, pending_accesses, IsAnswer, IsPerformed}
+use Rattle.tl_one_memory.proofs.Imports.{is_free, is_release_ack, Access, carried_byte, is_of, pending_accesses, IsAnswer, IsPerformed}
 use Rattle.tl_one_memory.proofs.Imports.{IsRun, IsTaken, Performs, Run, Takes, found_in, memory_in, trace_in}
-use Rattle.std.proofs.Common.{◌≡◌, ◌-◌, ◌*◌, ◌/◌, ℕ, zero, suc, true, false, List, [], ◌∷◌, refl, sym, ◌∙◌, subst}
+use Rattle.std.proofs.Common.{◌≡◌, ◌-◌, ◌*◌, ◌/◌, ◌&&◌, ℕ, zero, suc, Bool, true, false, not, List, [], ◌∷◌, refl, sym, ◌∙◌, subst}
 use Rattle.std.proofs.Common.{arith, inl, inr, ◌⊎◌, ◌<◌}
 use Rattle.std.specs.Prelude.{find, nat_le, nat_lt, Some, None, unwrap_or}
 use Rattle.std.proofs.lemmas.Bool.{and_parts, ltb-true}
@@ -13,7 +13,8 @@ use Rattle.tl_rules.specs.statement.Admission.{bytes_carried}
 use Rattle.tl_rules.specs.statement.Effect.{bytes_from, number_from}
 use Rattle.tl_rules.specs.statement.History.{request_of}
 use Rattle.tl_rules.specs.statement.Liberties.{held_under}
-use Rattle.tl_bytes.specs.statement.Free.{all_but_early}
+use Rattle.tl_bytes.specs.statement.Free.{all_liberties}
+use Rattle.tl_bytes.specs.statement.Early.{outrun_accesses, outruns}
 use Rattle.tl_bytes.specs.statement.Bytes.{carried_mask, tells}
 use Rattle.tl_bytes.proofs.WorkedBeats.{done, eight, found, get, put}
 use Rattle.tl_one_memory.specs.statement.Run.{GoesOn, Happening, IsClean, TellsTrue, everywhere}
@@ -62,45 +63,53 @@ AsksRightly link x run = (z : BeatA 8) (address : ℕ) → x ≡ Beat.A z
     → (found_in zeros link.0 z.source run address ≡ None)
     ⊎ GoesOn z (unfinished Channel.A (on_link link.0 (trace_in run))) address
 
+-- no request is unfinished at a response
+abbrev pub AnswersLate : Link → Beat 8 → Run 8 → Type 0
+AnswersLate link x run = (z : BeatD 8) → x ≡ Beat.D z → unfinished Channel.A (on_link link.0 (trace_in run)) ≡ []
+
 -- a beat that begins where no response has, and grants no data
 pub single : (link : Link) (x : Beat 8) (run : Run 8) → unfinished Channel.D (on_link link.0 (trace_in run)) ≡ []
-    → AsksRightly link x run
+    → AnswersLate link x run → AsksRightly link x run
     → ((z : BeatD 8) (access : Access 8) → x ≡ Beat.D z → z.denied ≡ false
     → find (is_of link.0 z.source) (pending_accesses (trace_in run)) ≡ Some access → IsAnswer zeros link.0 z access run)
     → ((z : BeatD 8) → x ≡ Beat.D z → z.opcode ≡ OpD.GrantData → ⊥)
     → ((address : ℕ) → is_free 2 Perm.Branch (block_at address) ((link, x) ∷ trace_in run) ≡ true
     → tells (block_at address) x (on_link link.0 (trace_in run)) ≡ true → TellsTrue zeros address link x run)
-    → ((block : ℕ) → is_free 2 Perm.Trunk block (trace_in run) ≡ true
-    → is_free 2 Perm.Trunk block ((link, x) ∷ trace_in run) ≡ false
-    → tells block x (on_link link.0 (trace_in run)) ≡ true)
     → ((address : ℕ) → is_free 2 Perm.Branch (block_at address) (trace_in run) ≡ false
     → is_free 2 Perm.Branch (block_at address) ((link, x) ∷ trace_in run) ≡ true
     → (tells (block_at address) x (on_link link.0 (trace_in run)) ≡ true) ⊎ IsClean 2 zeros address run)
     → IsTaken 2 zeros link x run
-single link x run fresh asks answers no_grant tells_so closes gives = record {
+single link x run fresh late asks answers no_grant tells_so gives = record {
   asks_new = λ z address e asked. asks z address e;
   asks_first = λ z y older e asked begun no_ack same. nil-cons (Beat.D y) older (sym fresh ∙ begun);
+  outruns_own = λ z y older address e early begun. absurd (nil-cons (Beat.A y) older (sym (late z e) ∙ begun));
+  outruns_put = λ z access e early. absurd (unequal (sym early ∙ in-time z (late z e)));
   continues = λ z y older e begun. absurd (nil-cons (Beat.D y) older (sym fresh ∙ begun));
-  answers_rightly = λ z access e no_ack granted pending. answers z access e granted pending;
-  grants_rightly = λ z asked e grant sound open_so. absurd (no_grant z e grant);
+  answers_rightly = λ z access e no_ack granted in_time pending. answers z access e granted pending;
+  grants_rightly = λ z asked e grant sound open_so sure. absurd (no_grant z e grant);
   tells_rightly = λ address free told. tells_so address free told;
-  closes_told = λ block free closed. closes block free closed;
   given_up_rightly = λ address held_so free. gives address held_so free;
 }
+  where
+    in-time : (z : BeatD 8) → unfinished Channel.A (on_link link.0 (trace_in run)) ≡ []
+        → outruns z (on_link link.0 (trace_in run)) ≡ false
+    in-time z none = rw none (never (not (is_release_ack z.opcode)))
+      where
+        never : (b : Bool) → b && false ≡ false
+        never true = refl
+        never false = refl
 
 -- one that tells nothing, where no link holds anything
 pub plain : (link : Link) (x : Beat 8) (run : Run 8) → unfinished Channel.D (on_link link.0 (trace_in run)) ≡ []
-    → AsksRightly link x run
+    → AnswersLate link x run → AsksRightly link x run
     → ((z : BeatD 8) (access : Access 8) → x ≡ Beat.D z → z.denied ≡ false
     → find (is_of link.0 z.source) (pending_accesses (trace_in run)) ≡ Some access → IsAnswer zeros link.0 z access run)
     → ((z : BeatD 8) → x ≡ Beat.D z → z.opcode ≡ OpD.GrantData → ⊥)
     → ((block : ℕ) → tells block x (on_link link.0 (trace_in run)) ≡ false)
-    → ((block : ℕ) → is_free 2 Perm.Branch block (trace_in run) ≡ true)
-    → ((block : ℕ) → is_free 2 Perm.Trunk block ((link, x) ∷ trace_in run) ≡ true) → IsTaken 2 zeros link x run
-plain link x run fresh asks answers no_grant untold before after =
-    single link x run fresh asks answers no_grant
+    → ((block : ℕ) → is_free 2 Perm.Branch block (trace_in run) ≡ true) → IsTaken 2 zeros link x run
+plain link x run fresh late asks answers no_grant untold before =
+    single link x run fresh late asks answers no_grant
     (λ address free told. absurd (unequal (sym told ∙ untold (block_at address))))
-    (λ block free closed. absurd (unequal (sym (after block) ∙ closed)))
     (λ address held_so free. absurd (unequal (sym (before (block_at address)) ∙ held_so)))
 
 -- a response in a beat, and an access among those that are pending
@@ -112,20 +121,18 @@ abbrev pub pending_of : ℕ → ℕ → Run 8 → Access 8 → Access 8
 pending_of link source run other = unwrap_or (find (is_of link source) (pending_accesses (trace_in run))) other
 
 put-taken : IsTaken {w = 8} 2 zeros (record { 0 = 0 }) (put 0 0 3 (eight 7) 255).1 []
-unfolding trace_in found_in memory_in on_link unfinished pending_accesses held_under all_but_early request_of is_free
-    carried_byte
-    carried_mask bytes_carried effect bytes_from number_from
-put-taken = plain (record { 0 = 0 }) (put 0 0 3 (eight 7) 255).1 [] refl (λ z address e. inl refl)
+unfolding trace_in found_in memory_in on_link unfinished pending_accesses outrun_accesses held_under all_liberties
+    request_of is_free carried_byte carried_mask bytes_carried effect bytes_from number_from
+put-taken = plain (record { 0 = 0 }) (put 0 0 3 (eight 7) 255).1 [] refl (λ z e. absurd cc) (λ z address e. inl refl)
     (λ z access e. absurd cc)
-    (λ z e. absurd cc) (λ block. refl) (λ block. refl) (λ block. refl)
+    (λ z e. absurd cc) (λ block. refl) (λ block. refl)
 
 abbrev asked : Run 8
 asked = takes (put 0 0 3 (eight 7) 255) ∷ []
 
 put-performed : IsPerformed 2 zeros 0 0 everywhere asked
-unfolding trace_in found_in memory_in on_link unfinished pending_accesses held_under all_but_early request_of is_free
-    carried_byte
-    carried_mask bytes_carried effect bytes_from number_from
+unfolding trace_in found_in memory_in on_link unfinished pending_accesses outrun_accesses held_under all_liberties
+    request_of is_free carried_byte carried_mask bytes_carried effect bytes_from number_from
 put-performed = record {
   access = _;
   pending = refl;
@@ -140,9 +147,8 @@ performed = Performs 0 0 everywhere zeros ∷ asked
 
 put-answered : (z : BeatD 8) (access : Access 8)
     → IsAnswer zeros 0 (response (done 0 0 3).1 z) (pending_of 0 0 performed access) performed
-unfolding trace_in found_in memory_in on_link unfinished pending_accesses held_under all_but_early request_of is_free
-    carried_byte
-    carried_mask bytes_carried effect bytes_from number_from
+unfolding trace_in found_in memory_in on_link unfinished pending_accesses outrun_accesses held_under all_liberties
+    request_of is_free carried_byte carried_mask bytes_carried effect bytes_from number_from
 put-answered z access = record {
   written = λ address writing. refl;
   admitted = refl;
@@ -152,28 +158,25 @@ put-answered z access = record {
 }
 
 done-taken : IsTaken 2 zeros (record { 0 = 0 }) (done 0 0 3).1 performed
-unfolding trace_in found_in memory_in on_link unfinished pending_accesses held_under all_but_early request_of is_free
-    carried_byte
-    carried_mask bytes_carried effect bytes_from number_from
-done-taken = plain (record { 0 = 0 }) (done 0 0 3).1 performed refl (λ z address e. absurd cc)
+unfolding trace_in found_in memory_in on_link unfinished pending_accesses outrun_accesses held_under all_liberties
+    request_of is_free carried_byte carried_mask bytes_carried effect bytes_from number_from
+done-taken = plain (record { 0 = 0 }) (done 0 0 3).1 performed refl (λ z e. refl) (λ z address e. absurd cc)
     (λ z access e granted pending. answers-one zeros 0 (response (done 0 0 3).1 z) (pending_of 0 0 performed access)
     performed
-    refl (put-answered z access) z access e pending) (λ z e grant. cc) (λ block. refl) (λ block. refl) (λ block. refl)
+    refl (put-answered z access) z access e pending) (λ z e grant. cc) (λ block. refl) (λ block. refl)
 
 get-taken : IsTaken 2 zeros (record { 0 = 1 }) (get 1 0 3 255).1 written
-unfolding trace_in found_in memory_in on_link unfinished pending_accesses held_under all_but_early request_of is_free
-    carried_byte
-    carried_mask bytes_carried effect bytes_from number_from
-get-taken = plain (record { 0 = 1 }) (get 1 0 3 255).1 written refl (λ z address e. inl refl) (λ z access e. absurd cc)
-    (λ z e. absurd cc) (λ block. refl) (λ block. refl) (λ block. refl)
+unfolding trace_in found_in memory_in on_link unfinished pending_accesses outrun_accesses held_under all_liberties
+    request_of is_free carried_byte carried_mask bytes_carried effect bytes_from number_from
+get-taken = plain (record { 0 = 1 }) (get 1 0 3 255).1 written refl (λ z e. absurd cc) (λ z address e. inl refl) (λ z access e. absurd cc)
+    (λ z e. absurd cc) (λ block. refl) (λ block. refl)
 
 abbrev wanted : Run 8
 wanted = takes (get 1 0 3 255) ∷ written
 
 get-performed : IsPerformed 2 zeros 1 0 everywhere wanted
-unfolding trace_in found_in memory_in on_link unfinished pending_accesses held_under all_but_early request_of is_free
-    carried_byte
-    carried_mask bytes_carried effect bytes_from number_from
+unfolding trace_in found_in memory_in on_link unfinished pending_accesses outrun_accesses held_under all_liberties
+    request_of is_free carried_byte carried_mask bytes_carried effect bytes_from number_from
 get-performed = record {
   access = _;
   pending = refl;
@@ -206,17 +209,15 @@ each-eight P a b c d e f g h (suc (suc (suc (suc (suc (suc (suc (suc n)))))))) r
 -- memory has the bytes that were written
 sevens : (address : ℕ) → reaches 0 3 address ≡ true → carried_byte {w = 8} ((found 1 0 3 (eight 7)).1 ∷ [])
     (address - 8 * (0 / 8)) ≡ Some (memory_in zeros wanted address)
-unfolding trace_in found_in memory_in on_link unfinished pending_accesses held_under all_but_early request_of is_free
-    carried_byte
-    carried_mask bytes_carried effect bytes_from number_from
+unfolding trace_in found_in memory_in on_link unfinished pending_accesses outrun_accesses held_under all_liberties
+    request_of is_free carried_byte carried_mask bytes_carried effect bytes_from number_from
 sevens address reached = each-eight (λ k. carried_byte {w = 8} ((found 1 0 3 (eight 7)).1 ∷ []) (k - 8 * (0 / 8))
     ≡ Some (memory_in zeros wanted k)) refl refl refl refl refl refl refl refl address reached
 
 get-answered : (z : BeatD 8) (access : Access 8)
     → IsAnswer zeros 1 (response (found 1 0 3 (eight 7)).1 z) (pending_of 1 0 looked access) looked
-unfolding trace_in found_in memory_in on_link unfinished pending_accesses held_under all_but_early request_of is_free
-    carried_byte
-    carried_mask bytes_carried effect bytes_from number_from
+unfolding trace_in found_in memory_in on_link unfinished pending_accesses outrun_accesses held_under all_liberties
+    request_of is_free carried_byte carried_mask bytes_carried effect bytes_from number_from
 get-answered z access = record {
   written = λ address writing. refl;
   admitted = refl;
@@ -227,14 +228,13 @@ get-answered z access = record {
 }
 
 found-taken : IsTaken 2 zeros (record { 0 = 1 }) (found 1 0 3 (eight 7)).1 looked
-unfolding trace_in found_in memory_in on_link unfinished pending_accesses held_under all_but_early request_of is_free
-    carried_byte
-    carried_mask bytes_carried effect bytes_from number_from
-found-taken = plain (record { 0 = 1 }) (found 1 0 3 (eight 7)).1 looked refl (λ z address e. absurd cc)
+unfolding trace_in found_in memory_in on_link unfinished pending_accesses outrun_accesses held_under all_liberties
+    request_of is_free carried_byte carried_mask bytes_carried effect bytes_from number_from
+found-taken = plain (record { 0 = 1 }) (found 1 0 3 (eight 7)).1 looked refl (λ z e. refl) (λ z address e. absurd cc)
     (λ z access e granted pending. answers-one zeros 1 (response (found 1 0 3 (eight 7)).1 z)
     (pending_of 1 0 looked access)
     looked refl (get-answered z access) z access e pending)
-    (λ z e grant. cc) (λ block. refl) (λ block. refl) (λ block. refl)
+    (λ z e grant. cc) (λ block. refl) (λ block. refl)
 
 pub is_written : IsRun 2 zeros written
 unfolding IsRun

@@ -13,13 +13,14 @@ use Rattle.tl_rules.specs.statement.Admission.{bytes_carried}
 use Rattle.tl_rules.specs.statement.Effect.{bytes_from, number_from}
 use Rattle.tl_rules.specs.statement.History.{pending, probe_of, request_of}
 use Rattle.tl_rules.specs.statement.Liberties.{held_under}
-use Rattle.tl_bytes.specs.statement.Free.{all_but_early}
+use Rattle.tl_bytes.specs.statement.Free.{all_liberties}
+use Rattle.tl_bytes.specs.statement.Early.{outrun_accesses}
 use Rattle.tl_bytes.specs.statement.Bytes.{carried_mask}
 unfoldable use Rattle.tl_bytes.specs.statement.Shown.{had_window}
 use Rattle.tl_bytes.proofs.WorkedBeats.{done, eight, grant_unread, part}
 use Rattle.tl_memory.proofs.{Payloads.bit_below, Puts.placed}
 use Rattle.tl_one_memory.proofs.Beatwise.{first_half, half-asked}
-use Rattle.tl_one_memory.proofs.Wider.{asked, asked-taken, at-link, free_if, granted_if, still, told_if}
+use Rattle.tl_one_memory.proofs.Wider.{asked, asked-taken, at-link, free_if, granted_if, still}
 use Rattle.tl_one_memory.proofs.Worked.{answers-one, pending_of, response, single, takes, unequal, zeros}
 
 -- the two beats of a Put of 16 bytes, of which the second has no byte in its mask
@@ -49,16 +50,14 @@ answered = takes (done 1 0 4) ∷ whole
 -- ---- what happens
 
 begun-taken : IsTaken 2 zeros (at-link 1) sevens.1 asked
-unfolding trace_in found_in memory_in on_link unfinished pending_accesses held_under all_but_early request_of is_free
-    carried_byte
-    carried_mask bytes_carried effect bytes_from number_from
-begun-taken = still (at-link 1) sevens.1 asked refl (λ z address e. inl refl) (λ z access e. absurd cc)
+unfolding trace_in found_in memory_in on_link unfinished pending_accesses outrun_accesses held_under all_liberties
+    request_of is_free carried_byte carried_mask bytes_carried effect bytes_from number_from
+begun-taken = still (at-link 1) sevens.1 asked refl (λ z e. absurd cc) (λ z address e. inl refl) (λ z access e. absurd cc)
     (λ z e. absurd cc) (λ block. refl) (λ given block. refl)
 
 half-performed : IsPerformed 2 zeros 1 0 first_half begun
-unfolding trace_in found_in memory_in on_link unfinished pending_accesses held_under all_but_early request_of is_free
-    carried_byte
-    carried_mask bytes_carried effect bytes_from number_from
+unfolding trace_in found_in memory_in on_link unfinished pending_accesses outrun_accesses held_under all_liberties
+    request_of is_free carried_byte carried_mask bytes_carried effect bytes_from number_from
 half-performed = record {
   access = _;
   pending = refl;
@@ -69,35 +68,30 @@ half-performed = record {
 }
 
 granted-taken : IsTaken 2 zeros (at-link 0) (grant_unread 0 0 0).1 half_written
-unfolding trace_in found_in memory_in on_link unfinished pending_accesses held_under all_but_early request_of is_free
-    carried_byte
-    carried_mask bytes_carried effect bytes_from number_from
-granted-taken = single (at-link 0) (grant_unread 0 0 0).1 half_written refl (λ z address e. absurd cc)
+unfolding trace_in found_in memory_in on_link unfinished pending_accesses outrun_accesses held_under all_liberties
+    request_of is_free carried_byte carried_mask bytes_carried effect bytes_from number_from
+granted-taken = single (at-link 0) (grant_unread 0 0 0).1 half_written refl (λ z e. refl) (λ z address e. absurd cc)
     (λ z access e granted pending. absurd cc) (λ z e grant. cc)
     (λ address free told. absurd (granted_if (0 == block_at address) free told))
-    (λ block free closed. told_if (0 == block) closed)
     (λ address held_so free. absurd (unequal (sym (free_if (0 == block_at address)).0 ∙ held_so)))
 
 unwritten : (address : ℕ) → nat_lt address 8 ≡ false → found_in zeros 1 0 granted address ≡ None
-unfolding trace_in found_in memory_in on_link unfinished pending_accesses held_under all_but_early request_of is_free
-    carried_byte
-    carried_mask bytes_carried effect bytes_from number_from
+unfolding trace_in found_in memory_in on_link unfinished pending_accesses outrun_accesses held_under all_liberties
+    request_of is_free carried_byte carried_mask bytes_carried effect bytes_from number_from
 unwritten address f = rw f refl
 
 whole-taken : IsTaken 2 zeros (at-link 1) nothing.1 granted
-unfolding trace_in found_in memory_in on_link unfinished pending_accesses held_under all_but_early request_of is_free
-    carried_byte
-    carried_mask bytes_carried effect bytes_from number_from
-whole-taken = still (at-link 1) nothing.1 granted refl
+unfolding trace_in found_in memory_in on_link unfinished pending_accesses outrun_accesses held_under all_liberties
+    request_of is_free carried_byte carried_mask bytes_carried effect bytes_from number_from
+whole-taken = still (at-link 1) nothing.1 granted refl (λ z e. absurd cc)
     (half-asked (at-link 1) _ _ granted refl refl refl refl refl unwritten) (λ z access e. absurd cc)
     (λ z e. absurd cc) (λ block. refl) (λ given block. refl)
 
 -- what has a bit in the mask was written with the first beat
 masked : (address : ℕ) (payload : List ℕ) (place : Option ℕ) → place_of 8 0 address ≡ place
     → is_some (byte_if (λ p. bit 255 p) payload place) ≡ true → is_some (found_in zeros 1 0 whole address) ≡ true
-unfolding trace_in found_in memory_in on_link unfinished pending_accesses held_under all_but_early request_of is_free
-    carried_byte
-    carried_mask bytes_carried effect bytes_from number_from
+unfolding trace_in found_in memory_in on_link unfinished pending_accesses outrun_accesses held_under all_liberties
+    request_of is_free carried_byte carried_mask bytes_carried effect bytes_from number_from
 masked address payload None at_it some = absurd cc
 masked address payload (Some p) at_it some = go (bit 255 p) refl some
   where
@@ -111,8 +105,8 @@ masked address payload (Some p) at_it some = go (bit 255 p) refl some
 
 put-answered : (z : BeatD 8) (access : Access 8)
     → IsAnswer zeros 1 (response (done 1 0 4).1 z) (pending_of 1 0 whole access) whole
-unfolding trace_in found_in memory_in on_link unfinished pending_accesses held_under all_but_early request_of is_free
-    carried_mask bytes_carried effect bytes_from number_from
+unfolding trace_in found_in memory_in on_link unfinished pending_accesses outrun_accesses held_under all_liberties
+    request_of is_free carried_mask bytes_carried effect bytes_from number_from
 put-answered z access = record {
   written = λ address writing. masked address (eight 7 ++ eight 0) (place_of 8 0 address) refl writing;
   admitted = refl;
@@ -122,10 +116,9 @@ put-answered z access = record {
 }
 
 done-taken : IsTaken 2 zeros (at-link 1) (done 1 0 4).1 whole
-unfolding trace_in found_in memory_in on_link unfinished pending_accesses held_under all_but_early request_of is_free
-    carried_byte
-    carried_mask bytes_carried effect bytes_from number_from
-done-taken = still (at-link 1) (done 1 0 4).1 whole refl (λ z address e. absurd cc)
+unfolding trace_in found_in memory_in on_link unfinished pending_accesses outrun_accesses held_under all_liberties
+    request_of is_free carried_byte carried_mask bytes_carried effect bytes_from number_from
+done-taken = still (at-link 1) (done 1 0 4).1 whole refl (λ z e. refl) (λ z address e. absurd cc)
     (λ z access e granted pending. answers-one zeros 1 (response (done 1 0 4).1 z) (pending_of 1 0 whole access) whole
     refl
     (put-answered z access) z access e pending)
@@ -140,8 +133,8 @@ is_a_run = (
 
 -- before its answer it has had no window of its block since its request is complete: by M4 it may not be answered
 and_has_no_window : had_window 2 1 0 Perm.Trunk 0 (trace_in whole) ≡ false
-unfolding had_window trace_in on_link unfinished pending_accesses held_under all_but_early request_of is_free pending
-    probe_of
+unfolding had_window trace_in on_link unfinished pending_accesses outrun_accesses held_under all_liberties request_of
+    is_free pending probe_of
 and_has_no_window = refl
 
 its_request_is_open : is_some (open_request 0 (on_link 1 (trace_in whole))) ≡ true

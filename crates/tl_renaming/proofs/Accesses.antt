@@ -1,16 +1,19 @@
 -- The accesses that are pending after a renamed trace.
-use Rattle.tl_renaming.proofs.Imports.{Beat, A, B, C, D, E, BeatA, BeatD, Channel, History, unfinished}
-use Rattle.tl_renaming.proofs.Imports.{Renaming, renamed, renamed_a, renamed_address, renamed_d}
+use Rattle.tl_renaming.proofs.Imports.{Beat, A, B, C, D, E, BeatA, Channel, History, unfinished}
+use Rattle.tl_renaming.proofs.Imports.{Renaming, renamed, renamed_a, renamed_address}
 use Rattle.tl_renaming.proofs.Imports.{renamed_history}
 use Rattle.tl_renaming.proofs.Carried.{bytes-carried-kept, carried-mask-kept, some-spoiled-kept}
 use Rattle.tl_renaming.{proofs.Bursts.ends-kept, proofs.Bursts.unfinished-kept, proofs.Numbers.same-test}
 use Rattle.tl_renaming.{proofs.Traces.beats-kept, proofs.Traces.link-kept}
 use Rattle.tl_renaming.specs.statement.Renamed.{AreFaithful, Renamings, of_link, renamed_trace}
 use Rattle.std.proofs.Common.{◌≡◌, ℕ, suc, Bool, true, false, not, ◌&&◌, List, [], ◌∷◌, length, map, refl, ap, ◌∙◌}
-use Rattle.std.specs.Prelude.{filter, find, if◌then◌else◌, None, Option, Some, option_map, ◌==◌}
+use Rattle.std.specs.Prelude.{find, if◌then◌else◌, None, Option, Some, option_map, ◌==◌}
 use Rattle.std.proofs.lemmas.Bool.{eqb-true}
 use Rattle.tl_burst.specs.declared.message.MessageA.{MessageA}
-use Rattle.tl_bytes.specs.statement.Bytes.{Access, all_but, asked_by, asked_since, asks, ends_request, is_of}
+use Rattle.tl_bytes.specs.statement.Bytes.{Access, all_but, asked_by, asked_since, asks_new, is_of, leaves_pending}
+use Rattle.tl_bytes.specs.statement.Early.{Outrun, outrun_accesses}
+use Rattle.tl_renaming.proofs.{Answered.ends-request-kept, Answered.outruns-kept, Choices.filter-kept, Choices.find-kept}
+use Rattle.tl_renaming.proofs.Outrun.{has-outrun-kept, outrun-kept, renamed_outrun}
 use Rattle.tl_bytes.specs.statement.Bytes.{pending_accesses, pending_with}
 use Rattle.tl_params.specs.declared.liberties.Liberties.{Liberties}
 use Rattle.tl_rules.specs.statement.Conformance.{Trace, on_link}
@@ -21,27 +24,6 @@ renamed_message r m = record m { source = r.source m.source; address = renamed_a
 
 abbrev pub renamed_access : {w : ℕ} → Renamings → Access w → Access w
 renamed_access r x = record x { request = renamed_message (of_link r x.link) x.request }
-
--- ---- lists
-
-module _ {X Y : Type 0} (f : X → Y) (p : X → Bool) (q : Y → Bool) (same : (x : X) → q (f x) ≡ p x) where
-  pub filter-kept : (xs : List X) → filter q (map f xs) ≡ map f (filter p xs)
-  filter-kept [] = refl
-  filter-kept (x ∷ xs) = rw (same x, filter-kept xs) (go (p x))
-    where
-      go : (b : Bool) → (if b then f x ∷ map f (filter p xs) else map f (filter p xs))
-          ≡ map f (if b then x ∷ filter p xs else filter p xs)
-      go true = refl
-      go false = refl
-
-  pub find-kept : (xs : List X) → find q (map f xs) ≡ option_map f (find p xs)
-  find-kept [] = refl
-  find-kept (x ∷ xs) = rw (same x, find-kept xs) (go (p x))
-    where
-      go : (b : Bool) → (if b then Some (f x) else option_map f (find p xs))
-          ≡ option_map f (if b then Some x else find p xs)
-      go true = refl
-      go false = refl
 
 module _ {w : ℕ} (l : Liberties) (r : Renamings) (faithful : AreFaithful l r) where
   -- ---- whose access it is
@@ -72,10 +54,6 @@ module _ {w : ℕ} (l : Liberties) (r : Renamings) (faithful : AreFaithful l r) 
         some-spoiled-kept (of_link r link) burst,
       ) refl
 
-  pub ends-request-kept : (link : ℕ) (x : BeatD w) (t : History w)
-      → ends_request (renamed_d (of_link r link) x) (renamed_history (of_link r link) t) ≡ ends_request x t
-  ends-request-kept link x t = rw (ends-kept (of_link r link) (D x) t) refl
-
   but-kept : (link s : ℕ) (before : List (Access w)) → all_but link (r.sources link s) (map (renamed_access r) before)
       ≡ map (renamed_access r) (all_but link s before)
   but-kept link s before =
@@ -94,17 +72,19 @@ module _ {w : ℕ} (l : Liberties) (r : Renamings) (faithful : AreFaithful l r) 
       same None = refl
       same (Some access) = refl
 
-  step-kept : (link : ℕ) (x : Beat w) (t : History w) (moment : ℕ) (before : List (Access w))
+  step-kept : (link : ℕ) (x : Beat w) (t : History w) (moment : ℕ) (outrun : List Outrun) (before : List (Access w))
       → pending_with link (renamed (of_link r link) x) (renamed_history (of_link r link) t) moment
-      (map (renamed_access r) before) ≡ map (renamed_access r) (pending_with link x t moment before)
-  step-kept link (A x) t moment before =
+      (map (renamed_outrun r) outrun) (map (renamed_access r) before)
+      ≡ map (renamed_access r) (pending_with link x t moment outrun before)
+  step-kept link (A x) t moment outrun before =
       rw (
         ends-kept (of_link r link) (A x) t,
+        has-outrun-kept l r faithful link x.source outrun,
         unfinished-kept (of_link r link) Channel.A t,
         since-kept link x.source moment before,
         but-kept link x.source before,
         asked-kept link x (A x ∷ unfinished Channel.A t) (asked_since (find (is_of link x.source) before) moment),
-      ) (go (asks x t))
+      ) (go (asks_new link x t outrun))
     where
       new : Access w
       new = asked_by link x (A x ∷ unfinished Channel.A t) (asked_since (find (is_of link x.source) before) moment)
@@ -115,22 +95,26 @@ module _ {w : ℕ} (l : Liberties) (r : Renamings) (faithful : AreFaithful l r) 
           ≡ map (renamed_access r) (if b then new ∷ all_but link x.source before else before)
       go true = refl
       go false = refl
-  step-kept link (D x) t moment before =
-      rw (ends-request-kept link x t, but-kept link x.source before) (go (ends_request x t))
+  step-kept link (D x) t moment outrun before =
+      rw (
+        ends-request-kept l (of_link r link) (faithful link) x t,
+        outruns-kept l (of_link r link) (faithful link) x t,
+        but-kept link x.source before,
+      ) (go (leaves_pending x t))
     where
       go : (b : Bool)
           → (if b then map (renamed_access r) (all_but link x.source before) else map (renamed_access r) before)
           ≡ map (renamed_access r) (if b then all_but link x.source before else before)
       go true = refl
       go false = refl
-  step-kept link (B x) t moment before = refl
-  step-kept link (C x) t moment before = refl
-  step-kept link (E x) t moment before = refl
+  step-kept link (B x) t moment outrun before = refl
+  step-kept link (C x) t moment outrun before = refl
+  step-kept link (E x) t moment outrun before = refl
 
   pub accesses-kept : (t : Trace w) → pending_accesses (renamed_trace r t)
       ≡ map (renamed_access r) (pending_accesses t)
   unfolding pending_accesses
   accesses-kept [] = refl
   accesses-kept (x ∷ t) =
-      rw (accesses-kept t, link-kept r x.0.0 t, beats-kept r t)
-      (step-kept x.0.0 x.1 (on_link x.0.0 t) (suc (length t)) (pending_accesses t))
+      rw (accesses-kept t, outrun-kept l r faithful t, link-kept r x.0.0 t, beats-kept r t)
+      (step-kept x.0.0 x.1 (on_link x.0.0 t) (suc (length t)) (outrun_accesses t) (pending_accesses t))

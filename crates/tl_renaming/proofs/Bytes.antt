@@ -1,6 +1,7 @@
 -- M2 and M3, of renamed traces.
 use Rattle.tl_renaming.proofs.Imports.{BeatD, D, Channel, block_at, renamed_address, renamed_d, unfinished}
-use Rattle.tl_renaming.proofs.Accesses.{renamed_access}
+use Rattle.tl_bytes.specs.statement.Early.{is_overtaken}
+use Rattle.tl_renaming.proofs.{Accesses.renamed_access, Answered.overtaken-kept, Traces.link-kept}
 use Rattle.tl_renaming.{proofs.Bursts.length-kept, proofs.Bursts.on-kept, proofs.Free.open-kept, proofs.Values.Fits}
 use Rattle.tl_renaming.proofs.Free.{renamed_request}
 use Rattle.tl_renaming.proofs.MayBe.{AreFitting, FitsIfAny, answered-kept, burst-kept, fit-now, found-fits, may-grant-kept}
@@ -110,12 +111,15 @@ module _ {w : ℕ} (l : Liberties) (r : Renamings) (faithful : AreFaithful l r) 
       (renamed_trace r t) ≡ is_true_grant n link x o t
   grant-kept link x None t fits room = refl
   grant-kept link x (Some asked) t fits room =
-      ap₂ (λ k before. grants_truly n (r.block asked.block) k (renamed_d (of_link r link) x) before) (count-kept link t)
+      ap₂ (λ a b. a || b)
+      (ap (is_overtaken (r.block asked.block) (renamed_d (of_link r link) x)) (link-kept r link t)
+      ∙ overtaken-kept l (of_link r link) (faithful link) asked.block x (on_link link t))
+      (ap₂ (λ k before. grants_truly n (r.block asked.block) k (renamed_d (of_link r link) x) before) (count-kept link t)
       (ap (λ k. before_last link k (renamed_trace r t)) (count-kept link t)
       ∙ before-kept r link (length (unfinished Channel.D (on_link link t))) t)
       ∙ granted-kept asked.block (length (unfinished Channel.D (on_link link t))) x link
       (before_last link (length (unfinished Channel.D (on_link link t))) t)
-      (suffix-fits link (length (unfinished Channel.D (on_link link t))) t fits) room
+      (suffix-fits link (length (unfinished Channel.D (on_link link t))) t fits) room)
 
   -- ---- M3
 

@@ -13,12 +13,12 @@ use Rattle.tl_beat.specs.declared.beat.Link.{Link}
 use Rattle.tl_bytes.specs.statement.Shown.{had_window, is_window, shows, shows_bytes}
 use Rattle.tl_monitor.specs.statement.Granting.{given_by, granted_under}
 use Rattle.tl_params.specs.declared.liberties.Liberties.{Liberties}
-use Rattle.tl_params.specs.declared.key.Key.TheVariants.{ProbeOf, RequestSource}
+use Rattle.tl_params.specs.declared.key.Key.TheVariants.{GrantAckOf, ProbeOf, RequestSource}
 use Rattle.tl_params.specs.declared.perm.Perm.{Perm}
 use Rattle.tl_rules.specs.code.Open.{open_probe, open_request, probe_fields, request_fields}
 use Rattle.tl_rules.specs.declared.past.Request.{Request}
 use Rattle.tl_rules.specs.statement.Conformance.{Trace, comes_in_request, on_link}
-use Rattle.tl_bytes.specs.statement.Free.{all_but_early, is_free, may_hold}
+use Rattle.tl_bytes.specs.statement.Free.{all_liberties, is_free, may_hold}
 use Rattle.tl_together.specs.statement.Coherence.{is_grantable}
 
 -- what is kept of a request, of a renamed one
@@ -38,8 +38,8 @@ where-wanted f false o = refl
 -- ---- one link
 
 -- what is faithful under some liberties is so where no name is asked to be 0
-faithful-most : (l : Liberties) (r : Renaming) → IsFaithful l r → IsFaithful all_but_early r
-unfolding all_but_early
+faithful-most : (l : Liberties) (r : Renaming) → IsFaithful l r → IsFaithful all_liberties r
+unfolding all_liberties
 faithful-most l r is = record {
   blocks_apart = is.blocks_apart;
   sources_apart = is.sources_apart;
@@ -50,7 +50,7 @@ faithful-most l r is = record {
 
 module _ {w : ℕ} (l : Liberties) (r : Renaming) (faithful : IsFaithful l r) where
   pub may-hold-kept : (k : ℕ) (t : History w) → may_hold (r.block k) (renamed_history r t) ≡ may_hold k t
-  may-hold-kept k t = held-kept all_but_early r (faithful-most l r faithful) k t
+  may-hold-kept k t = held-kept all_liberties r (faithful-most l r faithful) k t
 
   given-by-kept : (k : ℕ) (burst : List (Beat w)) (t : History w)
       → given_by (r.block k) (map (renamed r) burst) (renamed_history r t) ≡ given_by k burst t
@@ -62,9 +62,14 @@ module _ {w : ℕ} (l : Liberties) (r : Renaming) (faithful : IsFaithful l r) wh
   given-by-kept k (E x ∷ burst) t = refl
 
   pub granted-kept : (k : ℕ) (t : History w)
-      → granted_under all_but_early (r.block k) (renamed_history r t) ≡ granted_under all_but_early k t
+      → granted_under all_liberties (r.block k) (renamed_history r t) ≡ granted_under all_liberties k t
   granted-kept k t =
-      rw (unfinished-kept r Channel.D t, given-by-kept k (unfinished Channel.D t) t, may-hold-kept k t) refl
+      rw (
+        pending-kept l r faithful (GrantAckOf k) t,
+        unfinished-kept r Channel.D t,
+        given-by-kept k (unfinished Channel.D t) t,
+        may-hold-kept k t,
+      ) refl
 
   fields-kept : (o : Option (BeatA w)) → request_fields (option_map (renamed_a r) o)
       ≡ option_map (renamed_request r) (request_fields o)

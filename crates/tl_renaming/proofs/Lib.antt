@@ -1,4 +1,5 @@
 pub mod Accesses
+pub mod Answered
 pub mod Addresses
 pub mod Appearing
 pub mod Bursts
@@ -28,3 +29,4 @@ pub mod Values
 pub mod WideBeats
 pub mod WideNames
 pub mod Widened
+pub mod Outrun

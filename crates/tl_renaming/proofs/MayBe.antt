@@ -1,12 +1,13 @@
 -- What the bytes of memory may be, after a renamed trace.
-use Rattle.tl_renaming.proofs.Imports.{Beat, A, B, C, D, E, Channel, channel_of, unfinished, block_at}
+use Rattle.tl_renaming.proofs.Imports.{Beat, A, B, C, D, E, Channel, unfinished, block_at}
 use Rattle.tl_renaming.proofs.Imports.{renamed, renamed_address, renamed_d}
-use Rattle.tl_renaming.proofs.Accesses.{accesses-kept, ends-request-kept, filter-kept, find-kept, is-of-kept, not-of-kept}
-use Rattle.tl_renaming.proofs.Accesses.{renamed_access}
+use Rattle.tl_renaming.proofs.Accesses.{accesses-kept, is-of-kept, not-of-kept, renamed_access}
+use Rattle.tl_renaming.proofs.Answered.{ends-request-kept, telling-kept}
+use Rattle.tl_renaming.proofs.Outrun.{IsRoomy, any-outrun-kept, outrun-kept, settled-now-kept}
 use Rattle.tl_renaming.proofs.Addresses.{block-of, low-bits}
-use Rattle.tl_renaming.proofs.Bursts.{channel-kept, unfinished-kept}
+use Rattle.tl_renaming.proofs.Bursts.{unfinished-kept}
 use Rattle.tl_renaming.proofs.Carried.{carried-byte-kept, denied-kept}
-use Rattle.tl_renaming.proofs.Choices.{both-chosen, both-hold, one-found}
+use Rattle.tl_renaming.proofs.Choices.{both-chosen, both-hold, filter-kept, find-kept, one-found}
 use Rattle.tl_renaming.proofs.Free.{free-kept, window-kept}
 use Rattle.tl_renaming.proofs.Tellings.{began-kept, last-told-kept, last-window-kept, tells-kept, windows-kept}
 use Rattle.tl_renaming.proofs.Traces.{beats-kept, link-kept}
@@ -19,23 +20,35 @@ use Rattle.std.specs.Prelude.{All, filter, find, if◌then◌else◌, nat_le, na
 use Rattle.std.proofs.lemmas.List.Elements.{All-filter, All-head, All-tail}
 use Rattle.tl_beat.{specs.declared.beat.Link.Link, specs.statement.Width.IsWidth}
 use Rattle.tl_bytes.specs.declared.telling.Telling.{Telling}
-use Rattle.tl_bytes.specs.statement.Bytes.{Access, access_writes, after_answer, after_beat, after_write, carried_byte}
-use Rattle.tl_bytes.specs.statement.Bytes.{could_be, ends_request, is_denied, is_of, may_be, may_grant, may_read}
-use Rattle.tl_bytes.specs.statement.Bytes.{pending_accesses, pending_value, tells, told_as, value_left, windows_since}
-use Rattle.tl_bytes.specs.statement.Bytes.{written_as}
+use Rattle.tl_bytes.specs.statement.Bytes.{Access, access_writes, after_answer, after_beat, after_settling, after_write}
+use Rattle.tl_bytes.specs.statement.Bytes.{carried_byte, could_be, is_denied, is_of, may_be, may_grant, may_read}
+use Rattle.tl_bytes.specs.statement.Bytes.{may_write, pending_accesses, pending_value, tells, told_as, told_too}
+use Rattle.tl_bytes.specs.statement.Bytes.{value_left, windows_since, written_as}
+use Rattle.tl_bytes.specs.statement.Early.{ends_request, is_outrun, outrun_accesses, telling_beats}
 use Rattle.tl_params.specs.declared.perm.Perm.TheVariants as perm
 use Rattle.tl_params.specs.declared.liberties.Liberties.{Liberties}
 use Rattle.tl_rules.specs.statement.{Conformance.Trace, Conformance.on_link, Windows.needs}
 use Rattle.tl_bytes.specs.statement.Shown.{is_window}
 
--- the accesses that are pending lie in one block each, after each beginning of the trace
+-- the pending accesses lie in one block each, and so do those whose answers outran their requests
+pub record AreInBlocks {w : ℕ} (t : Trace w) : Type 0 where
+  pub pending_fit : All Fits (pending_accesses t)
+  pub outrun_fit : All IsRoomy (outrun_accesses t)
+
+-- so it is after each beginning of the trace
 abbrev pub AreFitting : {w : ℕ} → Trace w → Type 0
-AreFitting {w} [] = All (Fits {w = w}) (pending_accesses {w = w} [])
-AreFitting {w} (x ∷ t) = All (Fits {w = w}) (pending_accesses (x ∷ t)) × AreFitting t
+AreFitting {w} [] = AreInBlocks {w = w} []
+AreFitting (x ∷ t) = AreInBlocks (x ∷ t) × AreFitting t
+
+in-blocks : {w : ℕ} (t : Trace w) → AreFitting t → AreInBlocks t
+in-blocks [] fits = fits
+in-blocks (x ∷ t) fits = fits.0
 
 pub fit-now : {w : ℕ} (t : Trace w) → AreFitting t → All Fits (pending_accesses t)
-fit-now [] fits = fits
-fit-now (x ∷ t) fits = fits.0
+fit-now t fits = (in-blocks t fits).pending_fit
+
+roomy-now : {w : ℕ} (t : Trace w) → AreFitting t → All IsRoomy (outrun_accesses t)
+roomy-now t fits = (in-blocks t fits).outrun_fit
 
 -- an access that is found among such
 abbrev pub FitsIfAny : {w : ℕ} → Option (Access w) → Type 0
@@ -140,7 +153,7 @@ module _ {w : ℕ} (l : Liberties) (r : Renamings) (faithful : AreFaithful l r) 
       ≡ after_beat n address link x t before
   beat-kept link address (D x) t before fits =
       both-chosen (ap (ends_request (renamed_d (of_link r link) x)) (link-kept r link t)
-      ∙ ends-request-kept l r faithful link x (on_link link t))
+      ∙ ends-request-kept l (of_link r link) (faithful link) x (on_link link t))
       (ap₂ (λ o burst. after_answer n (moved_by address) o (D (renamed_d (of_link r link) x) ∷ burst)
       (renamed_trace r t) before) (answered-kept link x.source t) (burst-kept Channel.D link t)
       ∙ answer-kept link address (find (is_of link x.source) (pending_accesses t))
@@ -161,16 +174,23 @@ module _ {w : ℕ} (l : Liberties) (r : Renamings) (faithful : AreFaithful l r) 
       ∙ tells-kept l (of_link r x.0.0) (faithful x.0.0) (block_at address) x.1 (on_link x.0.0 t)
 
   value-now : (address : ℕ) (x : Link × Beat w) (t : Trace w)
-      → carried_byte (renamed (of_link r x.0.0) x.1
-      ∷ unfinished (channel_of (renamed (of_link r x.0.0) x.1)) (on_link x.0.0 (renamed_trace r t)))
+      → carried_byte (telling_beats (renamed (of_link r x.0.0) x.1) (on_link x.0.0 (renamed_trace r t)))
       (moved_by address % 64)
-      ≡ carried_byte (x.1 ∷ unfinished (channel_of x.1) (on_link x.0.0 t)) (address % 64)
+      ≡ carried_byte (telling_beats x.1 (on_link x.0.0 t)) (address % 64)
   value-now address x t =
-      ap₂ (λ c place. carried_byte (renamed (of_link r x.0.0) x.1 ∷ unfinished c (on_link x.0.0 (renamed_trace r t)))
-      place) (channel-kept (of_link r x.0.0) x.1) (low-bits r.block address)
-      ∙ ap (λ burst. carried_byte (renamed (of_link r x.0.0) x.1 ∷ burst) (address % 64))
-      (burst-kept (channel_of x.1) x.0.0 t)
-      ∙ carried-byte-kept (of_link r x.0.0) (x.1 ∷ unfinished (channel_of x.1) (on_link x.0.0 t)) (address % 64)
+      ap₂ (λ h place. carried_byte (telling_beats (renamed (of_link r x.0.0) x.1) h) place) (link-kept r x.0.0 t)
+      (low-bits r.block address)
+      ∙ ap (λ burst. carried_byte burst (address % 64))
+      (telling-kept l (of_link r x.0.0) (faithful x.0.0) x.1 (on_link x.0.0 t))
+      ∙ carried-byte-kept (of_link r x.0.0) (telling_beats x.1 (on_link x.0.0 t)) (address % 64)
+
+  -- with an access that is settled
+  settling-kept : (address : ℕ) (x : Link × Beat w) (t : Trace w) (before : List Telling) → AreFitting t
+      → after_settling (moved_by address) (renamed_on_link r x) (renamed_trace r t) before
+      ≡ after_settling address x t before
+  settling-kept address x t before fits =
+      both-chosen (settled-now-kept l r faithful address x t (roomy-now t fits))
+      (ap (λ m. told_too (record { value = None; moment = m }) before) (beats-kept r t)) refl
 
   pub may-be-kept : (address : ℕ) (t : Trace w) → AreFitting t
       → may_be n (moved_by address) (renamed_trace r t) ≡ may_be n address t
@@ -179,9 +199,11 @@ module _ {w : ℕ} (l : Liberties) (r : Renamings) (faithful : AreFaithful l r) 
   may-be-kept address (x ∷ t) fits =
       both-chosen (tells-now address x t)
       (ap₂ (λ v m. record { value = v; moment = m } ∷ []) (value-now address x t) (beats-kept r t))
+      (ap (after_settling (moved_by address) (renamed_on_link r x) (renamed_trace r t))
       (ap (after_beat n (moved_by address) x.0.0 (renamed (of_link r x.0.0) x.1) (renamed_trace r t))
       (may-be-kept address t fits.1)
       ∙ beat-kept x.0.0 address x.1 t (may_be n address t) (fit-now t fits.1))
+      ∙ settling-kept address x t (after_beat n address x.0.0 x.1 t (may_be n address t)) fits.1)
 
   -- ---- what may be granted, and read
 
@@ -216,13 +238,17 @@ module _ {w : ℕ} (l : Liberties) (r : Renamings) (faithful : AreFaithful l r) 
   -- those of the pending accesses that pass a test
   passing-kept : (address v : ℕ) (t : Trace w) (test others : Access w → Bool)
       → ((x : Access w) → others (renamed_access r x) ≡ test x) → AreFitting t
-      → written_as (moved_by address) v (filter others (pending_accesses (renamed_trace r t)))
-      ≡ written_as address v (filter test (pending_accesses t))
+      → may_write (moved_by address) v (filter others (pending_accesses (renamed_trace r t)))
+      (outrun_accesses (renamed_trace r t))
+      ≡ may_write address v (filter test (pending_accesses t)) (outrun_accesses t)
   passing-kept address v t test others same fits =
-      ap (λ xs. written_as (moved_by address) v (filter others xs)) (accesses-kept l r faithful t)
+      ap₂ (λ a b. a || b)
+      (ap (λ xs. written_as (moved_by address) v (filter others xs)) (accesses-kept l r faithful t)
       ∙ ap (written_as (moved_by address) v) (filter-kept (renamed_access r) test others same (pending_accesses t))
       ∙ written-as-kept address v (filter test (pending_accesses t))
-      (All-filter test Fits (pending_accesses t) (fit-now t fits))
+      (All-filter test Fits (pending_accesses t) (fit-now t fits)))
+      (ap (is_outrun (moved_by address)) (outrun-kept l r faithful t)
+      ∙ any-outrun-kept l r faithful address (outrun_accesses t) (roomy-now t fits))
 
   pub may-grant-kept : (address v : ℕ) (t : Trace w) → AreFitting t
       → may_grant n (renamed_trace r t) (moved_by address) v ≡ may_grant n t address v

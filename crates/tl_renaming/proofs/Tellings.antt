@@ -1,7 +1,8 @@
 -- When the bytes of a renamed block are told, and when it is free for writing.
-use Rattle.tl_renaming.proofs.Imports.{Beat, A, B, C, D, E, BeatA, History, IsFaithful, Renaming, renamed}
+use Rattle.tl_renaming.proofs.Imports.{Beat, A, B, C, D, E, BeatA, Channel, History, IsFaithful, Renaming, renamed, unfinished}
 use Rattle.tl_renaming.proofs.Imports.{renamed_a, renamed_history, request_of}
-use Rattle.tl_renaming.{proofs.Bursts.ends-kept, proofs.Free.free-kept}
+use Rattle.tl_renaming.proofs.Answered.{overtaken-kept, release-of-kept, released-kept}
+use Rattle.tl_renaming.{proofs.Bursts.ends-kept, proofs.Bursts.unfinished-kept, proofs.Free.free-kept}
 use Rattle.tl_renaming.proofs.Messages.{block-test, grants-kept, request-kept}
 use Rattle.tl_renaming.{proofs.Traces.beats-kept, proofs.Traces.link-kept}
 use Rattle.tl_renaming.specs.statement.Renamed.{AreFaithful, Renamings, of_link, renamed_trace}
@@ -34,11 +35,19 @@ module _ {w : ℕ} (l : Liberties) (r : Renaming) (faithful : IsFaithful l r) wh
       → tells (r.block block) (renamed r x) (renamed_history r t) ≡ tells block x t
   tells-kept block (A x) t = refl
   tells-kept block (B x) t = refl
-  tells-kept block (C x) t = rw (ends-kept r (C x) t, block-test l r faithful x.address block) refl
+  tells-kept block (C x) t =
+      rw (
+        ends-kept r (C x) t,
+        block-test l r faithful x.address block,
+        released-kept l r faithful block (C x) t,
+      ) refl
   tells-kept block (D x) t =
       rw (
         ends-kept r (D x) t,
+        unfinished-kept r Channel.C t,
+        release-of-kept l r faithful block x.source (unfinished Channel.C t),
         grants-kept l r faithful block x t,
+        overtaken-kept l r faithful block x t,
         request-kept l r faithful x.source t,
         granted-kept x.opcode (request_of x.source t),
       ) refl

@@ -1,11 +1,12 @@
 -- All links of a manager together, of renamed traces.
 use Rattle.tl_renaming.proofs.Imports.{Beat, A, B, C, D, E, renamed}
-use Rattle.tl_renaming.{proofs.Bytes.bytes-kept, proofs.Fitting.all-fit, proofs.Fitting.few-lanes}
-use Rattle.tl_renaming.{proofs.Granting.beginning-kept, proofs.MayBe.AreFitting}
+use Rattle.tl_renaming.{proofs.Bytes.bytes-kept, proofs.Fitting.all-fit, proofs.Fitting.all-roomy}
+use Rattle.tl_renaming.{proofs.Fitting.few-lanes, proofs.Granting.beginning-kept}
+use Rattle.tl_renaming.proofs.MayBe.{AreFitting, AreInBlocks}
 use Rattle.tl_renaming.proofs.Traces.{beats-kept, on-link-kept}
 use Rattle.tl_renaming.specs.statement.Renamed.{AreFaithful, Renamings, of_link, renamed_on_link, renamed_trace}
 use Rattle.tl_renaming.specs.statement.Together.{AreTypedOn}
-use Rattle.std.proofs.Common.{◌≡◌, ℕ, List, [], ◌∷◌, length, false, refl, sym, ap, ◌∙◌, arith}
+use Rattle.std.proofs.Common.{◌≡◌, ℕ, List, [], ◌∷◌, length, refl, sym, ap, ◌∙◌, arith}
 use Rattle.std.proofs.Math.Path.{ap₂}
 use Rattle.std.specs.Prelude.{Option, Some, None}
 use Rattle.tl_beat.{specs.declared.beat.Link.Link, specs.statement.Width.IsWidth}
@@ -24,13 +25,18 @@ use Rattle.tl_together.specs.statement.Coherence.{breach_from, breach_or, broken
 use Rattle.tl_together.specs.statement.Coherence.{first_broken, memory_rule_or}
 
 -- after a lawful trace the accesses lie in one block each
+in-blocks : {w : ℕ} → IsWidth w → (levels : List Level) (t : Trace w) → AreLegal levels t → AreTypedOn t
+    → AreInBlocks t
+in-blocks width levels t legal typed =
+    record { pending_fit = all-fit width levels t legal typed; outrun_fit = all-roomy width levels t legal }
+
 fitting : {w : ℕ} → IsWidth w → (levels : List Level) (t : Trace w) → AreLegal levels t → AreTypedOn t
     → AreFitting t
-fitting width levels [] legal typed = all-fit width levels [] legal typed
+fitting width levels [] legal typed = in-blocks width levels [] legal typed
 fitting width levels (x ∷ t) legal typed =
-    (all-fit width levels (x ∷ t) legal typed, fitting width levels t legal.1 typed.1)
+    (in-blocks width levels (x ∷ t) legal typed, fitting width levels t legal.1 typed.1)
 
-module _ {w : ℕ} (l : Liberties) (late : l.early ≡ false) (r : Renamings) (faithful : AreFaithful l r)
+module _ {w : ℕ} (l : Liberties) (r : Renamings) (faithful : AreFaithful l r)
     (width : IsWidth w) where
   -- ---- the rules of memory
 
@@ -67,7 +73,7 @@ module _ {w : ℕ} (l : Liberties) (late : l.early ≡ false) (r : Renamings) (f
       ∙ same-first (broken_on_link_under l levels x t) (broken_memory (length levels) x.0.0 x.1 t)
       (broken_memory (length levels) x.0.0 (renamed (of_link r x.0.0) x.1) (renamed_trace r t))
       (λ fine.
-      let all = widened levels l (x ∷ t) late (fine, legal) in
+      let all = widened levels l (x ∷ t) (fine, legal) in
       memory-kept levels x.0 x.1 t all.0 all.1 typed.0 (fitting width levels t all.1 typed.1) (length levels))
 
   -- ---- a trace

@@ -1,10 +1,13 @@
 -- An access whose request is pending and complete on its link is pending by the trace of all links.
 use Rattle.tl_true_bytes.proofs.Imports.{Beat, BeatA, BeatD, Link, History, unfinished, Trace, on_link, ends, Access}
-use Rattle.tl_true_bytes.proofs.Imports.{asked_by, ends_request, is_access, is_of, pending_accesses, Channel}
+use Rattle.tl_true_bytes.proofs.Imports.{asked_by, is_release_ack, is_access, is_of, pending_accesses, Channel}
 use Rattle.tl_burst.specs.statement.Messages.{on}
 use Rattle.tl_rules.specs.statement.Conformance.{comes_in_request}
 use Rattle.tl_true_bytes.specs.code.Beside.{comes}
-use Rattle.tl_bytes.specs.statement.Bytes.{all_but, asked_since, asks, is_put}
+use Rattle.tl_bytes.specs.statement.Bytes.{all_but, asked_since, asks, asks_new, is_put}
+use Rattle.tl_bytes.specs.statement.Early.{outrun_accesses}
+use Rattle.tl_bytes.proofs.OnTime.{AreOnTime, IsOnTime}
+use Rattle.tl_concord.proofs.Late.{asks-late, leaves-late}
 use Rattle.std.proofs.Common.{◌≡◌, ℕ, suc, Bool, true, false, not, ◌&&◌, ◌||◌, List, [], ◌∷◌, length, inl, inr, refl, sym, ◌∙◌, subst}
 use Rattle.std.specs.Prelude.{if◌then◌else◌, ◌==◌, find, Some}
 use Rattle.std.proofs.lemmas.Bool.{and_from, and_parts, eq-eqb, eqb-true}
@@ -15,7 +18,7 @@ use Rattle.tl_true_bytes.proofs.Opened.{GoesOn, IsAskedBy, IsOpen, last-asks, op
 abbrev pub IsSomePending : {w : ℕ} → ℕ → ℕ → Trace w → Type 0
 IsSomePending {w} c s t = (p : Access w) × IsPending c s p t
 
-module _ {w : ℕ} (c s : ℕ) (link : Link) (t : Trace w) where
+module _ {w : ℕ} (c s : ℕ) (link : Link) (t : Trace w) (late : AreOnTime t) where
   abbrev past : History w
   past = on_link link.0 t
 
@@ -27,7 +30,8 @@ module _ {w : ℕ} (c s : ℕ) (link : Link) (t : Trace w) where
   asked-now : (z : BeatA w) → is_access z.opcode && ends (Beat.A z) past ≡ true → link.0 ≡ c → z.source ≡ s
       → IsPending c s (access z) ((link, Beat.A z) ∷ t)
   unfolding pending_accesses
-  asked-now z completes here from = go (asks z past) asked
+  asked-now z completes here from =
+      go (asks_new link.0 z past (outrun_accesses t)) (asks-late link.0 z past t late ∙ asked)
     where
       mine : is_of c s (access z) ≡ true
       mine = and_from (link.0 == c) (z.source == s) (eq-eqb link.0 c here) (eq-eqb z.source s from)
@@ -50,10 +54,12 @@ module _ {w : ℕ} (c s : ℕ) (link : Link) (t : Trace w) where
 
   -- one that isn't answered now
   kept-now : (y : Beat w) (p : Access w) → IsPending c s p t
-      → ((z : BeatD w) → y ≡ Beat.D z → ends_request z past ≡ true → link.0 ≡ c → z.source ≡ s → ⊥)
+      → ((z : BeatD w) → y ≡ Beat.D z → not (is_release_ack z.opcode) && ends (Beat.D z) past ≡ true → link.0 ≡ c
+      → z.source ≡ s → ⊥)
+      → IsOnTime y past
       → IsSomePending c s ((link, y) ∷ t)
   unfolding pending_accesses
-  kept-now (Beat.A z) p pending left = go (asks z past)
+  kept-now (Beat.A z) p pending left in_time = go (asks_new link.0 z past (outrun_accesses t))
     where
       before : List (Access w)
       before = pending_accesses t
@@ -68,27 +74,28 @@ module _ {w : ℕ} (c s : ℕ) (link : Link) (t : Trace w) where
           let some = own ((link.0 == c) && (z.source == s)) in
           (some.0, found-asked c s link.0 z.source (access z) before refl refl ∙ some.1)
       go false = (p, pending)
-  kept-now (Beat.D z) p pending left =
+  kept-now (Beat.D z) p pending left in_time =
       elim (pending-after c s p (link, Beat.D z) t pending (λ y e. absurd cc)) [
         | inl still ↦ (p, still)
-        | inr answered ↦ absurd (left answered.last answered.beat_is answered.completes (sym answered.link_is)
-            (sym answered.source_is))
+        | inr answered ↦ absurd (left answered.last answered.beat_is
+            (sym (leaves-late answered.last past (subst (λ b. IsOnTime b past) answered.beat_is in_time))
+            ∙ answered.completes) (sym answered.link_is) (sym answered.source_is))
       ]
-  kept-now (Beat.B z) p pending left = (p, pending)
-  kept-now (Beat.C z) p pending left = (p, pending)
-  kept-now (Beat.E z) p pending left = (p, pending)
+  kept-now (Beat.B z) p pending left in_time = (p, pending)
+  kept-now (Beat.C z) p pending left in_time = (p, pending)
+  kept-now (Beat.E z) p pending left in_time = (p, pending)
 
   -- with one more beat
-  pub pending-more : (y : Beat w) → GoesOn y past → (IsOpen s (on_link c t) → IsSomePending c s t)
+  pub pending-more : (y : Beat w) → IsOnTime y past → GoesOn y past → (IsOpen s (on_link c t) → IsSomePending c s t)
       → IsOpen s (on_link c ((link, y) ∷ t)) → IsSomePending c s ((link, y) ∷ t)
   unfolding on_link
-  pending-more y goes_on before is = go (link.0 == c) refl is
+  pending-more y in_time goes_on before is = go (link.0 == c) refl is
     where
       here : link.0 ≡ c → IsOpen s (y ∷ on_link c t) → IsSomePending c s ((link, y) ∷ t)
       here same is = elim (open-before s (on_link c t) y (rw same at goes_on) is) [
         | inl old ↦
             let was = before old.0 in
-            kept-now y was.0 was.1 (λ z e answers at from. old.1 z e (rw same at answers) from)
+            kept-now y was.0 was.1 (λ z e answers at from. old.1 z e (rw same at answers) from) in_time
         | inr new ↦ asked new
       ]
         where
@@ -102,7 +109,7 @@ module _ {w : ℕ} (c s : ℕ) (link : Link) (t : Trace w) where
       go false e is =
           let was = before is in
           kept-now y was.0 was.1 (λ z f answers at from.
-          let no : true ≡ false = sym (eq-eqb link.0 c at) ∙ e in cc)
+          let no : true ≡ false = sym (eq-eqb link.0 c at) ∙ e in cc) in_time
 
 -- ---- what is to come of a request
 
@@ -129,24 +136,24 @@ comes-own {w} link z t = rw (eq-eqb link.0 link.0 refl) (go (ends (Beat.A z) (on
     go false = eq-eqb z.source z.source refl
 
 -- where no more is to come after a beat that doesn't ask for it, no more was
-pub comes-before : {w : ℕ} (c s : ℕ) (link : Link) (y : Beat w) (t : Trace w) → GoesOn y (on_link link.0 t)
+pub comes-before : {w : ℕ} (c s : ℕ) (link : Link) (y : Beat w) (t : Trace w) → AreOnTime t → GoesOn y (on_link link.0 t)
     → AsksNot c s (link, y) t → comes c s ((link, y) ∷ t) ≡ false → comes c s t ≡ false
 unfolding on_link
-comes-before {w} c s link (Beat.A z) t goes_on never whole = go (link.0 == c) refl whole
+comes-before {w} c s link (Beat.A z) t late goes_on never whole = go (link.0 == c) refl whole
   where
     here : link.0 ≡ c → (b : Bool) → comes c s t ≡ b
         → comes_in_request s (unfinished Channel.A (Beat.A z ∷ on_link c t)) ≡ false → b ≡ false
     here own false e whole = refl
     here own true e whole =
         let asked = last-asks s z (on_link c t) (rw own at goes_on) e whole in
-        absurd (never z refl (rw own asked.0) (sym own) (sym asked.1))
+        absurd (never z refl (asks-late link.0 z (on_link link.0 t) t late ∙ rw own asked.0) (sym own) (sym asked.1))
 
     go : (b : Bool) → (link.0 == c) ≡ b
         → comes_in_request s (unfinished Channel.A (if b then Beat.A z ∷ on_link c t else on_link c t)) ≡ false
         → comes c s t ≡ false
     go true e whole = here (eqb-true link.0 c e) (comes c s t) refl whole
     go false e whole = whole
-comes-before c s link (Beat.B z) t goes_on never whole = sym (comes-other c s link (Beat.B z) t refl) ∙ whole
-comes-before c s link (Beat.C z) t goes_on never whole = sym (comes-other c s link (Beat.C z) t refl) ∙ whole
-comes-before c s link (Beat.D z) t goes_on never whole = sym (comes-other c s link (Beat.D z) t refl) ∙ whole
-comes-before c s link (Beat.E z) t goes_on never whole = sym (comes-other c s link (Beat.E z) t refl) ∙ whole
+comes-before c s link (Beat.B z) t late goes_on never whole = sym (comes-other c s link (Beat.B z) t refl) ∙ whole
+comes-before c s link (Beat.C z) t late goes_on never whole = sym (comes-other c s link (Beat.C z) t refl) ∙ whole
+comes-before c s link (Beat.D z) t late goes_on never whole = sym (comes-other c s link (Beat.D z) t refl) ∙ whole
+comes-before c s link (Beat.E z) t late goes_on never whole = sym (comes-other c s link (Beat.E z) t refl) ∙ whole

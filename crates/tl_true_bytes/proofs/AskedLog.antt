@@ -7,7 +7,8 @@ use Rattle.std.proofs.Common.{◌≡◌, ℕ, true, false, List, [], ◌∷◌, 
 use Rattle.tl_burst.{specs.declared.message.Message.Message, specs.statement.Burst.beat_of}
 use Rattle.tl_coherence.specs.{refinement.PacketMessages.message_of_kind, refinement.SimulationRelation.is_caching}
 use Rattle.tl_coherence.proofs.{flow.FlowTaken.each-taken, queues.FirstToken.IsFirst, queues.FirstToken.first-token}
-use Rattle.tl_concord.{proofs.Beats.same_a, proofs.Responses.last_begun}
+use Rattle.tl_concord.{proofs.Beats.same_a, proofs.Late.world-late, proofs.Responses.last_begun}
+use Rattle.tl_bytes.proofs.OnTime.{AreOnTime}
 use Rattle.tl_true_bytes.proofs.Asked.{IsSomePending, pending-more}
 use Rattle.tl_true_bytes.proofs.Opened.{GoesOn, IsOpen}
 
@@ -53,26 +54,26 @@ goes-on {w} config log given c (Beat.A x) queue beats = λ z v older e begun_so.
 
 -- ---- over the whole log
 
-open-pending : {w : ℕ} (c s : ℕ) (log : Log w)
+open-pending : {w : ℕ} (c s : ℕ) (log : Log w) → AreOnTime (trace_of log)
     → EachTaken (λ earlier link x. GoesOn x (on_link link (trace_of earlier))) log
     → IsOpen s (on_link c (trace_of log)) → IsSomePending c s (trace_of log)
 unfolding EachTaken trace_of on_link pending
-open-pending c s [] each is = absurd (let no : false ≡ true = is.pending_is in cc)
-open-pending c s ((Ask k i, o) ∷ log) each is = open-pending c s log each.1 is
-open-pending c s ((Deliver link ch, Outcome.Moved x) ∷ log) each is =
-    pending-more c s link (trace_of log) x each.0 (open-pending c s log each.1) is
-open-pending c s ((Deliver link ch, Outcome.Done x source f) ∷ log) each is =
-    pending-more c s link (trace_of log) x each.0 (open-pending c s log each.1) is
-open-pending c s ((Deliver link ch, Outcome.Replied r) ∷ log) each is = open-pending c s log each.1 is
-open-pending c s ((Deliver link ch, Outcome.Empty) ∷ log) each is = open-pending c s log each.1 is
-open-pending c s ((Deliver link ch, Outcome.Stalled) ∷ log) each is = open-pending c s log each.1 is
-open-pending c s ((Deliver link ch, Outcome.NoSuchClient) ∷ log) each is = open-pending c s log each.1 is
+open-pending c s [] late each is = absurd (let no : false ≡ true = is.pending_is in cc)
+open-pending c s ((Ask k i, o) ∷ log) late each is = open-pending c s log late each.1 is
+open-pending c s ((Deliver link ch, Outcome.Moved x) ∷ log) late each is =
+    pending-more c s link (trace_of log) late.1 x late.0 each.0 (open-pending c s log late.1 each.1) is
+open-pending c s ((Deliver link ch, Outcome.Done x source f) ∷ log) late each is =
+    pending-more c s link (trace_of log) late.1 x late.0 each.0 (open-pending c s log late.1 each.1) is
+open-pending c s ((Deliver link ch, Outcome.Replied r) ∷ log) late each is = open-pending c s log late each.1 is
+open-pending c s ((Deliver link ch, Outcome.Empty) ∷ log) late each is = open-pending c s log late each.1 is
+open-pending c s ((Deliver link ch, Outcome.Stalled) ∷ log) late each is = open-pending c s log late each.1 is
+open-pending c s ((Deliver link ch, Outcome.NoSuchClient) ∷ log) late each is = open-pending c s log late each.1 is
 
 -- an access whose request is pending and complete is pending
 pub pending-open : {w : ℕ} (config : Config) (log : Log w) → IsGiven config log → (c s : ℕ)
     → IsOpen s (on_link c (trace_of log)) → IsSomePending c s (trace_of log)
 pending-open config log given c s is =
-    open-pending c s log
+    open-pending c s log (world-late log given)
     (each-taken config (λ earlier link x. GoesOn x (on_link link (trace_of earlier))) (goes-on config) log given) is
 
 -- a beat that moves goes on with the request that has begun

@@ -1,6 +1,6 @@
 -- A run beside the one-memory machine, as something happens.
 use Rattle.tl_true_bytes.proofs.Imports.{Beat, BeatD, Link, OpA, MessageA, Trace, on_link, AccessResult, Memory, after}
-use Rattle.tl_true_bytes.proofs.Imports.{effect, block_at, ends, is_release_ack, Access, ends_request, is_access, is_of}
+use Rattle.tl_true_bytes.proofs.Imports.{effect, block_at, ends, is_release_ack, Access, is_access, is_of}
 use Rattle.tl_true_bytes.proofs.Imports.{pending_accesses, Op, Machine, Open, Requests, with_memory, with_open}
 use Rattle.tl_true_bytes.proofs.Imports.{same_open, Performs, Run, Takes, everywhere}
 use Rattle.tl_true_bytes.proofs.Imports.{found_in, memory_in, trace_in, IsBeside}
@@ -18,6 +18,9 @@ use Rattle.tl_bytes.specs.statement.Bytes.{access_writes}
 use Rattle.tl_bytes.proofs.Pending.{IsAskedNow, IsPending, pending-before}
 use Rattle.tl_one_memory.specs.statement.Run.{Stores, is_answered_by, with_performed}
 use Rattle.tl_true_bytes.specs.code.Beside.{IsFoundAs, comes}
+use Rattle.tl_bytes.proofs.OnTime.{AreOnTime, IsOnTime}
+use Rattle.tl_bytes.specs.statement.Bytes.{leaves_pending}
+use Rattle.tl_concord.proofs.Late.{leaves-late}
 use Rattle.tl_true_bytes.proofs.{Asked.comes-before, Asked.comes-other, Opened.GoesOn}
 
 -- ---- what is open
@@ -164,21 +167,22 @@ module _ {w : ℕ} (run : Run w) (m : Machine w) (t : Trace w) (is : IsBeside ru
   -- one that completes no response
   pub beside-moved : (link : Link) (x : Beat w)
       → ((z : BeatD w) → x ≡ Beat.D z → ends (Beat.D z) (on_link link.0 t) ≡ false)
-      → GoesOn x (on_link link.0 t)
+      → AreOnTime ((link, x) ∷ t) → GoesOn x (on_link link.0 t)
       → ((c s : ℕ) (p : Access w) → IsAskedNow c s p (link, x) t
       → IsOpenAs (comes c s ((link, x) ∷ t)) p (m.opened c Requests s))
       → IsBeside (Takes link x ∷ run) m ((link, x) ∷ t)
   unfolding trace_in memory_in found_in
-  beside-moved link x part goes_on asks = record {
+  beside-moved link x part late goes_on asks = record {
     trace_is = ap (λ (u : Trace w). (link, x) ∷ u) is.trace_is;
     memory_is = is.memory_is;
     found_are = λ c s. found-as (found_in (λ address. 0) c s run) (found_in (λ address. 0) c s (Takes link x ∷ run))
         (result_in (m.opened c Requests s))
-        (result_in (m.opened c Requests s)) (fun_ext (λ address. rw (is.trace_is, unanswered c s x part) refl)) refl
+        (result_in (m.opened c Requests s)) (fun_ext (λ address. rw (is.trace_is, unanswered c s x part late.0) refl))
+        refl
         (is.found_are c s);
     pending_are = λ c s p pending. elim (pending-before c s p (link, x) t pending) [
       | inl old ↦ open-on (comes c s t) (comes c s ((link, x) ∷ t)) p (m.opened c Requests s)
-          (comes-before c s link x t goes_on old.1) (is.pending_are c s p old.0)
+          (comes-before c s link x t late.1 goes_on old.1) (is.pending_are c s p old.0)
       | inr new ↦ asks c s p new
     ];
   }
@@ -188,17 +192,19 @@ module _ {w : ℕ} (run : Run w) (m : Machine w) (t : Trace w) (is : IsBeside ru
       never v u = refl
 
       unanswered : (c s : ℕ) (y : Beat w) → ((z : BeatD w) → y ≡ Beat.D z → ends (Beat.D z) (on_link link.0 t) ≡ false)
-          → is_answered_by c s link y t ≡ false
-      unanswered c s (Beat.D z) e =
-          rw (e z refl) (never ((link.0 == c) && (z.source == s)) (not (is_release_ack z.opcode)))
-      unanswered c s v e = refl
+          → IsOnTime y (on_link link.0 t) → is_answered_by c s link y t ≡ false
+      unanswered c s (Beat.D z) e in_time =
+          rw (leaves-late z (on_link link.0 t) in_time, e z refl)
+          (never ((link.0 == c) && (z.source == s)) (not (is_release_ack z.opcode)))
+      unanswered c s v e in_time = refl
 
   -- one that completes a response, with which an operation ends
-  pub beside-ended : (link : Link) (z : BeatD w) (pool : Pool) → ends (Beat.D z) (on_link link.0 t) ≡ true
+  pub beside-ended : (link : Link) (z : BeatD w) (pool : Pool) → AreOnTime ((link, Beat.D z) ∷ t)
+      → ends (Beat.D z) (on_link link.0 t) ≡ true
       → pool ≡ (if is_release_ack z.opcode then Releases else Requests)
       → IsBeside (Takes link (Beat.D z) ∷ run) (with_open link.0 pool z.source None m) ((link, Beat.D z) ∷ t)
   unfolding trace_in memory_in found_in
-  beside-ended link z pool last pool_is = record {
+  beside-ended link z pool late last pool_is = record {
     trace_is = ap (λ (u : Trace w). (link, Beat.D z) ∷ u) is.trace_is;
     memory_is = is.memory_is;
     found_are = λ c s. found-as (found_then c s) (found_in (λ address. 0) c s (Takes link (Beat.D z) ∷ run))
@@ -226,7 +232,7 @@ module _ {w : ℕ} (run : Run w) (m : Machine w) (t : Trace w) (is : IsBeside ru
       let_go c s e = (
         ap (λ (i : Pool). (with_open link.0 i z.source None m).opened c Requests s)
             (pool_is ∙ ap (λ b. if b then Releases else Requests) e) ∙ open-requests link.0 z.source None m c s,
-        rw e (never ((link.0 == c) && (z.source == s))),
+        rw (leaves-late z (on_link link.0 t) late.0, e) (never ((link.0 == c) && (z.source == s))),
       )
         where
           never : (a : Bool) → a && false ≡ false
@@ -234,8 +240,8 @@ module _ {w : ℕ} (run : Run w) (m : Machine w) (t : Trace w) (is : IsBeside ru
           never false = refl
 
       -- any other response ends the one with its source
-      answered : is_release_ack z.opcode ≡ false → ends_request z (on_link link.0 t) ≡ true
-      answered e = and_from (not (is_release_ack z.opcode)) (ends (Beat.D z) (on_link link.0 t)) (ap not e) last
+      answered : is_release_ack z.opcode ≡ false → leaves_pending z (on_link link.0 t) ≡ true
+      answered e = leaves-late z (on_link link.0 t) late.0 ∙ and_from (not (is_release_ack z.opcode)) (ends (Beat.D z) (on_link link.0 t)) (ap not e) last
 
       own : is_release_ack z.opcode ≡ false → is_answered_by link.0 z.source link (Beat.D z) t ≡ true
       own e = rw (same_number link.0, same_number z.source, answered e) refl

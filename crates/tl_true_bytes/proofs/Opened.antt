@@ -1,6 +1,6 @@
 -- A request that is pending and complete was completed by a beat since which no answer to it was.
 use Rattle.tl_true_bytes.proofs.Imports.{Beat, BeatA, BeatD, OpA, data_beats, History, unfinished, ends, is_release_ack}
-use Rattle.tl_true_bytes.proofs.Imports.{pending, request_of, ends_request, is_access, same_d, Channel}
+use Rattle.tl_true_bytes.proofs.Imports.{pending, request_of, is_access, same_d, Channel}
 use Rattle.std.proofs.Common.{◌≡◌, ℕ, suc, Bool, true, false, not, ◌&&◌, ◌||◌, ◌+◌, List, [], ◌∷◌, length, ◌⊎◌, inl, inr}
 use Rattle.std.proofs.Common.{refl, sym, ◌∙◌, ap, arith}
 use Rattle.std.specs.Prelude.{if◌then◌else◌, ◌==◌, Option, Some, None}
@@ -31,7 +31,8 @@ pub record IsAskedBy {w : ℕ} (s : ℕ) (y : Beat w) (h : History w) : Type 0 w
 
 -- the beat doesn't complete the answer to the request with this source
 abbrev pub LeavesOpen : {w : ℕ} → ℕ → Beat w → History w → Type 0
-LeavesOpen {w} s y h = (z : BeatD w) → y ≡ Beat.D z → ends_request z h ≡ true → z.source ≡ s → ⊥
+LeavesOpen {w} s y h = (z : BeatD w) → y ≡ Beat.D z → not (is_release_ack z.opcode) && ends (Beat.D z) h ≡ true
+    → z.source ≡ s → ⊥
 
 -- a beat of channel A goes on with the request that has begun
 abbrev pub GoesOn : {w : ℕ} → Beat w → History w → Type 0

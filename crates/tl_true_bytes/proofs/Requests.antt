@@ -19,7 +19,7 @@ use Rattle.tl_bytes.proofs.Pending.{IsAskedNow}
 use Rattle.tl_true_bytes.{specs.code.Like.IsLike, proofs.Asked.IsSomePending, proofs.AskedLog.pending-open}
 use Rattle.tl_true_bytes.proofs.Asked.{comes-own}
 use Rattle.tl_true_bytes.specs.code.Beside.{comes}
-use Rattle.tl_bytes.specs.statement.Bytes.{asked_since, is_of, is_put, pending_accesses}
+use Rattle.tl_bytes.specs.statement.Bytes.{asked_since, asks, is_of, is_put, pending_accesses}
 use Rattle.tl_true_bytes.{proofs.Like.asked-opcode, proofs.Like.like-asked, proofs.Opened.IsOpen, proofs.Opened.asks_access}
 use Rattle.tl_true_bytes.{proofs.Sources.open-request}
 
@@ -65,7 +65,8 @@ asked-open {w} m t c s p link x blank of_access now = record {
     since = asked_since (find (is_of link.0 beat.source) (pending_accesses t)) (suc (length t))
 
     both : (is_access beat.opcode ≡ true) × (is_put beat.opcode || ends (Beat.A beat) (on_link link.0 t) ≡ true)
-    both = and_parts (is_access beat.opcode) (is_put beat.opcode || ends (Beat.A beat) (on_link link.0 t)) now.asks_it
+    both = and_parts (is_access beat.opcode) (is_put beat.opcode || ends (Beat.A beat) (on_link link.0 t))
+        (and_parts (asks beat (on_link link.0 t)) _ now.asks_it).0
 
     asked : IsAsked m link.0 beat t
     asked = subst (λ (b : Beat w). IsOfAccess m link.0 b t) now.beat_is of_access both.0

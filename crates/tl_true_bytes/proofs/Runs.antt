@@ -21,6 +21,8 @@ use Rattle.tl_coherence.proofs.{simulation.SizedAfter.IsSizedAsk, theorem.Soundn
 use Rattle.tl_coherence.proofs.memory.Beside.{done_at, open-here, performing-one}
 use Rattle.tl_concord.{proofs.Accesses.carries_accesses, proofs.WholeStores.allowed_ends}
 use Rattle.tl_true_bytes.{proofs.Asked.IsSomePending, proofs.Ends.done-last, proofs.Ends.moved-part}
+use Rattle.tl_bytes.proofs.OnTime.{AreOnTime}
+use Rattle.tl_concord.proofs.Late.{world-late}
 use Rattle.tl_true_bytes.proofs.Beside.{beside-ended, beside-moved, beside-performed, beside-unread}
 use Rattle.tl_true_bytes.proofs.Events.{IsAlignedStore, ended-open, replied}
 use Rattle.tl_true_bytes.proofs.Requests.{answered-open, answered-pending, asked-open, request-known}
@@ -80,7 +82,7 @@ pub happened-beside : {w : ℕ} (config : Config) (log : Log w) (e : Event w) (o
     → IsGiven config ((e, o) ∷ log) → IsBeside (run_of config log) (one_memory_after config log) (trace_of log)
     → IsBeside (happened e o (one_memory_after config log) (run_of config log))
     (moved e o (one_memory_after config log)) (taken_at e o ++ trace_of log)
-unfolding IsLog EachTaken
+unfolding IsLog EachTaken trace_of
 happened-beside config log (Ask c i) (Outcome.Replied r) given is =
     asked-beside config log (given-before config (Ask c i, Outcome.Replied r) log given) c i r given.is_log.0 is
 happened-beside config log (Ask c i) (Outcome.Moved y) given is = is
@@ -91,7 +93,8 @@ happened-beside config log (Ask c i) Outcome.NoSuchClient given is = is
 happened-beside config log (Deliver link ch) (Outcome.Moved y) given is =
     let before = given-before config (Deliver link ch, Outcome.Moved y) log given in
     beside-moved (run_of config log) (one_memory_after config log) (trace_of log) is link y
-    (λ z e. moved-part config log before link ch y z (sym given.is_log.0) e) (moved-on config log link ch y given)
+    (λ z e. moved-part config log before link ch y z (sym given.is_log.0) e)
+    (world-late ((Deliver link ch, Outcome.Moved y) ∷ log) given) (moved-on config log link ch y given)
     (λ c s p now. asked-open (one_memory_after config log) (trace_of log) c s p link y
     (λ i z e. (request-known config log before link.0 i z None e).2)
     (carries_accesses config ((Deliver link ch, Outcome.Moved y) ∷ log) given).0 now)
@@ -108,7 +111,9 @@ happened-beside {w} config log (Deliver link ch) (Outcome.Done y source f) given
     (sym last.beat_is) (subst (λ (k : ℕ). IsBeside (Takes link (Beat.D last.last) ∷ run_of config log)
     (with_open link.0 (pool_of f) k None (one_memory_after config log)) ((link, Beat.D last.last) ∷ trace_of log))
     (sym last.source_is) (beside-ended (run_of config log) (one_memory_after config log) (trace_of log) is link
-    last.last (pool_of f) last.ends_so last.pool_is)))
+    last.last (pool_of f)
+    (subst (λ (b : Beat w). AreOnTime ((link, b) ∷ trace_of log)) last.beat_is
+    (world-late ((Deliver link ch, Outcome.Done y source f) ∷ log) given)) last.ends_so last.pool_is)))
 happened-beside config log (Deliver link ch) (Outcome.Replied r) given is = is
 happened-beside config log (Deliver link ch) Outcome.Empty given is = is
 happened-beside config log (Deliver link ch) Outcome.Stalled given is = is

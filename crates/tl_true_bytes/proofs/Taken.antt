@@ -1,17 +1,18 @@
 -- What is taken in a world is taken rightly in the run beside it.
-use Rattle.tl_true_bytes.proofs.Imports.{Beat, BeatD, Link, OpD, IsWidth, MessageA, reaches, channel_of, unfinished}
+use Rattle.tl_true_bytes.proofs.Imports.{Beat, BeatD, Link, OpD, IsWidth, MessageA, reaches, unfinished}
 use Rattle.tl_true_bytes.proofs.Imports.{Request, on_link, AccessResult, Memory, effect, ends, is_grant, is_release_ack}
 use Rattle.tl_true_bytes.proofs.Imports.{Access, carried_byte, is_access, is_of, pending_accesses, sourced, Machine}
 use Rattle.tl_true_bytes.proofs.Imports.{Requests, effect-sourced, IsOfAccess, IsResponse, IsRightBeat, Run, found_in}
 use Rattle.tl_true_bytes.proofs.Imports.{trace_in, IsBeside, IsOpenAs, result_in, Channel, Op}
 use Rattle.std.proofs.Common.{◌≡◌, ℕ, ◌||◌, ◌-◌, ◌*◌, ◌/◌, ◌%◌, ◌^◌, ◌≤◌}
-use Rattle.std.proofs.Common.{true, false, ◌∷◌, length, Some, None, refl, sym}
+use Rattle.std.proofs.Common.{true, false, not, ◌&&◌, ◌∷◌, length, Some, None, refl, sym}
 use Rattle.std.proofs.Common.{◌∙◌, ap, subst, inl, inr}
 use Rattle.std.{specs.Prelude.find, specs.Prelude.is_some, specs.Prelude.Option, proofs.lemmas.Bool.and_parts}
 use Rattle.tl_burst.specs.declared.message.Message.{Message}
 use Rattle.tl_rules.{specs.code.Open.open_request, specs.statement.Conformance.answers}
 use Rattle.tl_rules.{specs.statement.Effect.answer_of}
-use Rattle.tl_bytes.specs.statement.Bytes.{could_be, is_put}
+use Rattle.tl_bytes.specs.statement.Bytes.{asks, could_be, is_put}
+use Rattle.tl_bytes.specs.statement.Early.{outruns, telling_beats}
 use Rattle.tl_bytes.specs.statement.Free as bytes
 use Rattle.tl_params.specs.declared.perm.Perm.{Perm}
 use Rattle.tl_rules.specs.statement.Windows.{is_free}
@@ -57,6 +58,8 @@ pub record IsTakenWell {w : ℕ} (n : ℕ) (m : Machine w) (link : Link) (x : Be
   pub whole : (s : ℕ) (a : MessageA w) (r : AccessResult)
       → m.opened link.0 Requests s ≡ Some (record { asked = Op.Access (Message.A a); answer = Some r })
       → is_access a.opcode ≡ true → comes link.0 s (trace_in run) ≡ false
+  -- no response comes before its request is complete
+  pub in_time : (z : BeatD w) → x ≡ Beat.D z → outruns z (on_link link.0 (trace_in run)) ≡ false
   -- an access is aligned
   pub aligned : (s : ℕ) (a : MessageA w) (r : Option AccessResult)
       → m.opened link.0 Requests s ≡ Some (record { asked = Op.Access (Message.A a); answer = r })
@@ -91,7 +94,8 @@ module _ {w : ℕ} (n : ℕ) (run : Run w) (m : Machine w) (width : IsWidth w) (
           ∙ reply.brings (sym (ap returns opcode) ∙ reads) address (sym (reaching address) ∙ reached) (elim come [
             | inl early ↦ inl (subst (λ (k : ℕ). k / w ≤ length (unfinished Channel.D (on_link link.0 (trace_in run))))
                 (place address) early)
-            | inr last ↦ inr (and_parts _ (ends (Beat.D z) (on_link link.0 (trace_in run))) last).1
+            | inr last ↦ inr (and_parts (not (is_release_ack z.opcode)) (ends (Beat.D z) (on_link link.0 (trace_in run)))
+                (and_parts (not (is_release_ack z.opcode) && ends (Beat.D z) (on_link link.0 (trace_in run))) _ last).0).1
           ]));
     };
   }
@@ -169,24 +173,25 @@ module _ {w : ℕ} (n : ℕ) (run : Run w) (m : Machine w) (width : IsWidth w) (
     asks_new = λ z address x_is asked_so.
         let asked : IsAsked m link.0 z (trace_in run) =
         (subst (λ (b : Beat w). IsOfAccess m link.0 b (trace_in run)) x_is well.of_access)
-        (and_parts (is_access z.opcode) (is_put z.opcode || ends (Beat.A z) (on_link link.0 (trace_in run))) asked_so).0
+        (and_parts (is_access z.opcode) (is_put z.opcode || ends (Beat.A z) (on_link link.0 (trace_in run)))
+        (and_parts (asks z (on_link link.0 (trace_in run))) _ asked_so).0).0
         in
         inl (unfound link.0 z.source asked.asked asked.opened address);
     asks_first = λ z y older x_is asked_so begun_so no_ack same.
         (subst (λ (b : Beat w). IsRightBeat link.0 b (trace_in run)) x_is well.right) y older begun_so no_ack same;
+    outruns_own = λ z y older address x_is early.
+        absurd (let no : true ≡ false = sym early ∙ well.in_time z x_is in cc);
+    outruns_put = λ z p x_is early. absurd (let no : true ≡ false = sym early ∙ well.in_time z x_is in cc);
     continues = λ z y older x_is begun_so.
         let response : IsResponse link.0 z (trace_in run) =
         subst (λ (b : Beat w). IsRightBeat link.0 b (trace_in run)) x_is well.right in
         response.continues y older begun_so;
-    answers_rightly = λ z p x_is no_ack granted pending. answers-rightly link x well z p x_is no_ack pending;
-    grants_rightly = λ z asked x_is with_data sound open_so. well.granted z asked x_is with_data open_so;
+    answers_rightly = λ z p x_is no_ack granted late pending. answers-rightly link x well z p x_is no_ack pending;
+    grants_rightly = λ z asked x_is with_data sound open_so sure. well.granted z asked x_is with_data open_so;
     tells_rightly = λ address unwritten tells_so.
         subst (λ (f : Memory). could_be (f address)
-        (carried_byte (x ∷ unfinished (channel_of x) (on_link link.0 (trace_in run))) (address % 64)) ≡ true)
+        (carried_byte (telling_beats x (on_link link.0 (trace_in run))) (address % 64)) ≡ true)
         (sym is.memory_is) (well.told.told address tells_so);
-    closes_told = λ block free closed.
-        let alike = well.alike Perm.Trunk block in
-        well.told.got_told n block (sym alike.0 ∙ free) (sym alike.1 ∙ closed);
     given_up_rightly = λ address held free.
         let alike = well.alike Perm.Branch (block_at address) in
         inl (well.told.given_up_told n (block_at address) (sym alike.0 ∙ held) (sym alike.1 ∙ free));

@@ -10,6 +10,7 @@ use Rattle.tl_true_bytes.proofs.Imports.{with_end, with_reply, with_whole}
 use Rattle.std.proofs.Common.{◌≡◌, ℕ, zero, suc, ◌<◌, Bool, true, false, ◌&&◌, List, [], ◌∷◌, length, inl, inr, Some}
 use Rattle.std.proofs.Common.{None, refl, sym, ◌∙◌, ap, subst, arith}
 use Rattle.tl_bytes.specs.statement.Free.{is_free, may_hold}
+use Rattle.tl_concord.proofs.Late.{world-late}
 use Rattle.tl_concord.proofs.Alike.{free-world, held-world, links-few}
 use Rattle.std.specs.Prelude.{if◌then◌else◌, is_some, Option, option_map, slice_get}
 use Rattle.std.{proofs.lemmas.Bool.cases_eq, proofs.lemmas.Option.slice_get_within}
@@ -118,7 +119,7 @@ module _ {w : ℕ} (config : Config) (log : Log w) where
       let all : Log w = (Deliver link ch, Outcome.Moved y) ∷ log in
       taken-well config log (given-before config (Deliver link ch, Outcome.Moved y) log given) (links config) link y
       (links-few config) (λ k b. free-world all given (links config) k b (links-few config))
-      (tells_of_memory config all given).0 (responses config all given).each.0 (carries_accesses config all given).0
+      (world-late all given).0 (tells_of_memory config all given).0 (responses config all given).each.0 (carries_accesses config all given).0
       (each-taken config (λ earlier c x. GrantsOther (one_memory_after config earlier) c x) (grants-other config) all
       given).0
       (each-taken config (λ earlier c x. GrantsBlock (one_memory_after config earlier).memory c x (trace_of earlier))
@@ -132,7 +133,7 @@ module _ {w : ℕ} (config : Config) (log : Log w) where
       let all : Log w = (Deliver link ch, Outcome.Done y source f) ∷ log in
       taken-well config log (given-before config (Deliver link ch, Outcome.Done y source f) log given) (links config)
       link y (links-few config) (λ k b. free-world all given (links config) k b (links-few config))
-      (tells_of_memory config all given).0 (responses config all given).each.0 (carries_accesses config all given).0
+      (world-late all given).0 (tells_of_memory config all given).0 (responses config all given).each.0 (carries_accesses config all given).0
       (each-taken config (λ earlier c x. GrantsOther (one_memory_after config earlier) c x) (grants-other config) all
       given).0
       (each-taken config (λ earlier c x. GrantsBlock (one_memory_after config earlier).memory c x (trace_of earlier))

@@ -24,6 +24,7 @@ use Rattle.tl_one_memory.specs.statement.Run.{IsGranted}
 use Rattle.tl_true_bytes.{proofs.Continued.grants-same, proofs.Granted.IsBefore, proofs.Granted.granted-before}
 use Rattle.tl_true_bytes.{proofs.Requests.answered-open, proofs.Requests.request-known, proofs.Runs.beside-log, proofs.Sources.not_acquire}
 use Rattle.tl_bytes.specs.statement.Free as bytes
+use Rattle.tl_bytes.{proofs.OnTime.IsOnTime, specs.statement.Early.outruns}
 use Rattle.tl_coherence.specs.statement.Delivery.{levels_of}
 use Rattle.tl_concord.proofs.Alike.{free-world}
 use Rattle.tl_params.specs.declared.perm.Perm.{Perm}
@@ -215,12 +216,12 @@ abbrev pub IsAsFree : {w : ℕ} → ℕ → Trace w → Type 0
 IsAsFree n t = (given : Perm) (block : ℕ) → bytes.is_free n given block t ≡ is_free n None given block t
 
 pub taken-well : {w : ℕ} (config : Config) (log : Log w) → IsGiven config log → (n : ℕ) (link : Link) (y : Beat w)
-    → n ≤ length (levels_of config) → IsAsFree n ((link, y) ∷ trace_of log)
+    → n ≤ length (levels_of config) → IsAsFree n ((link, y) ∷ trace_of log) → IsOnTime y (on_link link.0 (trace_of log))
     → IsToldOf (one_memory_after config log).memory link.0 y (trace_of log) → IsRightBeat link.0 y (trace_of log)
     → IsOfAccess (one_memory_after config log) link.0 y (trace_of log)
     → GrantsOther (one_memory_after config log) link.0 y → GrantsBlock (one_memory_after config log).memory link.0 y
     (trace_of log) → IsTakenWell n (one_memory_after config log) link y (run_of config log)
-taken-well {w} config log given n link y le alike told right of_access other block = record {
+taken-well {w} config log given n link y le alike late told right of_access other block = record {
   told = subst (λ (t : Trace w). IsToldOf m.memory link.0 y t) (sym same) told;
   right = subst (λ (t : Trace w). IsRightBeat link.0 y t) (sym same) right;
   of_access = subst (λ (t : Trace w). IsOfAccess m link.0 y t) (sym same) of_access;
@@ -235,6 +236,8 @@ taken-well {w} config log given n link y le alike told right of_access other blo
       right) (subst (λ (b : Beat w). GrantsBlock m.memory link.0 b (trace_of log)) y_is block) with_data asked);
   whole = λ s a r opened accesses. subst (λ (t : Trace w). comes link.0 s t ≡ false) (sym same)
       (answered-open config log given link.0 s a r opened accesses).whole;
+  in_time = λ z y_is. subst (λ (t : Trace w). outruns z (on_link link.0 t) ≡ false) (sym same)
+      (subst (λ (b : Beat w). IsOnTime b (on_link link.0 (trace_of log))) y_is late);
   aligned = λ s a r opened. aligned-open config log given link.0 s a r opened;
 }
   where

@@ -2,7 +2,6 @@
 -- bytes are set with each Grant of it while no link holds it, and whenever Trunk of it is given up.
 use Rattle.std.specs.Prelude.{ℕ, true, false, ◌∷◌, ◌≡◌, ◌%◌, None}
 use Rattle.tl_beat.specs.declared.beat.Beat.{Beat}
-use Rattle.tl_burst.specs.statement.Messages.{channel_of, unfinished}
 use Rattle.tl_params.specs.declared.config.Config.{Config}
 use Rattle.tl_params.specs.declared.perm.Perm.TheVariants as perm
 use Rattle.tl_rules.specs.statement.Conformance.{Trace, on_link}
@@ -10,6 +9,7 @@ use Rattle.tl_rules.specs.statement.Effect.{Memory}
 use Rattle.tl_rules.specs.statement.History.{block_at}
 use Rattle.tl_rules.specs.statement.Windows.{is_free}
 use Rattle.tl_bytes.specs.statement.Bytes.{carried_byte, could_be, tells}
+use Rattle.tl_bytes.specs.statement.Early.{telling_beats}
 use Rattle.tl_coherence.specs.statement.Flow.{EachTaken, trace_of}
 use Rattle.tl_coherence.specs.statement.Headline.{IsGiven}
 use Rattle.tl_coherence.specs.statement.Log.{Log}
@@ -19,7 +19,7 @@ use Rattle.tl_coherence.specs.statement.OneMemory.{one_memory_after}
 pub record IsToldOf {w : ℕ} (memory : Memory) (link : ℕ) (x : Beat w) (t : Trace w) : Type 0 where
   -- the bytes that it sets for a block are those of memory
   pub told : (address : ℕ) → tells (block_at address) x (on_link link t) ≡ true
-      → could_be (memory address) (carried_byte (x ∷ unfinished (channel_of x) (on_link link t)) (address % 64)) ≡ true
+      → could_be (memory address) (carried_byte (telling_beats x (on_link link t)) (address % 64)) ≡ true
   -- a beat sets a block's bytes if a link holds the block after it and none did before, or if it gives Trunk up
   pub got_told : (n block : ℕ) → is_free n None perm.Trunk block t ≡ true
       → is_free n None perm.Trunk block ((record { 0 = link }, x) ∷ t) ≡ false → tells block x (on_link link t) ≡ true

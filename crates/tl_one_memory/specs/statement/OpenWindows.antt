@@ -1,6 +1,6 @@
 -- That a run of one memory keeps M4, if no beat breaks a rule of its link and the access reads, or writes a byte of its
 -- block with its last beat.
-use Rattle.std.specs.Prelude.{ℕ, Bool, true, false, List, [], ◌∷◌, ◌≡◌, ◌+◌, ◌*◌, find, nat_le, Some, ⊤}
+use Rattle.std.specs.Prelude.{ℕ, Bool, true, false, List, [], ◌∷◌, ◌≡◌, ◌+◌, ◌*◌, find, nat_le, None, Some, ⊤}
 use Rattle.tl_beat.specs.declared.beat.Beat.{Beat}
 use Rattle.tl_beat.specs.declared.beat.Beat.TheVariants as beat
 use Rattle.tl_beat.specs.statement.Width.{IsWidth}
@@ -13,6 +13,7 @@ use Rattle.tl_rules.specs.statement.Effect.{Memory}
 use Rattle.tl_rules.specs.statement.History.{block_at, is_release_ack}
 use Rattle.tl_rules.specs.statement.Windows.{needs}
 use Rattle.tl_bytes.specs.statement.Bytes.{Access, access_writes, is_access, is_of, pending_accesses}
+use Rattle.tl_bytes.specs.statement.Early.{is_outrun_of, outrun_accesses}
 use Rattle.tl_bytes.specs.statement.Shown.{had_window}
 use Rattle.tl_memory.specs.statement.Links.{AreLegal}
 use Rattle.tl_one_memory.specs.statement.Run.{IsRun, Run, place_in, returns, trace_in}
@@ -30,10 +31,12 @@ pub record HasHad {w : ℕ} (n c s : ℕ) (asked : Request) (t : Trace w) : Type
   pub writes_last : (address : ℕ) → block_at address ≡ asked.block → access_writes address access ≡ true
       → is_last address access ≡ true → had_window n c s (needs asked.opcode) asked.block t ≡ true
 
--- so it is with a beat of the answer to an open request for an access, if that isn't denied
+-- so it is with a beat of the answer to an open request for an access, if that isn't denied and didn't come before the
+-- request was complete
 abbrev pub IsInWindow : {w : ℕ} → ℕ → ℕ → Beat w → Trace w → Type 0
 IsInWindow n c (beat.D z) t =
     (asked : Request) → is_release_ack z.opcode ≡ false → z.denied ≡ false
+    → find (is_outrun_of c z.source) (outrun_accesses t) ≡ None
     → open_request z.source (on_link c t) ≡ Some asked
     → is_access asked.opcode ≡ true → HasHad n c z.source asked t
 IsInWindow n c _ t = ⊤

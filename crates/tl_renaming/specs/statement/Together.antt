@@ -1,5 +1,5 @@
 -- Renaming changes no verdict on all links of a manager together.
-use Rattle.std.specs.Prelude.{ℕ, false, ◌≡◌, [], ◌∷◌, List, ⊤}
+use Rattle.std.specs.Prelude.{ℕ, ◌≡◌, [], ◌∷◌, List, ⊤}
 use Rattle.tl_beat.specs.declared.beat.Beat.{Beat}
 use Rattle.tl_beat.specs.declared.beat.Link.{Link}
 use Rattle.tl_memory.specs.statement.Links.{KeepRules}
@@ -19,11 +19,11 @@ AreTypedOn (x ∷ t) = IsTyped x.1 × AreTypedOn t
 -- rule of its link
 abbrev pub KeepsTogether : ℕ → Type 0
 KeepsTogether w = (l : Liberties) (r : Renamings) (levels : List Level) (x : Link × Beat w) (t : Trace w)
-    → l.early ≡ false → AreFaithful l r → KeepRules l levels t → AreTypedOn (x ∷ t)
+    → AreFaithful l r → KeepRules l levels t → AreTypedOn (x ∷ t)
     → broken_together levels l (renamed_on_link r x) (renamed_trace r t) ≡ broken_together levels l x t
 
 -- a renamed trace has the same first breach: the same rule and place
 abbrev pub KeepsBreaches : ℕ → Type 0
 KeepsBreaches w = (l : Liberties) (r : Renamings) (levels : List Level) (trace : Trace w)
-    → l.early ≡ false → AreFaithful l r → AreTypedOn trace
+    → AreFaithful l r → AreTypedOn trace
     → first_breach levels l (renamed_trace r trace) ≡ first_breach levels l trace

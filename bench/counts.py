@@ -1,7 +1,7 @@
 #!/usr/bin/env python3
-"""counts.py TOOL [OTHER]: the instructions a line that TOOL takes on the traces and schedules of this folder, as a table of
-Markdown, and beside them those of OTHER. `valgrind --tool=callgrind` counts; what a command takes once is left out, since a
-number is the difference of two lengths, over the lines between them."""
+"""counts.py TOOL [OTHER]: the instructions a line that TOOL takes on four traces, as a table of Markdown, and beside them those
+of OTHER. The last column has the same beats as wide lines. `valgrind --tool=callgrind` counts; what a command takes once is left
+out, since a number is the difference of two lengths, over the lines between them."""
 import pathlib
 import re
 import subprocess
@@ -46,6 +46,21 @@ def puts(count):
         yield f"00 D 0 0 6 {i % 256:02x} 00 0 - 0"
 
 
+def widened(line):
+    """The line of a beat of 8 bytes as that of a wide beat: longer sources, sinks and addresses."""
+    fields = line.split(" ")
+    if fields[1] == "E":
+        return " ".join(fields[:2] + ["00" + fields[2]])
+    longer = "00000000" if fields[1] in "ABC" else "00"
+    return " ".join(fields[:5] + ["00" + fields[5], longer + fields[6]] + fields[7:])
+
+
+def widened_trace(trace):
+    """The header and the lines of a trace of 8 bytes a beat in wide form."""
+    head, lines = trace
+    return head.replace("tltrace 1", "tltrace 5 8 none"), lambda count: map(widened, lines(count))
+
+
 TRACES = {
     "one link at UL, Gets and their answers": ("tltrace 1 UL", gets),
     "sixteen links at C, transfers of many blocks": ("tltrace 1" + 16 * " C", transfers),
@@ -53,7 +68,7 @@ TRACES = {
     "bursts of 64 bytes": ("tltrace 1 UH", puts),
 }
 COMMANDS = {"decode": ["decode"], "monitor": ["monitor"], "monitor --allow all": ["monitor", "--allow", "standard,uncorrupt"],
-            "coherent": ["coherent"], "explain": ["explain"]}
+            "coherent": ["coherent"], "explain": ["explain"], "cover": ["cover"]}
 
 
 def instructions(words):
@@ -62,11 +77,12 @@ def instructions(words):
     return int(re.search(r"Collected : (\d+)", ran.stderr)[1])
 
 
-def a_line(tool, words, room, name, head, lines):
+def a_line(tool, words, room, trace):
     """The instructions for each line, of those between the two lengths."""
+    head, lines = trace
     counts = []
     for length in (SHORT, LONG):
-        file = room / f"{name}{length}"
+        file = room / str(length)
         whole = ([] if words == ["decode"] else [head]) + list(lines(length))
         file.write_text("\n".join(whole) + "\n")
         counts.append((instructions([tool, *words, file]), len(whole)))
@@ -78,13 +94,15 @@ def main():
     tools = sys.argv[1:]
     if not 1 <= len(tools) <= 2:
         sys.exit("usage: counts.py TOOL [OTHER]")
-    print("| Trace |" + "".join(f" `{command}` |" for command in COMMANDS))
-    print("|---|" + len(COMMANDS) * "---|")
+    columns = [(f"`{command}`", words, lambda trace: trace) for command, words in COMMANDS.items()]
+    columns.append(("`monitor`, wide lines", ["monitor"], widened_trace))
+    print("| Trace |" + "".join(f" {title} |" for title, _, _ in columns))
+    print("|---|" + len(columns) * "---|")
     with tempfile.TemporaryDirectory() as folder:
-        for name, (head, lines) in TRACES.items():
+        for name, trace in TRACES.items():
             cells = []
-            for command, words in COMMANDS.items():
-                seen = [a_line(tool, words, pathlib.Path(folder), lines.__name__, head, lines) for tool in tools]
+            for _, words, form in columns:
+                seen = [a_line(tool, words, pathlib.Path(folder), form(trace)) for tool in tools]
                 cells.append(", ".join(f"{count:,.0f}" for count in seen))
             print(f"| {name} | " + " | ".join(cells) + " |", flush=True)
 

@@ -22,7 +22,7 @@ inserted-open old new block value all some changed = λ k b is. elim (cases_eq k
 
 -- the same is found in all trees as in the one of the block
 pub inserted : (trees : List (BTreeMap ℕ Block)) (d new : BTreeMap ℕ Block) (block i : ℕ) (value : Block)
-    → i ≡ tree_of block → length trees ≡ 256
+    → i ≡ tree_of block → length trees ≡ 1024
     → ((k : ℕ) → value_found new.entries k ≡ (if k == block then Some value else value_found
     (slice_index_or trees i d).entries k))
     → (k : ℕ) → block_found (entries_of (slice_set trees i new)) k ≡ (if k == block then Some value else block_found

@@ -263,7 +263,7 @@ pub entries-set : (trees : List (BTreeMap ℕ Block)) (new : BTreeMap ℕ Block)
 entries-set trees new k i e = map-set (λ (m : BTreeMap ℕ Block). m.entries) trees i new ∙ ap
     (λ j. slice_set (entries_of trees) j new.entries) e
 
-pub entries-long : (trees : List (BTreeMap ℕ Block)) (k : ℕ) → length trees ≡ 256
+pub entries-long : (trees : List (BTreeMap ℕ Block)) (k : ℕ) → length trees ≡ 1024
     → tree_of k < length (entries_of trees)
 entries-long trees k long = let e = length-map trees (λ (m : BTreeMap ℕ Block). m.entries) in omega (arith, e, long)
 
@@ -289,7 +289,7 @@ stays trees d new k i e lt same =
 
 -- one tree is changed at a block
 pub changed-said : (trees : List (BTreeMap ℕ Block)) (d new : BTreeMap ℕ Block) (block i : ℕ) (value : Block)
-    (o : Option Block) → i ≡ tree_of block → length trees ≡ 256
+    (o : Option Block) → i ≡ tree_of block → length trees ≡ 1024
     → ((k : ℕ) → value_in (with_value new.entries block o)
     k ≡ (if k == block then value else value_in (slice_index_or trees i d).entries k))
     → (k : ℕ) → block_in (with_seen (entries_of (slice_set trees i new)) block o)
@@ -301,7 +301,7 @@ changed-said trees d new block i value o e long changed k =
     (λ n. changed n ∙ ap (λ es. if n == block then value else value_in es n) (tree-read trees d block i e lt)) k
 
 pub changed-stands : (trees : List (BTreeMap ℕ Block)) (new : BTreeMap ℕ Block) (block i : ℕ) (o : Option Block)
-    → i ≡ tree_of block → length trees ≡ 256
+    → i ≡ tree_of block → length trees ≡ 1024
     → IsValue new.entries block o → IsSeen (entries_of (slice_set trees i new)) block o
 changed-stands trees new block i o e long stands =
     rw (
@@ -311,7 +311,7 @@ changed-stands trees new block i o e long stands =
     ) stands
 
 pub changed-open : (trees : List (BTreeMap ℕ Block)) (new : BTreeMap ℕ Block) (block i : ℕ) → i ≡ tree_of block
-    → length trees ≡ 256 → AreOpen (entries_of trees) → AllOpen new.entries
+    → length trees ≡ 1024 → AreOpen (entries_of trees) → AllOpen new.entries
     → AreOpen (entries_of (slice_set trees i new))
 changed-open trees new block i e long all own =
     rw (entries-set trees new block i e) (set_open (entries_of trees) (tree_of block) new.entries
@@ -323,8 +323,8 @@ none_stands [] i none' = refl
 none_stands (m ∷ ms) zero none' = none' 0 m (omega arith)
 none_stands (m ∷ ms) (suc i) none' = none_stands ms i (λ j d lt. none' (suc j) d (omega arith))
 
-pub new-trees : (trees : List (BTreeMap ℕ Block)) → length trees ≡ 256
-    → ((i : ℕ) (d : BTreeMap ℕ Block) → i < 256 → (slice_index_or trees i d).entries ≡ []) → (i : ℕ)
+pub new-trees : (trees : List (BTreeMap ℕ Block)) → length trees ≡ 1024
+    → ((i : ℕ) (d : BTreeMap ℕ Block) → i < 1024 → (slice_index_or trees i d).entries ≡ []) → (i : ℕ)
     → slice_index_or (entries_of trees) i [] ≡ []
 new-trees trees long empty i = none_stands trees i (λ j d lt. empty j d (omega (arith, long, lt)))
 

@@ -18,7 +18,7 @@ use tl_rules::perm::Perm;
 use tl_rules::table::Block;
 
 /// The number of trees that keep the blocks, by the low bits of their numbers.
-const TREES: usize = 256;
+const TREES: usize = 1024;
 
 /// An empty block: None is held, and no transfer is pending.
 pub const EMPTY: Block = Block {
@@ -64,7 +64,7 @@ fn or_empty(found: Option<&Block>) -> &Block
 /// Trees without blocks.
 fn new_trees(alloc: Global) -> [BTreeMap<u32, Block>; TREES]
     ensures empty { (i : ℕ) → slice_index_or (entries_of result) i [] ≡ [] }
-    ensures long { length result ≡ 256 }
+    ensures long { length result ≡ 1024 }
 {
     array::from_fn(
         |_|
@@ -76,7 +76,7 @@ fn new_trees(alloc: Global) -> [BTreeMap<u32, Block>; TREES]
 /// The tree of a block.
 fn tree_of(block: u32) -> usize
     ensures own { result ≡ tree_of block }
-    ensures below { result < 256 }
+    ensures below { result < 1024 }
 {
     block as usize % TREES
 }
@@ -104,7 +104,7 @@ fn seek(
     ensures same { with_seen (entries_of trees.new) block result ≡ with_seen (entries_of trees.old) last seen }
     ensures stands { IsSeen (entries_of trees.new) block result }
     ensures open { AreOpen (entries_of trees.new) }
-    ensures long { length trees.new ≡ 256 }
+    ensures long { length trees.new ≡ 1024 }
 {
     store(&mut trees[tree_of(last)], last, seen);
     trees[tree_of(block)].get(&block).copied()
@@ -122,7 +122,7 @@ fn turn(
     ensures same { with_seen (entries_of trees.new) block result ≡ with_seen (entries_of trees.old) last seen }
     ensures stands { IsSeen (entries_of trees.new) block result }
     ensures open { AreOpen (entries_of trees.new) }
-    ensures long { length trees.new ≡ 256 }
+    ensures long { length trees.new ≡ 1024 }
 {
     if block == last {
         seen
@@ -174,7 +174,7 @@ fn make_room(
         ≡ (if k == block then value else block_in (entries_of trees.old) k)) }
     ensures stands { IfOk result (λ new. IsSeen (entries_of trees.new) block new) }
     ensures open { AreOpen (entries_of trees.new) }
-    ensures long { length trees.new ≡ 256 }
+    ensures long { length trees.new ≡ 1024 }
     ensures unchanged { OnErr result (entries_of trees.new ≡ entries_of trees.old) }
     ensures new { OnErr result ((seen ≡ None) × (0 < open_of value)) }
 {
@@ -211,7 +211,7 @@ fn insert(
         ≡ (if k == block then value else block_in (with_seen (entries_of trees.old) last seen) k)) }
     ensures stands { IfOk result (λ new. IsSeen (entries_of trees.new) last new) }
     ensures open { AreOpen (entries_of trees.new) }
-    ensures long { length trees.new ≡ 256 }
+    ensures long { length trees.new ≡ 1024 }
     ensures unchanged { OnErr result (entries_of trees.new ≡ entries_of trees.old) }
 {
     insert_in(&mut trees[tree_of(block)], block, value)?;
@@ -243,7 +243,7 @@ impl Model for Blocks {
         ≡ sum_below (2 ^ 32) (λ k. open_of (block_in (with_seen (entries_of b.trees) b.last b.seen) k)))
         × AreOpen (entries_of b.trees)
         × IsSeen (entries_of b.trees) b.last b.seen
-        × (length b.trees ≡ 256) };
+        × (length b.trees ≡ 1024) };
 }
 
 impl Blocks {

@@ -45,7 +45,7 @@ AllOpen entries = (k : ℕ) (b : Block) → value_found entries k ≡ Some b →
 
 -- the number of the tree of block k
 abbrev pub tree_of : ℕ → ℕ
-tree_of k = k % 256
+tree_of k = k % 1024
 
 abbrev pub entries_of : List (BTreeMap ℕ Block) → List (List (ℕ × Block))
 entries_of trees = map (λ m. m.entries) trees

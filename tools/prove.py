@@ -2,18 +2,18 @@
 """prove.py CRATE..: proves programs and static libraries of the repository and what they stand on, several crates at once, and
 builds them. Where it is noted that what stands in crates/CRATE/out was built of the sources as they are, there is nothing to do.
 
-The crates are copied to a folder apart, without their wrong bodies, and `rt ci` proves them there from nothing, side by side as
-far as their libraries and the memory allow; what an earlier run on this machine proved of the same files it keeps. `rt ci` builds
-no static library, and a program that it keeps comes without its object file: one more check of that crate, over the libraries
-that stand there, builds it. In a crate's folder `rt run` and `rt lib` do the same for one crate after another, and keep what they
-proved."""
+Where `rt ci` proved all that a crate stands on in this checkout, as the gate does first, its libraries are here, and one check of
+the crate over them builds it. Otherwise the crates are copied to a folder apart, without their wrong bodies, and `rt ci` proves them
+there from nothing, side by side as far as their libraries and the memory allow; what an earlier run on this machine proved of the
+same files it keeps. `rt ci` builds no static library, and a program that it keeps comes without its object file: again one more
+check builds it. In a crate's folder `rt run` and `rt lib` do the same for one crate after another, and keep what they proved."""
 import pathlib
 import shutil
 import subprocess
 import sys
 import tempfile
 
-from verdicts import BUILT, ROOT, below, crates, faults, noted
+from verdicts import BUILT, ROOT, below, crates, faults, noted, sources
 
 
 def copy(names, room):
@@ -50,6 +50,20 @@ def build(crate, room):
     return status
 
 
+def stands(crate, notes):
+    """Whether the library that `rt ci` proved of these sources is in the crate's folder. One that `rt check` made has a stamp."""
+    made = ROOT / "crates" / crate / "out/rlib"
+    proved = crate in notes and notes[crate]["sources"] == sources(crate)
+    return proved and (made / f"{crate}.rlib/format").exists() and not (made / "stamp").exists()
+
+
+def build_here(names, notes):
+    """Builds the crates over the libraries of this checkout, or returns None where one of these isn't here."""
+    if not all(stands(it, notes) for crate in names for it in below(crate) - {crate}):
+        return None
+    return next((status for crate in names if (status := build(crate, ROOT))), 0)
+
+
 def prove(names):
     with tempfile.TemporaryDirectory(prefix="prove-") as folder:
         room = pathlib.Path(folder)
@@ -65,10 +79,13 @@ def prove(names):
 
 
 def main():
-    left = [crate for crate in sys.argv[1:] if list(faults(noted(), below(crate)))]
+    notes = noted()
+    left = [crate for crate in sys.argv[1:] if list(faults(notes, below(crate)))]
     if not left:
         print(f"{' '.join(sys.argv[1:])}: proved and built of these sources before")
-    return prove(left) if left else 0
+        return 0
+    status = build_here(left, notes)
+    return prove(left) if status is None else status
 
 
 if __name__ == "__main__":

@@ -21,9 +21,9 @@ use Rattle.tl_memory.proofs.Elsewhere.{outrun-stays}
 use Rattle.tl_memory.proofs.Bearing.{leaves-request, leaves-still}
 use Rattle.tl_bytes.specs.statement.{Known.KnowsWindows, Shown.is_window, Shown.shows}
 use Rattle.tl_bytes.specs.statement.Bytes.{is_put}
-use Rattle.tl_memory.specs.code.Taking.{AreContinued, none_shown, with_next}
+use Rattle.tl_memory.specs.code.Taking.{AreContinued, next_accesses, none_shown, with_next}
 use Rattle.tl_memory.specs.code.Writers.{IsGrown, IsWriter}
-use Rattle.tl_memory.specs.{declared.block.NextState.NextState, declared.writer.Writer.Writer, statement.Known.IsLawful}
+use Rattle.tl_memory.specs.{declared.next_state.NextState.NextState, declared.writer.Writer.Writer, statement.Known.IsLawful}
 use Rattle.tl_memory.proofs.Elsewhere.{free-kept, last-kept}
 use Rattle.tl_memory.proofs.Found.{found-kept, found-settled, hidden, hidden-open, unshown-window}
 use Rattle.tl_memory.proofs.Keeping.{copied-each, filters-swap, inside-kept, settled-each}
@@ -155,7 +155,8 @@ asked-more admits n block first more access left x t pending to inside all k are
 -- the block, which stays as free as it was
 pub asked-state : {w : ℕ} (old : BlockState w) (next : NextState w) (gone : Option (Link × ℕ)) (n block : ℕ)
     (first : PendingAccess w) (more : List (PendingAccess w)) (access : Access w) (x : Link × Beat w) (t : Trace w)
-    → KnowsState old n block t → next.bytes ≡ None → next.outrun ≡ None → next.accesses.items ≡ first ∷ more
+    → KnowsState old n block t → next.bytes ≡ None → next.outrun ≡ None
+    → (next_accesses old.accesses next.accesses).items ≡ first ∷ more
     → pending_accesses (x ∷ t) ≡ access ∷ filter (keeps gone) (pending_accesses t)
     → is_to block access ≡ true → WritesInside access → LeavesHeld block x t
     → shows block x.1 (on_link x.0.0 t) ≡ false → KnowsBlock old.bytes n block (x ∷ t)

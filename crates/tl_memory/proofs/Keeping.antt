@@ -15,7 +15,7 @@ use Rattle.tl_memory.specs.declared.early.OutrunAccess.{OutrunAccess}
 use Rattle.tl_memory.specs.statement.Known.{KnowsOutrun}
 unfoldable use Rattle.tl_bytes.specs.statement.Early.{outrun_accesses}
 use Rattle.tl_bytes.proofs.Since.{same_after}
-use Rattle.tl_memory.specs.code.Writers.{AreWatched, is_named, picked, stays}
+use Rattle.tl_memory.specs.code.Writers.{finds_bytes, has_reader, AreWatched, is_named, picked, stays}
 use Rattle.tl_memory.proofs.{Found.found-kept, Found.found-settled, Writing.named, Writing.one_kept, Writing.one_left}
 
 -- ---- lists
@@ -115,6 +115,22 @@ module _ {X : Type 0} (R : X → X → Type 0) where
   done-all i v u done le = absurd done
 
 -- ---- the accesses that stay
+
+-- Puts find no bytes, so they stay as they are
+pub puts-renewed : {w : ℕ} (more : PendingAccess w → ℕ → ℕ → Bool) (accesses : List (PendingAccess w))
+    → has_reader accesses ≡ false → AreRenewed more (staying None accesses) accesses
+unfolding picked
+puts-renewed more [] none = tt
+puts-renewed more (x ∷ xs) none = elim (cases_Bool (finds_bytes x)) [
+  | inl reads ↦ absurd (let no : true ≡ false = rw reads at none in cc)
+  | inr put ↦ (
+    record { writer_is = refl; windows_are = refl; read_is = λ other. absurd (never (rw other at put)) },
+    puts-renewed more xs (rw put at none),
+  )
+]
+  where
+    never : true ≡ false → ⊥
+    never e = cc
 
 pub keeps-all : {w : ℕ} (accesses : List (Access w)) → accesses ≡ filter (keeps None) accesses
 keeps-all [] = refl

@@ -21,7 +21,7 @@ use Rattle.tl_memory.specs.code.Passing.{passes_by}
 use Rattle.tl_memory.specs.statement.Known.{AreInside}
 use Rattle.tl_memory.proofs.{BlockAnswers.asked-first, Borne.response-there}
 use Rattle.std.proofs.lemmas.Option.{none-some, same_Some, slice_get_cases}
-use Rattle.tl_memory.specs.code.Changing.{ExpectsAlong, ExpectsBegun, IsBorne, IsChange, KnowsFree}
+use Rattle.tl_memory.specs.code.Changing.{expected_by, ExpectsAlong, ExpectsBegun, IsBorne, IsChange, KnowsFree}
 use Rattle.tl_memory.specs.code.{Passing.changes_held, Passing.is_answer, Taking.IsSeen}
 use Rattle.tl_memory.specs.declared.links.Links.{Links}
 use Rattle.tl_memory.{specs.declared.memory.Change.Change, specs.declared.memory.Memory.Memory}
@@ -227,7 +227,7 @@ either_none false = refl
 
 -- a beat that leaves each block as it is changes nothing, where no response begins with it
 pub nothing-changed : {w : ℕ} (change : Change w) (m : Memory w) (n : ℕ) (x : Link × Beat w) (t : Trace w)
-    → change.block ≡ None → change.held ≡ None → change.expected ≡ None → IsBorne None x t → ExpectsBegun None n x t
+    → change.block ≡ None → change.held ≡ None → expected_by change ≡ None → IsBorne None x t → ExpectsBegun None n x t
     → ExpectsAlong None n x t → IsConcerned None x.1 (on_link x.0.0 t) → IsChange change m n x t
 nothing-changed change m n x t unborne unheld none passed unbegun unsaid concerned = record {
   block_is = rw unborne passed;

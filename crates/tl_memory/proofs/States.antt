@@ -7,6 +7,7 @@ use Rattle.tl_memory.proofs.Imports.{KnowsAccess, KnowsState, KnowsUnseen, Freed
 use Rattle.tl_memory.proofs.Imports.{free_for, freedom, open_for}
 use Rattle.std.proofs.Common.{◌≡◌, ℕ, Bool, true, false, not, ◌&&◌, ◌-◌, ◌/◌, List, [], ◌∷◌, length}
 use Rattle.std.proofs.Common.{refl, sym, ap, subst, ◌∙◌, arith, inl, inr}
+use Rattle.std.{specs.Box.box_value, specs.Prelude.option_map}
 use Rattle.std.specs.Prelude.{filter, if◌then◌else◌, None, Option, Some, unwrap_or}
 use Rattle.std.proofs.lemmas.Bool.{cases_Bool, eqb-true}
 use Rattle.tl_params.specs.declared.perm.Perm.{Perm}
@@ -16,7 +17,7 @@ use Rattle.tl_memory.proofs.Imports.{OpA}
 use Rattle.tl_bytes.specs.statement.Bytes.{is_get, is_put, last_window, window_began, windows_since}
 use Rattle.tl_bytes.specs.statement.Known.{count_of, IsWrite}
 use Rattle.tl_memory.specs.statement.Known.{IsNoPut}
-use Rattle.tl_memory.specs.{code.Taking.with_next, code.Writers.AreWatched, declared.block.NextState.NextState}
+use Rattle.tl_memory.specs.{code.Taking.next_accesses, code.Taking.with_next, code.Writers.AreWatched, declared.next_state.NextState.NextState}
 use Rattle.tl_memory.{proofs.Writing.no_data}
 unfoldable use Rattle.tl_bytes.specs.statement.Early.{outrun_accesses}
 use Rattle.tl_memory.specs.statement.Known.{KnowsOutrun}
@@ -111,19 +112,19 @@ again-get expected n block access o t found to is known = rw found (
 -- with what a beat makes of it
 pub unseen-state : {w : ℕ} (old : BlockState w) (next : NextState w) (n block : ℕ) (gone : Option (Link × ℕ))
     (x : Link × Beat w) (t : Trace w) → KnowsState old n block t
-    → KnowsBlock (unwrap_or next.bytes old.bytes) n block (x ∷ t)
+    → KnowsBlock (unwrap_or (option_map box_value next.bytes) old.bytes) n block (x ∷ t)
     → filter (is_to block) (pending_accesses (x ∷ t)) ≡ filter (keeps gone) (filter (is_to block) (pending_accesses t))
     → AllWriteInside (pending_accesses (x ∷ t))
     → KnowsOutrun (unwrap_or next.outrun old.outrun).items block (outrun_accesses (x ∷ t))
     → AreRenewed (found_by old.free old.bytes old.accesses.items old.outrun.items) (staying gone old.accesses.items)
-    next.accesses.items
+    (next_accesses old.accesses next.accesses).items
     → KnowsUnseen (with_next old next) n block x t
 unseen-state {w} old next n block gone x t k bytes stay inside out renewed = record {
   bytes_are = bytes;
   accesses_are = record {
-    accesses_are = subst (λ l. AreKnown next.accesses.items closed n block l t) (sym stay)
+    accesses_are = subst (λ l. AreKnown (next_accesses old.accesses next.accesses).items closed n block l t) (sym stay)
         (copied-each n block old.free old.bytes old.accesses.items old.outrun.items t k.bytes_are k.accesses_are
-        k.outrun_are gone old.accesses.items next.accesses.items (filter (is_to block) (pending_accesses t)) k.accesses_are.accesses_are renewed);
+        k.outrun_are gone old.accesses.items (next_accesses old.accesses next.accesses).items (filter (is_to block) (pending_accesses t)) k.accesses_are.accesses_are renewed);
     inside = inside;
   };
   outrun_are = out;

@@ -7,7 +7,7 @@ use Rattle.std.specs.Prelude.{if◌then◌else◌, None, Option, slice_get, slic
 use Rattle.std.{specs.BTreeMap.get, specs.BTreeMap.is_at, specs.Map.lookup, specs.Ordering.nat_cmp}
 use Rattle.std.{proofs.lemmas.List.length-set, proofs.lemmas.Option.none-some, proofs.lemmas.Option.same_Some}
 use Rattle.std.proofs.lemmas.Bool.{cases_Bool, eq-eqb, eqb-true}
-use Rattle.tl_memory.{specs.code.Taking.IsNext, specs.code.Taking.put_next, specs.declared.block.NextState.NextState}
+use Rattle.tl_memory.{specs.code.Taking.IsNext, specs.code.Taking.put_next, specs.declared.next_state.NextState.NextState}
 use Rattle.tl_memory.{specs.declared.blocks.Blocks.Blocks, proofs.Elsewhere.byte-kept, proofs.Elsewhere.stays}
 unfoldable use Rattle.tl_bytes.specs.statement.Early.{outrun_accesses}
 use Rattle.tl_memory.specs.statement.Known.{AreInside}

@@ -9,7 +9,7 @@ use Rattle.tl_bytes.specs.statement.Early.{outruns}
 use Rattle.tl_memory.specs.code.{Passing.acquires_from_none, Taking.IsNext, Taking.IsNextAsked, Taking.IsNextUnseen}
 use Rattle.tl_memory.specs.code.Taking.{AnswersTo, IsSeen, with_next}
 use Rattle.tl_memory.proofs.{Borne.response-there, Open.open-whole}
-use Rattle.tl_memory.specs.declared.block.NextState.{NextState}
+use Rattle.tl_memory.specs.declared.next_state.NextState.{NextState}
 use Rattle.tl_memory.proofs.{Elsewhere.settled, PassedBy.held-left, PassedBy.held-unshown}
 
 true_false : {X : Type 0} → true ≡ false → X

@@ -8,6 +8,7 @@ ghost use Rattle.tl_memory.specs.declared.pending.PendingAccess.{PendingAccess};
 use crate::early::OutrunAccess;
 use crate::free::Freedom;
 use crate::pending::PendingAccess;
+use crate::performed::is_put;
 use std::alloc::{AllocError, Global};
 use tl_beat::beat::Link;
 use tl_bytes::block_bytes::BlockBytes;
@@ -59,6 +60,18 @@ pub fn append_renewed<const W: usize>(
         }
     }
     Ok(())
+}
+
+/// Whether one of the accesses is no Put, and finds bytes.
+pub fn has_reader<const W: usize>(accesses: &[PendingAccess<W>]) -> bool
+    ensures { result ≡ writers.has_reader accesses.now }
+{
+    for access in accesses {
+        if !is_put(access.writer.asked.request.opcode) {
+            return true;
+        }
+    }
+    false
 }
 
 /// Adds one more beat, at this moment. `free` says whether the block is free for writing with it.

@@ -1,7 +1,8 @@
 //! The state of a block.
 
 ghost use Rattle.std.specs.Prelude.{ℕ, suc, true, false, not, None, [], ◌∷◌, ◌≡◌, ◌≤◌, ◌&&◌, ◌-◌, length, find, IfOk};
-ghost use Rattle.std.specs.Prelude.{if◌then◌else◌, filter, is_some, unwrap_or};
+ghost use Rattle.std.specs.Box.{box_value};
+ghost use Rattle.std.specs.Prelude.{if◌then◌else◌, filter, is_some, option_map, unwrap_or};
 ghost use Rattle.tl_beat.specs.declared.beat.Beat.{Beat};
 ghost use Rattle.tl_beat.specs.declared.beat.Beat.TheVariants as beat;
 ghost use Rattle.tl_beat.specs.declared.beat.BeatD.{BeatD};
@@ -11,8 +12,7 @@ ghost use Rattle.tl_beat.specs.statement.Width.{IsWidth};
 ghost use Rattle.tl_burst.specs.statement.Messages.{unfinished};
 ghost use Rattle.tl_params.specs.declared.perm.Perm.{Perm};
 ghost use Rattle.tl_rules.specs.statement.Conformance.{Trace, on_link};
-ghost use Rattle.tl_rules.specs.statement.History.{block_at};
-ghost use Rattle.tl_bytes.specs.statement.Bytes.{asks, ends_request, is_of, pending_accesses, tells};
+ghost use Rattle.tl_bytes.specs.statement.Bytes.{ends_request, is_of, pending_accesses, tells};
 ghost use Rattle.tl_bytes.specs.statement.Free.{is_free};
 ghost use Rattle.tl_bytes.specs.statement.Known.{AreCarried, KnowsBlock, KnowsGrant, NoneSettled};
 ghost use Rattle.tl_memory.specs.code.Elsewhere.{IsElsewhere};
@@ -20,16 +20,18 @@ ghost use Rattle.tl_memory.specs.code.Writers.{AreRenewed, found_by, keeps, stay
 ghost use Rattle.tl_bytes.specs.statement.Known.{tellings_of};
 ghost use Rattle.tl_bytes.specs.statement.Lines.{told_moment};
 
-use crate::accesses::{append_renewed, find, watch};
+use crate::accesses::{append_renewed, find, has_reader, watch};
+use crate::boxed::boxed;
 use crate::early::OutrunAccess;
 use crate::expected::Expected;
 use crate::free::Freedom;
 use crate::granted::granted;
 use crate::message::CarriedMessage;
+use crate::next_state::{NextAccesses, NextState};
 use crate::pending::PendingAccess;
 use crate::writer::{Writer, written};
 use std::alloc::{AllocError, Global};
-use tl_beat::beat::{Beat, BeatA, BeatD, Link};
+use tl_beat::beat::{Beat, BeatD, Link};
 use tl_beat::opcode::OpA;
 use tl_bytes::block_bytes::BlockBytes;
 use tl_bytes::known_bytes::KnownBytes;
@@ -41,21 +43,12 @@ use tl_bytes::windows::WritingWindows;
 #[derive(Drop)]
 pub struct BlockState<const W: usize> {
     pub(crate) bytes: BlockBytes,
-    accesses: Vec<PendingAccess<W>>,
+    pub(crate) accesses: Vec<PendingAccess<W>>,
     /// The accesses whose answers began before their requests were complete, until both are complete.
     pub(crate) outrun: Vec<OutrunAccess>,
-    free: Freedom,
+    pub(crate) free: Freedom,
     /// The last moment at which it was free for writing, if it isn't now.
-    last_free: u64,
-}
-
-/// The change that a beat makes to the state of a block: its bytes, if the beat changes them, the pending accesses, and
-/// those whose answers outran their requests, if the beat changes them.
-#[derive(Drop)]
-pub struct NextState<const W: usize> {
-    bytes: Option<BlockBytes>,
-    accesses: Vec<PendingAccess<W>>,
-    outrun: Option<Vec<OutrunAccess>>,
+    pub(crate) last_free: u64,
 }
 
 /// The last moment at which a block was free, if it isn't free with one more beat, at this moment.
@@ -70,7 +63,7 @@ fn last_free(was: bool, free: bool, last: u64, moment: u64) -> u64
 }
 
 impl<const W: usize> BlockState<W> {
-    ghost use Rattle.tl_memory.specs.code.Taking.{IsNext, IsRequested, asked_now, none_shown, put_next, with_next};
+    ghost use Rattle.tl_memory.specs.code.Taking.{IsNext, next_accesses, put_next, with_next};
     ghost use Rattle.tl_memory.specs.statement.Known.{AnyIsTo, Expects, HasRoom, IsNoPut, KnowsAccess, KnowsMessage};
     ghost use Rattle.tl_memory.specs.statement.Expecting.{ExpectsAgain};
     ghost use Rattle.tl_memory.specs.statement.Known.{AllWriteInside, KnowsState, KnowsUnseen, free_for, freedom};
@@ -199,6 +192,23 @@ impl<const W: usize> BlockState<W> {
         Ok(copies)
     }
 
+    /// What becomes of the pending accesses by a beat: copies with the bytes that they may find now, or nothing if none
+    /// is gone and all are Puts, which find no bytes. `gone` is the access that ends, if one does.
+    fn next_accesses(
+        &self,
+        alloc: Global,
+        gone: Option<(Link, u8)>,
+    ) -> Result<NextAccesses<W>, AllocError>
+        ensures { IfOk result (λ next. AreRenewed (found_by self.now.free self.now.bytes self.now.accesses.items
+            self.now.outrun.items)
+            (staying gone self.now.accesses.items) (next_accesses self.now.accesses next).items) }
+    {
+        match gone {
+            None if !has_reader(self.accesses.as_slice()) => Ok(NextAccesses::Same),
+            _ => Ok(NextAccesses::Renewed(self.renewed(alloc, gone)?)),
+        }
+    }
+
     /// The change by a beat that sets these bytes, if there are any. `gone` is the access that ends, if one does.
     #[inline(always)]
     pub(crate) fn with_bytes(
@@ -216,7 +226,8 @@ impl<const W: usize> BlockState<W> {
             KnowsOutrun (unwrap_or outrun self.now.outrun).items block (outrun_accesses (x ∷ t)) →
             KnowsUnseen (with_next self.now next) n block x t) }
     {
-        let accesses = self.renewed(alloc, gone)?;
+        let accesses = self.next_accesses(alloc, gone)?;
+        let bytes = boxed(alloc, bytes)?;
         Ok(NextState {
             bytes,
             accesses,
@@ -319,92 +330,30 @@ impl<const W: usize> BlockState<W> {
         watch(&mut self.accesses, free.writing, moment);
     }
 
-    /// The state of the access to the block whose request has this newest beat, at this moment. `brought` are the bytes
-    /// of the request's beats.
-    fn asked_access(
-        &self,
-        alloc: Global,
-        link: Link,
-        y: &BeatA<W>,
-        brought: &CarriedMessage,
-        moment: u64,
-    ) -> Result<PendingAccess<W>, AllocError>
-        requires width { IsWidth W }
-        requires small { y.now.size ≤ 6 }
-        ensures { IfOk result (λ own. (n block : ℕ) (t : Trace W) → KnowsState self.now n block t →
-            KnowsMessage brought.now (beat.A y.now ∷ unfinished channel.A (on_link link.0 t)) →
-            IsRequested link.0 y.now t → asks y.now (on_link link.0 t) ≡ true → block_at y.now.address ≡ block →
-            moment ≡ suc (length t) →
-            KnowsAccess own (open_for (none_shown self.now.free)) n block (asked_now link.0 y.now t)
-            ((link, beat.A y.now) ∷ t)) }
-    {
-        let accesses = self.accesses.as_slice();
-        let Some(first) = find(accesses, link, y.source) else {
-            let writer = Writer::new(link, y, brought, moment);
-            let windows = WritingWindows::new(self.free.writing, moment, self.last_free);
-            return Ok(PendingAccess::new(alloc, &writer, windows));
-        };
-        let writer = Writer::new(link, y, brought, first.writer.asked.moment);
-        first.grown(
-            alloc,
-            &writer,
-            self.free,
-            &self.bytes,
-            accesses,
-            self.outrun.as_slice(),
-        )
-    }
-
-    /// The change by a beat of the request of an access to the block, at this moment. `brought` are the bytes of the
-    /// request's beats. The error means that there is no memory left.
-    pub fn asked(
-        &self,
-        alloc: Global,
-        link: Link,
-        y: &BeatA<W>,
-        brought: &CarriedMessage,
-        moment: u64,
-    ) -> Result<NextState<W>, AllocError>
-        requires width { IsWidth W }
-        requires small { y.now.size ≤ 6 }
-        ensures { IfOk result (λ next. (n block : ℕ) (t : Trace W) → KnowsState self.now n block t →
-            KnowsMessage brought.now (beat.A y.now ∷ unfinished channel.A (on_link link.0 t)) →
-            IsRequested link.0 y.now t → asks y.now (on_link link.0 t) ≡ true →
-            is_some (find (is_outrun_of link.0 y.now.source) (outrun_accesses t)) ≡ false → block_at y.now.address ≡ block →
-            moment ≡ suc (length t) →
-            KnowsState (with_next self.now next) n block ((link, beat.A y.now) ∷ t)) }
-    {
-        let own = self.asked_access(alloc, link, y, brought, moment)?;
-        let before = self.accesses.as_slice();
-        let gone = Some((link, y.source));
-        let mut accesses = Vec::with_capacity(alloc, before.len().saturating_add(1))?;
-        accesses.push(own)?;
-        append_renewed(
-            alloc,
-            &mut accesses,
-            before,
-            gone,
-            self.free,
-            &self.bytes,
-            self.outrun.as_slice(),
-        )?;
-        Ok(NextState {
-            bytes: None,
-            accesses,
-            outrun: None,
-        })
-    }
-
     /// Puts these bytes, if there are any.
-    fn put_bytes(&mut self, bytes: Option<BlockBytes>)
-        ensures bytes { self.new.bytes ≡ unwrap_or bytes self.old.bytes }
+    fn put_bytes(&mut self, bytes: Option<Box<BlockBytes>>)
+        ensures bytes { self.new.bytes ≡ unwrap_or (option_map box_value bytes) self.old.bytes }
         ensures accesses { self.new.accesses ≡ self.old.accesses }
         ensures outrun { self.new.outrun ≡ self.old.outrun }
         ensures free { self.new.free ≡ self.old.free }
         ensures last_free { self.new.last_free ≡ self.old.last_free }
     {
         if let Some(bytes) = bytes {
-            self.bytes = bytes;
+            self.bytes = Box::into_inner(bytes);
+        }
+    }
+
+    /// Makes this change to the pending accesses.
+    fn put_accesses(&mut self, accesses: NextAccesses<W>)
+        ensures bytes { self.new.bytes ≡ self.old.bytes }
+        ensures accesses { self.new.accesses ≡ next_accesses self.old.accesses accesses.entry }
+        ensures outrun { self.new.outrun ≡ self.old.outrun }
+        ensures free { self.new.free ≡ self.old.free }
+        ensures last_free { self.new.last_free ≡ self.old.last_free }
+    {
+        match accesses {
+            NextAccesses::Same => {}
+            NextAccesses::Renewed(renewed) => self.accesses = renewed,
         }
     }
 
@@ -435,7 +384,7 @@ impl<const W: usize> BlockState<W> {
         {
             self.put_bytes(bytes);
             self.put_outrun(outrun);
-            self.accesses = accesses;
+            self.put_accesses(accesses);
             self.free.shown = false;
         }
     }

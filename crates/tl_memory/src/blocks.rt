@@ -7,8 +7,9 @@ ghost use Rattle.tl_beat.specs.declared.beat.Link.{Link};
 ghost use Rattle.tl_rules.specs.statement.Conformance.{Trace};
 ghost use Rattle.tl_memory.specs.declared.block.BlockState.{BlockState};
 
-use crate::block::{BlockState, NextState};
+use crate::block::BlockState;
 use crate::free::Freedom;
+use crate::next_state::NextState;
 use std::alloc::{AllocError, Global};
 use std::collections::BTreeMap;
 

@@ -335,18 +335,18 @@ impl LinkState {
 
     /// The bytes that the response may bring with its next beat. `now` are those of a response that begins with it, or
     /// of the answer to a Get.
-    pub fn expected<'a>(&'a self, now: &'a Option<Expected>) -> Option<&'a Expected>
+    pub fn expected<'a>(&'a self, now: Option<&'a Expected>) -> Option<&'a Expected>
         ensures { (w n : ℕ) (levels : List Level) (link : Link) (x : BeatD w) (t : Trace w) →
             KnowsLink self.now n link.0 t → AreLegal levels t → IsLegal levels (link, beat.D x) t →
             (begins (beat.D x) (on_link link.0 t) ≡ true →
-            ExpectsResponse now.now n link.0 x.opcode x.source t t) →
-            (begins (beat.D x) (on_link link.0 t) ≡ false → ExpectsLater now.now n link.0 x.opcode x.source t) →
+            ExpectsResponse (option_copied now.entry) n link.0 x.opcode x.source t t) →
+            (begins (beat.D x) (on_link link.0 t) ≡ false → ExpectsLater (option_copied now.entry) n link.0 x.opcode x.source t) →
             ExpectsBeat (option_copied result) n link.0 x.opcode x.source
             (length (unfinished channel.D (on_link link.0 t))) t }
     {
         let beats = self.messages.d.bytes.count();
         if beats == 0 {
-            return now.as_ref();
+            return now;
         }
         match now {
             Some(known) => Some(known),
@@ -356,14 +356,14 @@ impl LinkState {
 
     /// Whether the bytes of a response's beat are true. `now` are the bytes that it may bring if it begins with the
     /// beat or answers a Get.
-    pub fn is_true<const W: usize>(&self, now: &Option<Expected>, x: &BeatD<W>) -> bool
+    pub fn is_true<const W: usize>(&self, now: Option<&Expected>, x: &BeatD<W>) -> bool
         requires { IsWidth W }
         ensures { (levels : List Level) (n : ℕ) (link : Link) (t : Trace W) →
             KnowsLink self.now n link.0 t → AreLegal levels t → IsLegal levels (link, beat.D x.now) t →
             (begins (beat.D x.now) (on_link link.0 t) ≡ true →
-            ExpectsResponse now.now n link.0 x.now.opcode x.now.source t t) →
+            ExpectsResponse (option_copied now.entry) n link.0 x.now.opcode x.now.source t t) →
             (begins (beat.D x.now) (on_link link.0 t) ≡ false →
-            ExpectsLater now.now n link.0 x.now.opcode x.now.source t) →
+            ExpectsLater (option_copied now.entry) n link.0 x.now.opcode x.now.source t) →
             result ≡ bytes.is_true x.now.opcode n link.0 x.now t }
     {
         if x.corrupt || x.denied {

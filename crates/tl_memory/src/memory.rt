@@ -20,14 +20,15 @@ ghost use Rattle.tl_memory.specs.statement.Links.{KnowsMessages};
 ghost use Rattle.tl_rules.specs.code.Open.{open_request};
 
 use crate::begun::begun_with;
-use crate::block::NextState;
 use crate::blocks::Blocks;
+use crate::boxed::{boxed, unboxed};
 use crate::expected::Expected;
 use crate::free::Freedom;
 use crate::link::LinkMessages;
 use crate::links::Links;
 use crate::message::is_small;
 use crate::next::after_beat;
+use crate::next_state::NextState;
 use crate::passing::changes_held;
 use crate::typed::prove_typed;
 use std::alloc::{AllocError, Global};
@@ -105,13 +106,14 @@ pub struct Change<const W: usize> {
     place: usize,
     /// The change to the state of that block, if more than its freedom changes.
     next: Option<NextState<W>>,
-    /// The bytes that the response may bring that begins with the beat, or that answers a Get.
-    expected: Option<Expected>,
+    /// The bytes that the response may bring that begins with the beat, or that answers a Get. They are on the heap, since
+    /// a change is moved often.
+    expected: Option<Box<Expected>>,
 }
 
 impl<const W: usize> Change<W> {
     ghost use Rattle.tl_bytes.specs.statement.Free.{is_free};
-    ghost use Rattle.tl_memory.specs.code.Changing.{KnowsFree};
+    ghost use Rattle.tl_memory.specs.code.Changing.{KnowsFree, expected_by};
     ghost use Rattle.tl_memory.specs.statement.Known.{free_for};
     ghost use Rattle.tl_params.specs.declared.perm.Perm.{Perm};
 
@@ -119,7 +121,7 @@ impl<const W: usize> Change<W> {
     fn none() -> Self
         ensures block { result.block ≡ None }
         ensures held { result.held ≡ None }
-        ensures expected { result.expected ≡ None }
+        ensures expected { expected_by result ≡ None }
     {
         Change {
             block: None,
@@ -141,6 +143,16 @@ impl<const W: usize> Change<W> {
             reading: self.reading,
             writing: self.writing,
             shown: false,
+        }
+    }
+
+    /// The bytes that the response may bring that begins with the beat, or that answers a Get.
+    fn begun(&self) -> Option<&Expected>
+        ensures { option_copied result ≡ expected_by self.now }
+    {
+        match &self.expected {
+            None => None,
+            Some(expected) => Some(expected),
         }
     }
 
@@ -216,7 +228,8 @@ impl<const W: usize> Memory<W> {
         };
         let free = state.freedom();
         let next = after_beat(self.alloc, state, link, x, asked, &known.messages, moment)?;
-        let expected = begun_with(self.alloc, state, link, x, &known.messages.d, block)?;
+        let begun = begun_with(self.alloc, state, link, x, &known.messages.d, block)?;
+        let expected = boxed(self.alloc, begun)?;
         Ok(Change {
             block: Some(block),
             held: held_of(block, changes_held(x, &known.messages)),
@@ -271,7 +284,7 @@ impl<const W: usize> Memory<W> {
             result ≡ bytes.is_true x.now.opcode (length levels) link.0 x.now t }
     {
         match self.links.get(link) {
-            Some(state) => state.is_true(&change.expected, x),
+            Some(state) => state.is_true(change.begun(), x),
             None => true,
         }
     }
@@ -295,7 +308,8 @@ impl<const W: usize> Memory<W> {
             KnowsMemory self.new (length levels) ((link, x.now) ∷ t) }
     {
         prove_typed(x);
-        self.links.take(change.expected, change.block, link, x);
+        self.links
+            .take(unboxed(change.expected), change.block, link, x);
         if change.block.is_some() {
             self.blocks.take(change.place, change.next, free, moment);
         }
@@ -312,7 +326,7 @@ impl<const W: usize> Memory<W> {
     {
         match self.links.get(link) {
             None => None,
-            Some(state) => state.expected(&change.expected),
+            Some(state) => state.expected(change.begun()),
         }
     }
 

@@ -29,10 +29,11 @@ ghost use Rattle.tl_memory.specs.statement.Known.{KnowsMessage, KnowsState, Know
 ghost use Rattle.tl_memory.specs.statement.Links.{KnowsMessages};
 
 use crate::access::is_access;
-use crate::block::{BlockState, NextState};
+use crate::block::BlockState;
 use crate::early::OutrunAccess;
 use crate::link::LinkMessages;
 use crate::message::{CarriedMessage, both};
+use crate::next_state::NextState;
 use crate::passing::{acquires_from_none, asks};
 use std::alloc::{AllocError, Global};
 use tl_beat::beat::{Beat, BeatA, BeatC, BeatD, Link};

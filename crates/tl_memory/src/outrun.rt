@@ -15,8 +15,9 @@ ghost use Rattle.tl_rules.specs.declared.past.Request.{Request};
 ghost use Rattle.tl_rules.specs.statement.Conformance.{Trace, on_link};
 ghost use Rattle.tl_rules.specs.statement.History.{ends};
 
-use crate::block::{BlockState, NextState};
+use crate::block::BlockState;
 use crate::early::{Asking, OutrunAccess, append_outrun_but, find_outrun};
+use crate::next_state::NextState;
 use std::alloc::{AllocError, Global};
 use tl_beat::beat::Link;
 use tl_bytes::standing::Standing;

@@ -1,5 +1,6 @@
 -- How a beat changes the knowledge of the bytes of memory.
-use Rattle.std.specs.Prelude.{ℕ, true, false, ◌≡◌, ◌≢◌, if◌then◌else◌, Option, Some, None, slice_get}
+use Rattle.std.specs.Box.{box_value}
+use Rattle.std.specs.Prelude.{ℕ, true, false, ◌≡◌, ◌≢◌, if◌then◌else◌, option_map, Option, Some, None, slice_get}
 use Rattle.tl_beat.specs.declared.beat.Beat.{Beat}
 use Rattle.tl_beat.specs.declared.beat.Beat.TheVariants as beat
 use Rattle.tl_beat.specs.declared.beat.BeatD.{BeatD}
@@ -33,6 +34,10 @@ abbrev pub ExpectsAlong : {w : ℕ} → Option Expected → ℕ → Link × Beat
 ExpectsAlong {w} expected n x t = (y : BeatD w) → x.1 ≡ beat.D y → begins (beat.D y) (on_link x.0.0 t) ≡ false
     → ExpectsLater expected n x.0.0 y.opcode y.source t
 
+-- the values that a change expects, if it expects some
+abbrev pub expected_by : {w : ℕ} → Change w → Option Expected
+expected_by change = option_map box_value change.expected
+
 -- For whom the block was free before the beat that this is said to change, if there is one, whether the beat breaks
 -- a rule or not. That block is the one of which its link may hold more or less.
 pub record KnowsFree {w : ℕ} (change : Change w) (n : ℕ) (t : Trace w) : Type 0 where
@@ -50,6 +55,6 @@ pub record IsChange {w : ℕ} (change : Change w) (m : Memory w) (n : ℕ) (x : 
   pub next_is : (block : ℕ) (free : Option Freedom) (s : BlockState w) → change.block ≡ Some block
       → slice_get m.blocks.states.items change.place ≡ Some s → IsSeen free n block x t
       → IsNext change.next free s n block x t
-  pub expected_is : ExpectsBegun change.expected n x t
-  pub along_is : ExpectsAlong change.expected n x t
+  pub expected_is : ExpectsBegun (expected_by change) n x t
+  pub along_is : ExpectsAlong (expected_by change) n x t
   pub concerned : IsConcerned change.block x.1 (on_link x.0.0 t)

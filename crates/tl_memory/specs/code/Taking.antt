@@ -1,6 +1,8 @@
 -- What beats make of the states of blocks.
 use Rattle.std.specs.Prelude.{ℕ, suc, Bool, true, false, not, [], ◌∷◌, ◌&&◌, ◌≡◌, length, List, Option, Some, None}
-use Rattle.std.specs.Prelude.{find, unwrap_or, ⊤, ◌≤◌}
+use Rattle.std.specs.Global.{Vec}
+use Rattle.std.specs.Box.{box_value}
+use Rattle.std.specs.Prelude.{find, option_map, unwrap_or, ⊤, ◌≤◌}
 use Rattle.tl_beat.specs.declared.beat.Beat.{Beat}
 use Rattle.tl_beat.specs.declared.beat.Beat.TheVariants as beat
 use Rattle.tl_beat.specs.declared.beat.BeatA.{BeatA}
@@ -30,7 +32,10 @@ use Rattle.tl_burst.specs.statement.Burst.{reaches}
 use Rattle.tl_memory.specs.code.Elsewhere.{IsElsewhere, PassesBy, block_granted, block_released}
 use Rattle.tl_memory.specs.code.Passing.{changes_held}
 use Rattle.tl_memory.specs.declared.block.BlockState.{BlockState}
-use Rattle.tl_memory.specs.declared.block.NextState.{NextState}
+use Rattle.tl_memory.specs.declared.next_state.NextAccesses.{NextAccesses}
+use Rattle.tl_memory.specs.declared.next_state.NextAccesses.TheVariants as accesses
+use Rattle.tl_memory.specs.declared.next_state.NextState.{NextState}
+use Rattle.tl_memory.specs.declared.pending.PendingAccess.{PendingAccess}
 use Rattle.tl_memory.specs.declared.early.OutrunAccess.{OutrunAccess}
 use Rattle.tl_memory.specs.declared.free.Freedom.{Freedom}
 use Rattle.tl_memory.specs.statement.Known.{AreWide, HasRoom, IsLawful, KnowsState, KnowsUnseen, WritesInside}
@@ -40,11 +45,16 @@ use Rattle.tl_memory.specs.statement.Known.{IsOutrun, freedom, outruns_in}
 abbrev pub none_shown : Freedom → Freedom
 none_shown free = record { reading = free.reading; writing = free.writing; shown = false }
 
+-- the pending accesses after a beat that changes them so
+abbrev pub next_accesses : {w : ℕ} → Vec (PendingAccess w) → NextAccesses w → Vec (PendingAccess w)
+next_accesses old accesses.Same = old
+next_accesses old (accesses.Renewed renewed) = renewed
+
 -- the state of a block after a beat
 abbrev pub with_next : {w : ℕ} → BlockState w → NextState w → BlockState w
 with_next s next = record {
-  bytes = unwrap_or next.bytes s.bytes;
-  accesses = next.accesses;
+  bytes = unwrap_or (option_map box_value next.bytes) s.bytes;
+  accesses = next_accesses s.accesses next.accesses;
   outrun = unwrap_or next.outrun s.outrun;
   free = none_shown s.free;
   last_free = s.last_free;

@@ -1,8 +1,9 @@
 use Rattle.std.proofs.Common.{rules, refl, ◌≡◌, ◌∷◌, ◌+◌, ◌*◌, ◌/◌}
-use Rattle.std.specs.Prelude.{Some}
+use Rattle.std.specs.Prelude.{None, Some}
 use Rattle.std.proofs.lemmas.Bool.{eq-eqb}
 use Rattle.tl_beat.specs.declared.{beat.Beat.Beat, beat.Link.Link}
 use Rattle.tl_memory.specs.code.Taking.{asked_now}
+use Rattle.tl_memory.specs.declared.next_state.{NextAccesses.NextAccesses, NextState.NextState}
 use Rattle.tl_memory.proofs.{Asked.asked-state, Asked.leaves-asked, Asked.unsettled-asked}
 use Rattle.tl_memory.proofs.{Bearing.asks-bare, Bearing.pending-asked, Bearing.request-leaves}
 use Rattle.tl_memory.proofs.Elsewhere.{bytes-kept}
@@ -16,7 +17,9 @@ returns g c = λ n block t k brought is asked fresh here now.
     let x : Link × Beat g.row.W = (link, Beat.A y) in
     let copies = c.in_ok-append_renewed.ensures in
     let items : c.append_renewed.new.copies.items ≡ c.in_ok-own.own ∷ copies.0 = search rules in
-    asked-state old _ (Some (link, y.source)) n block c.in_ok-own.own copies.0 (asked_now link.0 y t) x t k refl refl items
+    let next : NextState g.row.W =
+    record { bytes = None; accesses = NextAccesses.Renewed c.append_renewed.new.copies; outrun = None } in
+    asked-state old next (Some (link, y.source)) n block c.in_ok-own.own copies.0 (asked_now link.0 y t) x t k refl refl items
     (pending-asked link y t asked fresh) (eq-eqb (y.address / 64) block here) (is.inside asked)
     (request-leaves block link y t (asks-bare link y t asked)) refl
     (bytes-kept n block old.bytes x t k.bytes_are refl (λ p lt. tt)

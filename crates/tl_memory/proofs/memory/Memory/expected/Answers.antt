@@ -6,7 +6,7 @@ use Rattle.tl_memory.proofs.memory.Memory.expected.Goals as goal
 pub returns-in-Some : goal.returns-in-Some
 returns-in-Some g c = λ levels x t k legal fine change. c.expected.ensures g.row.W (length levels) levels
     c.args.link x t (k.links_are.states_are c.args.link.0 c.in-Some.state.now (sym c.in-Some.ensures)) legal fine
-    (λ first. change.expected_is x refl first) (λ later. change.along_is x refl later)
+    (λ first. rw c.begun.ensures (change.expected_is x refl first)) (λ later. rw c.begun.ensures (change.along_is x refl later))
 
 pub returns-in-None : goal.returns-in-None
 returns-in-None g c = λ levels x t k legal fine change. absurd

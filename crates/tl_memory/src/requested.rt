@@ -1,0 +1,101 @@
+//! The accesses to a block that are asked for.
+
+ghost use Rattle.std.specs.Prelude.{ℕ, suc, true, false, None, ◌∷◌, ◌≡◌, ◌≤◌, find, is_some, length, IfOk};
+ghost use Rattle.tl_beat.specs.declared.beat.Beat.TheVariants as beat;
+ghost use Rattle.tl_beat.specs.declared.channel.Channel.TheVariants as channel;
+ghost use Rattle.tl_beat.specs.statement.Width.{IsWidth};
+ghost use Rattle.tl_burst.specs.statement.Messages.{unfinished};
+ghost use Rattle.tl_bytes.specs.statement.Bytes.{asks};
+ghost use Rattle.tl_bytes.specs.statement.Early.{is_outrun_of, outrun_accesses};
+ghost use Rattle.tl_memory.specs.code.Taking.{IsRequested, asked_now, none_shown, with_next};
+ghost use Rattle.tl_memory.specs.statement.Known.{KnowsAccess, KnowsMessage, KnowsState, open_for};
+ghost use Rattle.tl_rules.specs.statement.Conformance.{Trace, on_link};
+ghost use Rattle.tl_rules.specs.statement.History.{block_at};
+
+use crate::accesses::{append_renewed, find};
+use crate::block::BlockState;
+use crate::message::CarriedMessage;
+use crate::next_state::{NextAccesses, NextState};
+use crate::pending::PendingAccess;
+use crate::writer::Writer;
+use std::alloc::{AllocError, Global};
+use tl_beat::beat::{BeatA, Link};
+use tl_bytes::windows::WritingWindows;
+
+impl<const W: usize> BlockState<W> {
+    /// The state of the access to the block whose request has this newest beat, at this moment. `brought` are the bytes
+    /// of the request's beats.
+    fn asked_access(
+        &self,
+        alloc: Global,
+        link: Link,
+        y: &BeatA<W>,
+        brought: &CarriedMessage,
+        moment: u64,
+    ) -> Result<PendingAccess<W>, AllocError>
+        requires width { IsWidth W }
+        requires small { y.now.size ≤ 6 }
+        ensures { IfOk result (λ own. (n block : ℕ) (t : Trace W) → KnowsState self.now n block t →
+            KnowsMessage brought.now (beat.A y.now ∷ unfinished channel.A (on_link link.0 t)) →
+            IsRequested link.0 y.now t → asks y.now (on_link link.0 t) ≡ true → block_at y.now.address ≡ block →
+            moment ≡ suc (length t) →
+            KnowsAccess own (open_for (none_shown self.now.free)) n block (asked_now link.0 y.now t)
+            ((link, beat.A y.now) ∷ t)) }
+    {
+        let accesses = self.accesses.as_slice();
+        let Some(first) = find(accesses, link, y.source) else {
+            let writer = Writer::new(link, y, brought, moment);
+            let windows = WritingWindows::new(self.free.writing, moment, self.last_free);
+            return Ok(PendingAccess::new(alloc, &writer, windows));
+        };
+        let writer = Writer::new(link, y, brought, first.writer.asked.moment);
+        first.grown(
+            alloc,
+            &writer,
+            self.free,
+            &self.bytes,
+            accesses,
+            self.outrun.as_slice(),
+        )
+    }
+
+    /// The change by a beat of the request of an access to the block, at this moment. `brought` are the bytes of the
+    /// request's beats. The error means that there is no memory left.
+    pub fn asked(
+        &self,
+        alloc: Global,
+        link: Link,
+        y: &BeatA<W>,
+        brought: &CarriedMessage,
+        moment: u64,
+    ) -> Result<NextState<W>, AllocError>
+        requires width { IsWidth W }
+        requires small { y.now.size ≤ 6 }
+        ensures { IfOk result (λ next. (n block : ℕ) (t : Trace W) → KnowsState self.now n block t →
+            KnowsMessage brought.now (beat.A y.now ∷ unfinished channel.A (on_link link.0 t)) →
+            IsRequested link.0 y.now t → asks y.now (on_link link.0 t) ≡ true →
+            is_some (find (is_outrun_of link.0 y.now.source) (outrun_accesses t)) ≡ false → block_at y.now.address ≡ block →
+            moment ≡ suc (length t) →
+            KnowsState (with_next self.now next) n block ((link, beat.A y.now) ∷ t)) }
+    {
+        let own = self.asked_access(alloc, link, y, brought, moment)?;
+        let before = self.accesses.as_slice();
+        let gone = Some((link, y.source));
+        let mut accesses = Vec::with_capacity(alloc, before.len().saturating_add(1))?;
+        accesses.push(own)?;
+        append_renewed(
+            alloc,
+            &mut accesses,
+            before,
+            gone,
+            self.free,
+            &self.bytes,
+            self.outrun.as_slice(),
+        )?;
+        Ok(NextState {
+            bytes: None,
+            accesses: NextAccesses::Renewed(accesses),
+            outrun: None,
+        })
+    }
+}

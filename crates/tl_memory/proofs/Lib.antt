@@ -11,6 +11,7 @@ pub mod EarlyMessages
 pub mod Elsewhere
 pub mod Expecting
 pub mod Found
+pub mod Growing
 pub mod Histories
 pub mod Imports
 pub mod Judging

@@ -1,5 +1,6 @@
 //! The pending accesses to a block.
 
+ghost use Rattle.std.specs.Box.{box_value};
 ghost use Rattle.std.specs.Prelude.{◌++◌, ◌≡◌, List, find, OnOk, option_copied};
 ghost use Rattle.tl_memory.specs.code.Writers.{AreRenewed, AreWatched, found_by, is_named, staying};
 ghost use Rattle.tl_memory.specs.code.Writers as writers;
@@ -9,6 +10,7 @@ use crate::early::OutrunAccess;
 use crate::free::Freedom;
 use crate::pending::PendingAccess;
 use crate::performed::is_put;
+use crate::writer::Writer;
 use std::alloc::{AllocError, Global};
 use tl_beat::beat::Link;
 use tl_bytes::block_bytes::BlockBytes;
@@ -72,6 +74,15 @@ pub fn has_reader<const W: usize>(accesses: &[PendingAccess<W>]) -> bool
         }
     }
     false
+}
+
+/// Gives the newest access, if there is one, this writer.
+pub fn grow<const W: usize>(accesses: &mut Vec<PendingAccess<W>>, writer: Box<Writer<W>>)
+    ensures { accesses.new ≡ writers.grown_in (box_value writer.entry) accesses.old accesses.old.items }
+{
+    if let Some(newest) = accesses.get_mut(0) {
+        newest.writer = Box::into_inner(writer);
+    }
 }
 
 /// Adds one more beat, at this moment. `free` says whether the block is free for writing with it.

@@ -1,8 +1,7 @@
 //! The state of a block.
 
-ghost use Rattle.std.specs.Prelude.{ℕ, suc, true, false, not, None, [], ◌∷◌, ◌≡◌, ◌≤◌, ◌&&◌, ◌-◌, length, find, IfOk};
-ghost use Rattle.std.specs.Box.{box_value};
-ghost use Rattle.std.specs.Prelude.{if◌then◌else◌, filter, is_some, option_map, unwrap_or};
+ghost use Rattle.std.specs.Prelude.{ℕ, suc, true, false, not, None, [], ◌∷◌, ◌≡◌, ◌&&◌, ◌-◌, length, find, IfOk};
+ghost use Rattle.std.specs.Prelude.{if◌then◌else◌, filter, unwrap_or};
 ghost use Rattle.tl_beat.specs.declared.beat.Beat.{Beat};
 ghost use Rattle.tl_beat.specs.declared.beat.Beat.TheVariants as beat;
 ghost use Rattle.tl_beat.specs.declared.beat.BeatD.{BeatD};
@@ -63,12 +62,11 @@ fn last_free(was: bool, free: bool, last: u64, moment: u64) -> u64
 }
 
 impl<const W: usize> BlockState<W> {
-    ghost use Rattle.tl_memory.specs.code.Taking.{IsNext, next_accesses, put_next, with_next};
-    ghost use Rattle.tl_memory.specs.statement.Known.{AnyIsTo, Expects, HasRoom, IsNoPut, KnowsAccess, KnowsMessage};
+    ghost use Rattle.tl_memory.specs.code.Taking.{IsNext, next_accesses, with_next};
+    ghost use Rattle.tl_memory.specs.statement.Known.{AnyIsTo, Expects, HasRoom, IsNoPut, KnowsMessage};
     ghost use Rattle.tl_memory.specs.statement.Expecting.{ExpectsAgain};
     ghost use Rattle.tl_memory.specs.statement.Known.{AllWriteInside, KnowsState, KnowsUnseen, free_for, freedom};
-    ghost use Rattle.tl_memory.specs.statement.Known.{open_for};
-    ghost use Rattle.tl_bytes.specs.statement.Early.{is_outrun_of, outrun_accesses};
+    ghost use Rattle.tl_bytes.specs.statement.Early.{outrun_accesses};
     ghost use Rattle.tl_memory.specs.code.Elsewhere.{LeavesOutrun};
     ghost use Rattle.tl_memory.specs.statement.Known.{KnowsOutrun, is_to};
 
@@ -328,65 +326,6 @@ impl<const W: usize> BlockState<W> {
         self.last_free = last_free(self.free.writing, free.writing, self.last_free, moment);
         self.free = free;
         watch(&mut self.accesses, free.writing, moment);
-    }
-
-    /// Puts these bytes, if there are any.
-    fn put_bytes(&mut self, bytes: Option<Box<BlockBytes>>)
-        ensures bytes { self.new.bytes ≡ unwrap_or (option_map box_value bytes) self.old.bytes }
-        ensures accesses { self.new.accesses ≡ self.old.accesses }
-        ensures outrun { self.new.outrun ≡ self.old.outrun }
-        ensures free { self.new.free ≡ self.old.free }
-        ensures last_free { self.new.last_free ≡ self.old.last_free }
-    {
-        if let Some(bytes) = bytes {
-            self.bytes = Box::into_inner(bytes);
-        }
-    }
-
-    /// Makes this change to the pending accesses.
-    fn put_accesses(&mut self, accesses: NextAccesses<W>)
-        ensures bytes { self.new.bytes ≡ self.old.bytes }
-        ensures accesses { self.new.accesses ≡ next_accesses self.old.accesses accesses.entry }
-        ensures outrun { self.new.outrun ≡ self.old.outrun }
-        ensures free { self.new.free ≡ self.old.free }
-        ensures last_free { self.new.last_free ≡ self.old.last_free }
-    {
-        match accesses {
-            NextAccesses::Same => {}
-            NextAccesses::Renewed(renewed) => self.accesses = renewed,
-        }
-    }
-
-    /// Puts these accesses whose answers outran their requests, if there are any.
-    fn put_outrun(&mut self, outrun: Option<Vec<OutrunAccess>>)
-        ensures bytes { self.new.bytes ≡ self.old.bytes }
-        ensures accesses { self.new.accesses ≡ self.old.accesses }
-        ensures outrun { self.new.outrun ≡ unwrap_or outrun self.old.outrun }
-        ensures free { self.new.free ≡ self.old.free }
-        ensures last_free { self.new.last_free ≡ self.old.last_free }
-    {
-        if let Some(outrun) = outrun {
-            self.outrun = outrun;
-        }
-    }
-
-    /// Makes the change of a beat, if there is one.
-    fn put(&mut self, next: Option<NextState<W>>)
-        ensures { self.new ≡ put_next self.old next.entry }
-    {
-        if let Some(
-            NextState {
-                bytes,
-                accesses,
-                outrun,
-            },
-        ) = next
-        {
-            self.put_bytes(bytes);
-            self.put_outrun(outrun);
-            self.put_accesses(accesses);
-            self.free.shown = false;
-        }
     }
 
     /// Takes a beat, at this moment, that makes this change or none. `free` says whether the block is free with the

@@ -1,10 +1,8 @@
 //! The state of a link.
 
 ghost use Rattle.std.specs.Prelude.{ℕ, true, false, if◌then◌else◌, ◌&&◌, [], ◌∷◌, ◌≡◌, ◌≤◌, List, None, length, option_copied};
-ghost use Rattle.tl_beat.specs.declared.beat.Beat.{Beat};
 ghost use Rattle.tl_beat.specs.declared.beat.Beat.TheVariants as beat;
-ghost use Rattle.tl_beat.specs.declared.beat.BeatD.{BeatD};
-ghost use Rattle.tl_beat.specs.declared.beat.Link.{Link};
+ghost use Rattle.tl_beat.specs.declared.beat.{Beat.Beat, BeatD.BeatD, Link.Link};
 ghost use Rattle.tl_beat.specs.declared.channel.Channel.TheVariants as channel;
 ghost use Rattle.tl_beat.specs.statement.Width.{IsWidth};
 ghost use Rattle.tl_burst.specs.statement.Messages.{History, unfinished};
@@ -161,7 +159,6 @@ fn overtaken(before: Option<Granting>, block: u32) -> Option<Granting>
 }
 
 impl LinkMessages {
-    ghost use Rattle.tl_beat.specs.declared.beat.Beat.TheVariants as beat;
     ghost use Rattle.tl_memory.specs.statement.Links.{KnowsMessages};
 
     /// No message on any channel.

@@ -1,6 +1,6 @@
 //! The state of the bytes of memory.
 
-ghost use Rattle.std.specs.Prelude.{ℕ, suc, true, [], ◌∷◌, ◌<◌, ◌≡◌, if◌then◌else◌, List, length, is_some, option_map};
+ghost use Rattle.std.specs.Prelude.{ℕ, suc, true, [], ◌∷◌, ◌<◌, ◌≡◌, if◌then◌else◌, List, length, option_map};
 ghost use Rattle.std.specs.Prelude.{None, Some, IfOk, IsTrue, option_copied, ◌+◌, ◌*◌};
 ghost use Rattle.tl_beat.specs.declared.beat.Beat.TheVariants as beat;
 ghost use Rattle.tl_beat.specs.declared.beat.BeatD.{BeatD};

@@ -1,12 +1,12 @@
 //! The change that a beat makes to the state of the block that it concerns.
 
-ghost use Rattle.std.specs.Prelude.{ℕ, suc, Bool, Option, Some, None, ◌∷◌, ◌≡◌, ◌≤◌, ◌&&◌, true, false, not, length, IfOk, IsTrue};
+ghost use Rattle.std.specs.Prelude.{ℕ, suc, Option, Some, None, ◌≡◌, ◌≤◌, ◌&&◌, true, false, not, length, IfOk, IsTrue};
 ghost use Rattle.tl_beat.specs.declared.beat.Beat.{Beat};
 ghost use Rattle.tl_beat.specs.declared.beat.Beat.TheVariants as beat;
 ghost use Rattle.tl_beat.specs.declared.beat.Link.{Link};
 ghost use Rattle.tl_beat.specs.declared.channel.Channel.TheVariants as channel;
 ghost use Rattle.tl_beat.specs.statement.Width.{IsWidth};
-ghost use Rattle.tl_burst.specs.statement.Messages.{History, unfinished};
+ghost use Rattle.tl_burst.specs.statement.Messages.{unfinished};
 ghost use Rattle.tl_burst.specs.statement.Part;
 ghost use Rattle.tl_rules.specs.statement.Conformance.{Trace, on_link};
 ghost use Rattle.tl_rules.specs.statement.History.{block_at};

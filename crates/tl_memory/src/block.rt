@@ -190,8 +190,8 @@ impl<const W: usize> BlockState<W> {
         Ok(copies)
     }
 
-    /// What becomes of the pending accesses by a beat: copies with the bytes that they may find now, or nothing if none
-    /// is gone and all are Puts, which find no bytes. `gone` is the access that ends, if one does.
+    /// The change to the pending accesses: copies with the bytes that they may find now, or none if no access is gone and
+    /// all are Puts, which find no bytes. `gone` is the access that ends, if one does.
     fn next_accesses(
         &self,
         alloc: Global,

@@ -176,7 +176,7 @@ def liberal():
 
 
 def liberal_checked():
-    """The same with a checker on each link, and one of all links that judges each by itself."""
+    """The same with a checker on each link, and one of all links."""
     return with_library("liberal_checked", [], ["sv/tl_checker_dpi.cpp"], "-DLIBERAL", "-DCHECKED", "-DTOGETHER", "-DCOUNT=0")
 
 
@@ -187,11 +187,11 @@ def liberal_proved(client=False):
                         "-DTOGETHER", "-DCOUNT=0", *(["-DPROVED_CLIENT"] if client else []))
 
 
-def liberal_together(proved):
-    """The same with late GrantAcks and one checker of all links, which judges them together."""
+def liberal_late(proved):
+    """The same with late GrantAcks and one checker of all links."""
     manager = ["sv/tl_proved_manager.sv"] if proved else []
     cpp = ["sv/tl_checker_dpi.cpp"] + (["sv/tl_agents_dpi.cpp"] if proved else [])
-    return with_library(f"liberal_together{proved:d}", manager, cpp, "-DLIBERAL", "-DLATE", "-DTOGETHER", "-DCOUNT=0",
+    return with_library(f"liberal_late{proved:d}", manager, cpp, "-DLIBERAL", "-DLATE", "-DTOGETHER", "-DCOUNT=0",
                         *(["-DPROVED"] if proved else []))
 
 

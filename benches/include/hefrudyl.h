@@ -149,8 +149,7 @@ typedef struct tl_judge {
    4, 8 or 16 bytes, under profile 1 or 2, behind a handle that holds nothing. */
 tl_answer tl_judge_new(tl_judge *judge, const uint8_t *levels, size_t links, uint8_t width, uint8_t profile);
 
-/* The same of links that have these liberties (the sum of enum tl_liberty). TL_EARLY is TL_BAD_ARGUMENT: the
-   rules of memory do not say which bytes an answer may bring that begins before its request is complete. */
+/* The same of links that have these liberties (the sum of enum tl_liberty). */
 tl_answer tl_judge_new_under(tl_judge *judge, const uint8_t *levels, size_t links, uint8_t width,
                              uint8_t liberties);
 
@@ -167,7 +166,7 @@ tl_answer tl_judge_try_push(tl_judge *judge, uint8_t link, const tl_beat *beat);
    TL_BAD_ARGUMENT. */
 tl_answer tl_judge_push_line(tl_judge *judge, const uint8_t *line, size_t length);
 
-/* Makes a judge of wide beats, of 4, 8, 16, 32 or 64 bytes, of links that have these liberties, any but TL_EARLY. */
+/* Makes a judge of wide beats, of 4, 8, 16, 32 or 64 bytes, of links that have these liberties. */
 tl_answer tl_judge_new_wide(tl_judge *judge, const uint8_t *levels, size_t links, uint8_t width,
                             uint8_t liberties);
 

@@ -138,7 +138,7 @@ public:
     require_made(answer, "hefrudyl: levels, width or profile");
   }
 
-  /// A judge of links that have these liberties (the sum of enum tl_liberty), any but TL_EARLY.
+  /// A judge of links that have these liberties (the sum of enum tl_liberty).
   static Judge under(const std::vector<std::uint8_t> &levels, std::uint8_t liberties, std::uint8_t width = 8) {
     tl_judge made = {};
     tl_answer answer = tl_judge_new_under(&made, levels.data(), levels.size(), width, liberties);

@@ -447,8 +447,8 @@ class _Judging(_Agent):
 
 class Judge(_Judging):
     """A judge of all links of one manager, of beats of `width` bytes, under profile 1 or 2 or, where they are given,
-    under these liberties, any but EARLY: each beat after the earlier beats of all links. Those of one clock edge come by
-    channel, the A of each link, then B, C, D and E."""
+    under these liberties: each beat after the earlier beats of all links. Those of one clock edge come by channel, the A
+    of each link, then B, C, D and E."""
 
     def __init__(self, levels, width=8, profile=1, liberties=None):
         super().__init__("judge", _Judge(), levels, width, profile, liberties)
@@ -487,7 +487,7 @@ class _WideJudging(_Agent):
 
 
 class WideJudge(_WideJudging):
-    """A judge of all links of one manager, of wide beats of 4, 8, 16, 32 or 64 bytes, under these liberties, any but EARLY."""
+    """A judge of all links of one manager, of wide beats of 4, 8, 16, 32 or 64 bytes, under these liberties."""
 
     def __init__(self, levels, width, liberties=0):
         super().__init__("judge", _Judge(), levels, width, liberties)

@@ -153,8 +153,7 @@ SHARED_LIMITS = [
         ".FIRST_SOURCES(16'h0300), .LAST_SOURCES(16'h0703)")),
 ]
 CHECKER_LIMITS = [
-    ("LIBERTIES(8)", "tl_rules_between_links_take_no_LIBERTY_EARLY"), ("LIBERTIES(256), .TOGETHER(0)", "tl_LIBERTIES_is_0_to_255"),
-    ("PROFILE(3)", "tl_PROFILE_is_1_or_2"), ("LEVELS(4'b1110)", "tl_LEVELS_are_0_1_or_2"), ("W(5)", "tl_W_is_4_8_16_32_or_64"),
+    ("LIBERTIES(256)", "tl_LIBERTIES_is_0_to_255"), ("PROFILE(3)", "tl_PROFILE_is_1_or_2"), ("LEVELS(4'b1110)", "tl_LEVELS_are_0_1_or_2"), ("W(5)", "tl_W_is_4_8_16_32_or_64"),
     ("W(32), .COUNT(1)", "tl_COUNT_is_0_on_wide_links"), ("ADDRESS_BITS(33), .COVER(1)", "tl_COVER_is_0_on_wide_links"),
 ]
 AGENT_LIMITS = [

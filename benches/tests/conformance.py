@@ -11,7 +11,7 @@ import sys
 import xml.etree.ElementTree as ElementTree
 from pathlib import Path
 
-from harness import BUGS, HERE, HOME_BUGS, OUT, TLTOOL, path, run, test, want
+from harness import BUGS, HERE, HOME_BUGS, LIBERAL_BUGS, OUT, TLTOOL, path, run, test, want
 from shown import save, walk_page
 
 FOLDER = os.path.join(HERE, "conformance")
@@ -244,6 +244,12 @@ def the_manager_is_clean_and_its_bugs_are_found():
 def the_cache_is_clean_and_its_bugs_are_found():
     # the second loses a Store, and the ninth needs a manager that takes requests at any time: the delays do
     right_and_wrong("client", "tl_cache.toml", {bug: rule or {2: "Load", 9: "H5"}[bug] for bug, (rule, _) in BUGS.items()})
+
+
+@test
+def the_cache_that_takes_liberties_is_clean_and_its_bugs_are_found():
+    # no rule shows the first and the seventh: a Load does
+    right_and_wrong("client", "tl_liberal_cache.toml", {bug: rule or "Load" for bug, (rule, _) in LIBERAL_BUGS.items()}, cycles="20000")
 
 
 @test

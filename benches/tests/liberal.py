@@ -4,8 +4,8 @@ import os
 import subprocess
 
 from harness import (
-    LIBERAL_BUGS, TLTOOL, beat_lines, judged, liberal, liberal_checked, liberal_in_icarus, liberal_proved, liberal_together, path,
-    run, test, want,
+    HOME_BUGS, LIBERAL_BUGS, TLTOOL, beat_lines, judged, liberal, liberal_checked, liberal_in_icarus, liberal_late, liberal_proved,
+    path, run, test, want,
 )
 
 # The liberties of the example's links, in the order of a header, and the rule that the trace of a run breaks without each.
@@ -16,12 +16,12 @@ PROVED_HEADER = "tltrace 4 8 ids,writer,early,drops C C UL"
 SEEDS = range(1, 11)
 
 
-def judged_under(header, name):
+def judged_under(header, name, command="monitor"):
     """What the command says of a trace with another header."""
     with open(path(name)) as trace:
         trace.readline()
         text = f"{header}\n{trace.read()}"
-    return subprocess.run([TLTOOL, "monitor"], input=text, stdout=subprocess.PIPE, text=True).stdout.strip()
+    return subprocess.run([TLTOOL, command], input=text, stdout=subprocess.PIPE, text=True).stdout.strip()
 
 
 def clean_in_both_simulators(fast, slow, header):
@@ -31,7 +31,9 @@ def clean_in_both_simulators(fast, slow, header):
             told = run([*command, f"+seed={seed}", "+cycles=8000", f"+trace={path(name)}"])
             want("agree" in told, f"seed {seed}: {told}")
         want(beat_lines("fast") == beat_lines("slow") and beat_lines("fast")[0] == header, f"seed {seed}: {beat_lines('fast')[0]}")
-        want(judged(path("slow")) == f"clean {len(beat_lines('slow')) - 1}", f"seed {seed}: {judged(path('slow'))}")
+        for command, right in (("monitor", "clean"), ("coherent", "coherent")):
+            verdict = judged(path("slow"), command)
+            want(verdict == f"{right} {len(beat_lines('slow')) - 1}", f"seed {seed}: {verdict}")
 
 
 @test
@@ -53,13 +55,13 @@ def checkers_find_nothing_where_a_cache_with_liberties_is_under_the_proved_manag
 
 
 @test
-def caches_that_take_liberties_are_coherent_without_early_answers():
-    for proved, liberties in ((False, "ids,sinks,writer,drops"), (True, "ids,writer,drops")):
+def caches_that_take_liberties_are_coherent_with_late_grant_acks_too():
+    for proved, header in ((False, HEADER), (True, PROVED_HEADER)):
         for seed in (1, 2, 3):
-            told = run([liberal_together(proved), f"+seed={seed}", "+cycles=20000", f"+trace={path('late')}"])
+            told = run([liberal_late(proved), f"+seed={seed}", "+cycles=20000", f"+trace={path('late')}"])
             want("agree" in told and "faults: 0" in told and told.count("refused: 0") == proved, f"seed {seed}: {told}")
             beats = beat_lines("late")
-            want(beats[0] == f"tltrace 4 8 {liberties} C C UL", beats[0])
+            want(beats[0] == header.replace("early,", ""), beats[0])
             verdict = judged(path("late"), "coherent")
             want(verdict == f"coherent {len(beats) - 1}", f"seed {seed}: {verdict}")
 
@@ -67,7 +69,8 @@ def caches_that_take_liberties_are_coherent_without_early_answers():
 @test
 def a_cache_that_takes_liberties_needs_each_of_them():
     run([liberal(), "+seed=1", "+cycles=20000", f"+trace={path('needed')}"])
-    want(judged_under("tltrace 4 8 standard C C UL", "needed").startswith("clean "), "the standard's liberties")
+    for command, right in (("monitor", "clean"), ("coherent", "coherent")):
+        want(judged_under("tltrace 4 8 standard C C UL", "needed", command).startswith(f"{right} "), f"{command}: the standard's liberties")
     want(judged_under("tltrace 2 8 C C UL", "needed").endswith(" H8"), "no liberties")
     for name, rule in NEEDED.items():
         others = ",".join(it for it in NEEDED if it != name)
@@ -80,9 +83,10 @@ def no_liberty_hides_a_bug_that_a_link_shows():
     for bug, (rule, own) in LIBERAL_BUGS.items():
         for seed in SEEDS:
             told = run([liberal(), f"+seed={seed}", "+cycles=20000", f"+bug={bug}", f"+trace={path('bug')}"])
-            verdict = judged(path("bug"))
             want(own in told, f"bug {bug}, seed {seed}: the bench says {told}")
-            want(verdict.endswith(f" {rule}") if rule else verdict.startswith("clean "), f"bug {bug}, seed {seed}: {verdict}")
+            for command, right in (("monitor", "clean"), ("coherent", "coherent")):
+                verdict = judged(path("bug"), command)
+                want(verdict.endswith(f" {rule}") if rule else verdict.startswith(f"{right} "), f"bug {bug}, seed {seed}: {verdict}")
 
 
 def checkers_find_each_bug(built):
@@ -110,6 +114,17 @@ def the_proved_manager_hides_no_bug_of_a_cache_with_liberties():
     checkers_find_each_bug(liberal_proved())
 
 
+@test
+def a_managers_bugs_are_found_between_links_that_answer_early():
+    for bug, rule in HOME_BUGS.items():
+        words = ["+seed=1", "+cycles=20000", f"+home_bug={bug}", f"+trace={path('home')}"]
+        run([liberal(), *words])
+        verdict = judged(path("home"), "coherent")
+        want(verdict.endswith(f" {rule}"), f"bug {bug}: {verdict}")
+        told = run([liberal_checked(), *words], status=-6)
+        want(f" breaks {rule}: {verdict.split()[1]}: " in told, f"bug {bug}: {verdict}, and the checker says {told}")
+
+
 def ten_million_cycles(command, checkers):
     """A run of which the command judges each beat while it comes, and so many checkers beside it."""
     pipe = path("pipe")
@@ -117,11 +132,11 @@ def ten_million_cycles(command, checkers):
         os.remove(pipe)
     os.mkfifo(pipe)
     for seed in (11, 12):
-        monitor = subprocess.Popen([TLTOOL, "monitor", pipe], stdout=subprocess.PIPE, text=True)
+        judge = subprocess.Popen([TLTOOL, "coherent", pipe], stdout=subprocess.PIPE, text=True)
         told = run([*command, f"+seed={seed}", "+cycles=5000000", f"+trace={pipe}"], timeout=7200)
-        verdict = monitor.communicate(timeout=600)[0].strip()
+        verdict = judge.communicate(timeout=600)[0].strip()
         right = "agree" in told and told.count("faults: 0") == checkers and told.count("refused: ") == told.count("refused: 0\n")
-        want(right and verdict.startswith("clean "), f"{told}{verdict}")
+        want(right and verdict.startswith("coherent "), f"{told}{verdict}")
         print(f"        seed {seed}: {verdict}, {next(line for line in told.splitlines() if 'agree' in line)}")
 
 

@@ -129,8 +129,6 @@ def told_of_wide(module, kind, name, changed):
     (levels, width, profile, liberties), lines = read_trace(module, name)
     if liberties is None:
         liberties = module.Liberty.WRITER if profile == 2 else module.Liberty(0)
-    if kind is module.WideJudge and module.Liberty.EARLY in liberties:
-        return "line 1 F7"
     with kind(levels, width, liberties) as judge:
         for number, line in enumerate(lines, 2):
             link, beat = beat_of(module, line)
@@ -141,10 +139,8 @@ def told_of_wide(module, kind, name, changed):
 
 
 def told_of(module, kind, name):
-    """What the library says of a trace, each beat as a struct and as a line: `line N X`, or nothing. A judge takes no early links."""
+    """What the library says of a trace, each beat as a struct and as a line: `line N X`, or nothing."""
     made, lines = read_trace(module, name)
-    if kind is module.Judge and module.Liberty.EARLY in (made[-1] or module.Liberty(0)):
-        return "line 1 F7"
     with kind(*made) as judge, kind(*made) as reader:
         for number, line in enumerate(lines, 2):
             verdict = judge.push(*beat_of(module, line))
@@ -211,9 +207,10 @@ def python_refuses_what_does_not_fit():
             want(False, f"{levels} {width} made a monitor")
         except ValueError:
             pass
-    for kind, width, liberties in ((module.WideMonitor, 24, 0), (module.WideJudge, 32, module.Liberty.EARLY)):
+    for kind, width, liberties in ((module.WideMonitor, 24, 0), (module.WideJudge, 24, module.Liberty.EARLY), (module.WideJudge, 32, 256),
+                                   (module.Judge, 9, module.Liberty.EARLY), (module.Judge, 8, 256)):
         try:
-            kind([module.Level.C], width, liberties)
+            kind([module.Level.C], width, liberties=liberties)
             want(False, f"{width} {liberties} made a {kind.__name__}")
         except ValueError:
             pass

@@ -1,5 +1,5 @@
-/* The judge of all links from C: two writers of one block, stale bytes, an access beside a writer, and what is
-   refused. It is built with the address and undefined-behaviour sanitizers too. */
+/* The judge of all links from C: two writers of one block, stale bytes, an access beside a writer, early answers, and
+   what is refused. It is built with the address and undefined-behaviour sanitizers too. */
 #include "want.h"
 #include <hefrudyl.h>
 #include <stdio.h>
@@ -53,6 +53,42 @@ static void a_denied_grant(uint8_t width) {
   want(push(&judge, 1, asked(TL_A_AcquirePerm, 6, width)).code == TL_OK, "a second Acquire");
   want(push(&judge, 1, denied).code == TL_OK, "a denied Grant");
   tl_judge_free(&judge);
+}
+
+/* A judge of links that have these liberties, of which the first has the first beat of a GrantData toT, and acknowledges it. */
+static tl_judge behind_a_grant_ack(uint8_t width, uint8_t liberties, tl_answer *told) {
+  tl_judge judge = {0};
+  tl_beat acquire = asked(TL_A_AcquireBlock, 6, width), begun = grant_data;
+  acquire.param = 1;
+  begun.param = 0;
+  want(tl_judge_new_under(&judge, levels, 2, width, liberties).code == TL_OK, "a judge is made");
+  want(push(&judge, 0, acquire).code == TL_OK, "an Acquire");
+  want(push(&judge, 0, begun).code == TL_OK, "the first beat of its GrantData");
+  *told = push(&judge, 0, (tl_beat){.channel = TL_CHANNEL_E});
+  return judge;
+}
+
+/* An early GrantAck gives its link the block. It is another's once a Probe was answered, while the GrantData goes on. */
+static void an_early_grant_ack(uint8_t width) {
+  tl_beat second = grant, probe = asked(TL_B_ProbePerm, 6, width), report = {.channel = TL_CHANNEL_C, .opcode = TL_C_ProbeAck};
+  tl_answer told;
+  second.sink = 1;
+  probe.channel = TL_CHANNEL_B;
+  probe.param = 2;
+  report.param = 1;
+  report.size = 6;
+  tl_judge judge = behind_a_grant_ack(width, TL_STANDARD - TL_EARLY, &told);
+  want(told.code == TL_BROKEN && told.rule == TL_H8, "an early GrantAck is H8 without the liberty");
+  tl_judge_free(&judge);
+  for (int probed = 0; probed < 2; probed++) {
+    judge = behind_a_grant_ack(width, TL_STANDARD, &told);
+    want(told.code == TL_OK, "an early GrantAck");
+    want(push(&judge, 1, asked(TL_A_AcquirePerm, 6, width)).code == TL_OK, "a second Acquire");
+    if (probed) want(push(&judge, 0, probe).code == TL_OK && push(&judge, 0, report).code == TL_OK, "a Probe and its answer");
+    told = push(&judge, 1, second);
+    want(probed ? told.code == TL_OK : told.rule == TL_M1, "a Grant beside an early GrantAck is M1, and none behind a Probe");
+    tl_judge_free(&judge);
+  }
 }
 
 static void an_access_beside_a_writer(uint8_t width) {
@@ -118,7 +154,7 @@ static void what_is_refused(void) {
   want(tl_judge_new(&judge, many, 0, 8, 1).code == TL_BAD_ARGUMENT, "no links");
   want(tl_judge_new(&judge, many, 17, 8, 1).code == TL_BAD_ARGUMENT, "17 links");
   want(tl_judge_new(&judge, levels, 2, 9, 1).code == TL_BAD_ARGUMENT, "a width of 9");
-  want(tl_judge_new_under(&judge, levels, 2, 8, TL_STANDARD).code == TL_BAD_ARGUMENT, "early answers");
+  want(tl_judge_new_under(&judge, levels, 2, 9, TL_STANDARD).code == TL_BAD_ARGUMENT, "a width of 9 under liberties");
   want(judge.full == 0, "nothing was made");
   want(tl_judge_new(&judge, many, 16, 16, 2).code == TL_OK, "16 links");
   want(tl_judge_new(&judge, levels, 2, 8, 1).code == TL_BAD_ARGUMENT, "a handle that holds a judge");
@@ -138,6 +174,7 @@ int main(void) {
     stale_bytes(widths[i]);
     an_access_beside_a_writer(widths[i]);
     a_denied_grant(widths[i]);
+    an_early_grant_ack(widths[i]);
   }
   a_rule_of_the_link_comes_first();
   a_fault_that_is_not_the_end();

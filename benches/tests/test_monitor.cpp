@@ -21,6 +21,12 @@ int main() {
   hefrudyl::Monitor liberal = hefrudyl::Monitor::under({TL_C}, TL_EARLY);
   for (const char *line : {"00 A 6 0 6 00 00000000 ff - 0\n", "00 D 5 1 6 00 00 0 0000000000000000 0\n", "00 E 00\n"})
     right = right && liberal.push_line(line).code == TL_OK;
+  hefrudyl::Judge early = hefrudyl::Judge::under({TL_C, TL_C}, TL_EARLY);
+  for (const char *line : {"00 A 6 1 6 00 00000000 ff - 0\n", "00 D 5 0 6 00 00 0 0000000000000000 0\n", "00 E 00\n",
+                           "01 A 7 1 6 00 00000000 ff - 0\n"})
+    right = right && early.push_line(line).code == TL_OK;
+  answer = early.push_line("01 D 4 0 6 00 01 0 - 0\n");
+  right = right && answer.code == TL_BROKEN && hefrudyl::rule_name(answer.rule) == "M1";
   hefrudyl::Judge unmoved({TL_C, TL_C});
   hefrudyl::Judge judge(std::move(unmoved));
   right = right && unmoved.push(0, acknowledge).code == TL_BAD_ARGUMENT;

@@ -111,6 +111,27 @@ static void a_judge_of_all_links(void) {
   }
 }
 
+/* A GrantAck may come with the first beat of its GrantData, and then gives its link the block. */
+static void an_early_grant_ack(void) {
+  for (int early = 0; early < 2; early++)
+    for (int i = 0; i < 4; i++) {
+      uint8_t width = widths[i];
+      tl_judge judge = {0};
+      want(tl_judge_new_wide(&judge, levels, 2, width, early ? TL_STANDARD : TL_STANDARD - TL_EARLY).code == TL_OK, "a judge is made");
+      want(judged(&judge, 0, acquire(width)).code == TL_OK && judged(&judge, 0, grant).code == TL_OK, "an Acquire and its Grant");
+      tl_answer answer = judged(&judge, 0, acknowledge);
+      want(early ? answer.code == TL_OK : answer.rule == TL_H8, "an early GrantAck is H8 without the liberty");
+      if (early) {
+        tl_wide_beat second = grant;
+        second.sink = 1;
+        want(judged(&judge, 1, acquire(width)).code == TL_OK, "the same Acquire on another link");
+        answer = judged(&judge, 1, second);
+        want(answer.code == TL_BROKEN && answer.rule == TL_M1, "a block that another link holds is M1");
+      }
+      tl_judge_free(&judge);
+    }
+}
+
 static void a_refused_beat_changes_nothing(void) {
   tl_monitor monitor = opened(32);
   tl_wide_beat bad[15];
@@ -154,8 +175,8 @@ static void handles(void) {
   want(tl_monitor_new_wide(&monitor, codes, 1, 128, 0).code == TL_BAD_ARGUMENT, "a width of 128");
   codes[1] = 3;
   want(tl_monitor_new_wide(&monitor, codes, 2, 32, 0).code == TL_BAD_ARGUMENT, "level 3");
-  want(tl_judge_new_wide(&judge, levels, 2, 32, TL_EARLY).code == TL_BAD_ARGUMENT, "a judge takes no TL_EARLY");
-  want(tl_monitor_new_wide(&monitor, levels, 2, 32, TL_EARLY).code == TL_OK, "a monitor does");
+  want(tl_judge_new_wide(&judge, levels, 2, 24, TL_EARLY).code == TL_BAD_ARGUMENT, "a judge of a width of 24");
+  want(tl_monitor_new_wide(&monitor, levels, 2, 32, TL_EARLY).code == TL_OK, "a monitor of early links");
   want(tl_monitor_new_wide(&monitor, levels, 2, 32, 0).code == TL_BAD_ARGUMENT, "a handle that holds a monitor");
   want(tl_monitor_push(&monitor, 0, &narrow).code == TL_BAD_ARGUMENT, "a monitor of wide beats takes no other beat");
   tl_monitor_free(&monitor);
@@ -280,6 +301,7 @@ int main(void) {
   a_burst_at_each_width();
   the_last_part_is_judged();
   a_judge_of_all_links();
+  an_early_grant_ack();
   a_refused_beat_changes_nothing();
   handles();
   more_names_than_numbers();

@@ -31,7 +31,7 @@ def memory_only(lines, ranges):
 class Explained:
     """The explanation of a fault and the chart of its block; each is empty where there is none."""
 
-    def __init__(self, tool, seed, together, ranges):
+    def __init__(self, tool, seed, ranges):
         self.text, self.chart, self.line = "", "", 0
         if not seed.trace.exists():
             return
@@ -41,7 +41,7 @@ class Explained:
             self.trace = seed.trace.with_suffix(".memory.trace")
             lines = [*lines[:1], *memory_only(lines[1:], ranges)]
             self.trace.write_text("".join(f"{it}\n" for it in lines))
-        self.explain(tool, together or seed.fault in RULES_OF_MEMORY, lines)
+        self.explain(tool, not ranges or seed.fault in RULES_OF_MEMORY, lines)
         self.draw(tool, seed, lines)
 
     def explain(self, tool, together, lines):

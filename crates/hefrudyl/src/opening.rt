@@ -1,14 +1,14 @@
 //! The arguments from which C makes monitors, judges, coverings, clients and managers.
 
-ghost use Rattle.std.specs.Prelude.{◌≡◌, ◌≤◌, ◌++◌, false, drop, map, length, replicate, IfOk};
+ghost use Rattle.std.specs.Prelude.{◌≡◌, ◌≤◌, ◌++◌, drop, map, length, replicate, IfOk};
 ghost use Rattle.tl_beat.specs.statement.Width.{IsWidth};
 ghost use Rattle.hefrudyl.specs.statement.Opened.{may_open, may_open_under, new_answer, Makes, MakesUnder};
 ghost use Rattle.tl_pictures.specs.statement.Codes.{level_at};
 ghost use Rattle.hefrudyl.specs.statement.Covering.{MakesCovering};
 ghost use Rattle.hefrudyl.specs.statement.ClientOpened.{may_open_client, MakesClient};
 ghost use Rattle.hefrudyl.specs.statement.ManagerOpened.{may_open_manager, profile_code, MakesManager};
-ghost use Rattle.hefrudyl.specs.statement.TogetherOpened.{MakesJudge, may_judge_under};
-ghost use Rattle.hefrudyl.specs.statement.WideOpened.{may_judge_wide, may_open_wide};
+ghost use Rattle.hefrudyl.specs.statement.TogetherOpened.{MakesJudge};
+ghost use Rattle.hefrudyl.specs.statement.WideOpened.{may_open_wide};
 
 use std::alloc::{AllocError, Global};
 use tl_cover::covering::Covering;
@@ -101,21 +101,13 @@ pub fn make_under<const W: usize>(
     }
 }
 
-/// Whether the arguments fit: 1 to 16 levels, 0 to 2 each, a width of 4, 8 or 16 and liberties without `early`.
-pub fn may_judge_under(codes: &[u8], width: u8, liberties: u8) -> bool
-    ensures { result ≡ may_judge_under codes.now width liberties }
-{
-    may_open_under(codes, width) && !liberties_of(liberties).early
-}
-
-/// A judge of all links that has judged no beat.
+/// A judge of all links with these liberties that has judged no beat.
 pub fn make_judge<const W: usize>(
     alloc: Global,
     codes: &[u8],
     liberties: Liberties,
 ) -> Result<Judge<W>, Answer>
     requires width { IsWidth W }
-    requires late { liberties.early ≡ false }
     ensures { MakesJudge codes.now liberties result }
 {
     let Ok(levels) = levels_of(alloc, codes) else {
@@ -133,13 +125,6 @@ pub fn may_open_wide(codes: &[u8], width: u8) -> bool
     ensures { result ≡ may_open_wide codes.now width }
 {
     1 <= codes.len() && codes.len() <= MOST_CLIENTS && are_levels(codes) && is_wide_width(width)
-}
-
-/// Whether the arguments fit, and the liberties are without `early`.
-pub fn may_judge_wide(codes: &[u8], width: u8, liberties: u8) -> bool
-    ensures { result ≡ may_judge_wide codes.now width liberties }
-{
-    may_open_wide(codes, width) && !liberties_of(liberties).early
 }
 
 /// The answer to a client or a manager that can't be made for this reason.

@@ -1,6 +1,6 @@
 //! The session in a handle. A call on a session of another kind is bad input.
 
-ghost use Rattle.std.specs.Prelude.{◌≡◌, false, true};
+ghost use Rattle.std.specs.Prelude.{◌≡◌, true};
 ghost use Rattle.hefrudyl.specs.statement.Opened.{OpensTo, OpensUnder, may_open_under, ok_of, answer_in};
 ghost use Rattle.hefrudyl.specs.statement.Sessions.{PushSession, TrySession, LineSession, EntriesSession};
 ghost use Rattle.hefrudyl.specs.statement.Sessions.{JudgeOpens, JudgeOpensUnder, OpensJudge};
@@ -18,8 +18,8 @@ use crate::judge::AnyJudge;
 use crate::manager::AnyManager;
 use crate::monitor::AnyMonitor;
 use crate::opening::{
-    make, make_client, make_judge, make_manager, make_under, may_judge_under, may_open,
-    may_open_client, may_open_manager, may_open_under, probe_sources, profile_code,
+    make, make_client, make_judge, make_manager, make_under, may_open, may_open_client,
+    may_open_manager, may_open_under, probe_sources, profile_code,
 };
 use crate::wide::AnyWide;
 use crate::{client, judge, manager, monitor};
@@ -133,7 +133,6 @@ impl Session {
         liberties: Liberties,
     ) -> Result<Session, Answer>
         requires fits { may_open_under codes.now width ≡ true }
-        requires late { liberties.early ≡ false }
         ensures told { OpensJudge codes.now width liberties true (ok_of result) (answer_in result) }
     {
         let judge = match width {
@@ -160,7 +159,7 @@ impl Session {
         Self::judge_of(alloc, codes, width, Liberties::of(profile_of(profile)))
     }
 
-    /// A new judge of all links of a manager with these liberties, any but `early`, of this width.
+    /// A new judge of all links of a manager with these liberties, of this width.
     pub fn open_judge_under(
         alloc: Global,
         codes: &[u8],
@@ -169,7 +168,7 @@ impl Session {
     ) -> Result<Session, Answer>
         ensures told { JudgeOpensUnder codes.now width liberties (ok_of result) (answer_in result) }
     {
-        if !may_judge_under(codes, width, liberties) {
+        if !may_open_under(codes, width) {
             return Err(Answer::BAD);
         }
         Self::judge_of(alloc, codes, width, liberties_of(liberties))

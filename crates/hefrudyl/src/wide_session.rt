@@ -1,13 +1,12 @@
 //! The calls on a session with a monitor or a judge of wide beats. A session without one is bad input.
 
 ghost use Rattle.std.specs.Prelude.{true, false, ◌≡◌};
-ghost use Rattle.tl_pictures.specs.statement.Codes.{liberties_at};
 ghost use Rattle.hefrudyl.specs.code.WideJudging.{MakesWide};
 ghost use Rattle.hefrudyl.specs.statement.Opened.{ok_of, answer_in};
 ghost use Rattle.hefrudyl.specs.statement.WideOpened.{JudgesWide, MonitorsWide, OpensWide, ToldAny};
 ghost use Rattle.tl_beat.specs.statement.Width.{IsWidth};
 
-use crate::opening::{make_judge, make_under, may_judge_wide, may_open_wide};
+use crate::opening::{make_judge, make_under, may_open_wide};
 use crate::part_judge::PartJudge;
 use crate::session::Session;
 use crate::wide;
@@ -39,7 +38,6 @@ fn make_wide_judge<const P: usize>(
     liberties: u8,
 ) -> Result<WideJudge<P>, Answer>
     requires width { IsWidth P }
-    requires late { (liberties_at liberties).early ≡ false }
     ensures { MakesWide true codes.now liberties result }
 {
     let judge = make_judge(alloc, codes, liberties_of(liberties))?;
@@ -69,11 +67,11 @@ pub fn open_monitor(
     Ok(Session::WideMonitor(monitor))
 }
 
-/// A new judge of wide beats of all links with these liberties, any but `early`, of this width.
+/// A new judge of wide beats of all links with these liberties, of this width.
 pub fn open_judge(alloc: Global, codes: &[u8], width: u8, liberties: u8) -> Result<Session, Answer>
     ensures told { OpensWide true codes.now width liberties (ok_of result) (answer_in result) }
 {
-    if !may_judge_wide(codes, width, liberties) {
+    if !may_open_wide(codes, width) {
         return Err(Answer::BAD);
     }
     let judge = match width {

@@ -24,10 +24,10 @@ use Rattle.hefrudyl.specs.statement.Judged.{ToldOf, ToldOfLine, EntriesOf}
 use Rattle.hefrudyl.specs.statement.Manager.{Admitted, StallsAt, ShowsAt, PopsAt, ClosedAt}
 use Rattle.hefrudyl.specs.statement.ManagerOpened.{may_open_manager, may_open_manager_under, profile_code, terms_at}
 use Rattle.hefrudyl.specs.statement.ManagerOpened.{IsFreshManager, IsFreshManagerUnder}
-use Rattle.hefrudyl.specs.statement.Opened.{may_open, refusal}
+use Rattle.hefrudyl.specs.statement.Opened.{may_open, may_open_under, refusal}
 use Rattle.hefrudyl.specs.statement.Together as together
 use Rattle.hefrudyl.specs.statement.Together.{ToldTogether, ToldOfLineTogether}
-use Rattle.hefrudyl.specs.statement.TogetherOpened.{IsFreshJudge, may_judge_under}
+use Rattle.hefrudyl.specs.statement.TogetherOpened.{IsFreshJudge}
 use Rattle.tl_params.specs.declared.liberties.Liberties.{Liberties}
 use Rattle.tl_params.specs.statement.Liberties.{liberties_of}
 use Rattle.tl_partner.specs.declared.terms.Terms.{Terms}
@@ -87,7 +87,7 @@ JudgeOpens codes width profile =
 -- the result of a call that opens a judge with an empty handle, of links with liberties
 abbrev pub JudgeOpensUnder : List ℕ → ℕ → ℕ → Option Session → Answer → Type 0
 JudgeOpensUnder codes width liberties =
-    OpensJudge codes width (liberties_at liberties) (may_judge_under codes width liberties)
+    OpensJudge codes width (liberties_at liberties) (may_open_under codes width)
 
 -- P is true of the judge before and after, of the same width. A session without a judge is refused, and stays.
 abbrev pub OnJudge : ((w : ℕ) → Judge w → Judge w → Type 0) → Type 0 → Session → Session → Type 0

@@ -1,5 +1,5 @@
 -- The arguments from which C makes a monitor or a judge of wide beats, and sessions with one.
-use Rattle.std.specs.Prelude.{ℕ, Bool, true, false, ◌&&◌, ◌≡◌, not, List, [], length, map, nat_le, Option, Some, None}
+use Rattle.std.specs.Prelude.{ℕ, Bool, true, false, ◌&&◌, ◌≡◌, List, [], length, map, nat_le, Option, Some, None}
 use Rattle.tl_pictures.specs.declared.answer.Answer.{Answer}
 use Rattle.tl_pictures.specs.declared.wide.WidePicture.{WidePicture}
 use Rattle.tl_pictures.specs.statement.Answer.{bad, ok}
@@ -17,10 +17,6 @@ use Rattle.hefrudyl.specs.statement.Wide.{KnowsWide, ToldWide}
 abbrev pub may_open_wide : List ℕ → ℕ → Bool
 may_open_wide codes width =
     nat_le 1 (length codes) && nat_le (length codes) 16 && are_levels codes && is_wide_width width
-
--- the arguments fit, and the liberties are without `early`
-abbrev pub may_judge_wide : List ℕ → ℕ → ℕ → Bool
-may_judge_wide codes width liberties = may_open_wide codes width && not (liberties_at liberties).early
 
 -- one that has these levels and liberties, and no beats
 abbrev pub IsFreshWide : (w : ℕ) → Bool → List ℕ → ℕ → WideJudge (part_width w) → Type 0
@@ -41,17 +37,11 @@ IsOpenedWide false codes width liberties (session.WideMonitor s) = IsFreshAny fa
 IsOpenedWide true codes width liberties (session.WideJudge s) = IsFreshAny true codes width liberties s
 IsOpenedWide together codes width liberties _ = ⊥
 
--- whether the arguments fit a monitor, or a judge
-abbrev pub may_make_wide : Bool → List ℕ → ℕ → ℕ → Bool
-may_make_wide false codes width liberties = may_open_wide codes width
-may_make_wide true codes width liberties = may_judge_wide codes width liberties
-
 -- the result of a call that opens a monitor, or a judge, of wide beats: the session, if any, and the answer
 abbrev pub OpensWide : Bool → List ℕ → ℕ → ℕ → Option Session → Answer → Type 0
 OpensWide together codes width liberties (Some s) answer =
-    (answer ≡ ok) × (may_make_wide together codes width liberties ≡ true)
-    × IsOpenedWide together codes width liberties s
-OpensWide together codes width liberties None answer = answer ≡ refusal (may_make_wide together codes width liberties)
+    (answer ≡ ok) × (may_open_wide codes width ≡ true) × IsOpenedWide together codes width liberties s
+OpensWide together codes width liberties None answer = answer ≡ refusal (may_open_wide codes width)
 
 -- ---- sessions
 

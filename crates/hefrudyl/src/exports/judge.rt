@@ -29,7 +29,7 @@ pub extern "C" fn tl_judge_new(
 }
 
 /// Makes a judge of all links of a manager, of these levels and with these liberties, bit 0 for `ids` to bit 7 for
-/// `uncorrupt`, in an empty handle. `early`, bit 3, is a bad argument.
+/// `uncorrupt`, in an empty handle.
 #[unsafe(no_mangle)]
 pub extern "C" fn tl_judge_new_under(
     alloc: Global,

@@ -29,7 +29,6 @@ pub extern "C" fn tl_monitor_new_wide(
 }
 
 /// Makes a judge of wide beats of all links of a manager, of these levels and with these liberties, in an empty handle.
-/// `early`, bit 3, is a bad argument.
 #[unsafe(no_mangle)]
 pub extern "C" fn tl_judge_new_wide(
     alloc: Global,

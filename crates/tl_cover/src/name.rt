@@ -56,7 +56,7 @@ impl Wait {
 }
 
 /// Appends a dash and a detail, if there is one.
-fn append_detail(detail: Option<&str>, out: &mut Vec<u8>) -> Result<(), AllocError>
+pub fn append_detail(detail: Option<&str>, out: &mut Vec<u8>) -> Result<(), AllocError>
     ensures { OnOk result (out.new.items
         ≡ Names.with_detail out.old.items (option_map (λ s. s.now) detail.entry)) }
 {

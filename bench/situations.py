@@ -44,6 +44,9 @@ PARAMS = {
 }
 PLAIN = ["PutFullData", "PutPartialData", "Get", "AccessAck", "AccessAckData"]
 WAITS = ["0", "1", "2-3", "4-7", "8-15", "16-31", "32-63", "64-127"]
+# How many are pending, with the one that begins; and the requests whose sources are counted, by their opcodes.
+DEPTHS = ["1", "2", "3-4", "5-8", "9-16"]
+REQUESTS = {"acquire": (6, 7), "get": (4,), "put": (0, 1), "atomic": (2, 3)}
 
 
 class Beat:
@@ -98,6 +101,7 @@ class Link:
         self.acquiring, self.releasing, self.probed = set(), set(), set()
         self.granted = {}  # the sink that a block waits for
         self.sinks = set()
+        self.sources = {kind: set() for kind in [*REQUESTS, "release"]}  # those of what is pending, by kind
         self.newest = None
 
     def begins(self, beat):
@@ -117,6 +121,8 @@ class Link:
     def open(self, beat):
         if beat.channel == "A":
             self.requests[beat.source] = beat
+            for kind, opcodes in REQUESTS.items():
+                (self.sources[kind].add if beat.opcode in opcodes else self.sources[kind].discard)(beat.source)
         if beat.acquire:
             self.acquiring.add(beat.block)
             if beat.param < 2:
@@ -125,6 +131,7 @@ class Link:
             self.probed.add(beat.block)
         if beat.release:
             self.releases[beat.source] = beat.block
+            self.sources["release"].add(beat.source)
             self.releasing.add(beat.block)
         if beat.grant:
             self.granted[self.requests[beat.source].block] = beat.sink
@@ -142,6 +149,10 @@ class Link:
             self.acquiring.discard(block)
         if beat.release_ack:
             self.releasing.discard(self.releases[beat.source])
+            self.sources["release"].discard(beat.source)
+        elif beat.channel == "D":
+            for kind in REQUESTS:
+                self.sources[kind].discard(beat.source)
         if beat.channel == "E":
             self.sinks.discard(beat.sink)
             self.granted = {block: sink for block, sink in self.granted.items() if sink != beat.sink}
@@ -267,6 +278,14 @@ def kind_of(beat):
     return "-".join([beat.channel, beat.name, *([params[beat.param]] if params else []), str(2**beat.size)])
 
 
+def pending(beat, link):
+    """The kind of a message of which several can be pending, and how many are before it."""
+    if beat.channel == "A":
+        return next(((kind, len(link.sources[kind])) for kind, opcodes in REQUESTS.items() if beat.opcode in opcodes), None)
+    found = {"probe": len(link.probed), "release": len(link.sources["release"]), "grant": len(link.sinks)}
+    return next(((kind, before) for kind, before in found.items() if getattr(beat, kind)), None)
+
+
 def bins(beat, link, number):
     """The bins of the table of its link in which a message begins with a beat, in this line."""
     yield kind_of(beat)
@@ -280,6 +299,9 @@ def bins(beat, link, number):
         yield f"waited-{WAITS[between.bit_length()] if between < 128 else '128-up'}"
     if beat.access:
         yield f"access-{2**beat.size}-at-{min(64, beat.address & -beat.address or 64)}"
+    if found := pending(beat, link):
+        kind, before = found
+        yield f"pending-{kind}-{DEPTHS[before.bit_length()] if before < 16 else '17-up'}"
 
 
 def can_come(name, level, width, liberties):
@@ -287,6 +309,8 @@ def can_come(name, level, width, liberties):
     word, *rest = name.split("-")
     if word == "access":
         return level != "UL" or int(rest[0]) <= width
+    if word == "pending":
+        return rest[0] in ("get", "put") or level == "C" or rest[0] == "atomic" and level == "UH"
     if word not in list("ABCDE"):
         return level == "C"
     opcode, param, size = rest[0], rest[1:-1], rest[-1]
@@ -356,6 +380,8 @@ def layout():
     waits = [*WAITS, "128-up"]
     yield "waits", waits, [("waited", [[f"waited-{it}"] for it in waits])]
     yield "alignments", sizes, [(f"access-{size}-at", [[f"access-{size}-at-{it}"] for it in sizes]) for size in sizes]
+    depths, kinds = [*DEPTHS, "17-up"], [*REQUESTS, "release", "probe", "grant"]
+    yield "pending", depths, [(f"pending-{kind}", [[f"pending-{kind}-{it}"] for it in depths]) for kind in kinds]
 
 
 def tables_text(links, counted):

@@ -5,7 +5,7 @@ use Rattle.tl_tables.specs.code.Grid as grid
 use Rattle.tl_tables.specs.code.Walk as walk
 use Rattle.tl_tables.specs.declared.table.Table.{Table}
 use Rattle.tl_tables.specs.declared.table.Table.TheVariants as table
-use Rattle.tl_tables.specs.statement.Layout.{alignments, messages, permissions, waits}
+use Rattle.tl_tables.specs.statement.Layout.{alignments, depths, messages, permissions, waits}
 use Rattle.tl_tables.specs.statement.Numbered.{numbered}
 use Rattle.tl_tables.specs.statement.Tables.{rows_text}
 
@@ -17,6 +17,10 @@ module _ (w : ℕ) (counts : List (Option ℕ)) where
   pub alignments_so : walk.rows_of table.Alignments w counts ≡ rows_text w counts alignments
   unfolding numbered rows_text
   alignments_so = refl
+
+  pub depths_so : walk.rows_of table.Depths w counts ≡ rows_text w counts depths
+  unfolding numbered rows_text
+  depths_so = refl
 
   pub permissions_so : grid.rows_of w counts ≡ rows_text w counts permissions
   unfolding rows_text
@@ -32,3 +36,4 @@ module _ (w : ℕ) (counts : List (Option ℕ)) where
   runs_so table.Permissions other = absurd (other refl)
   runs_so table.Waits other = waits_so
   runs_so table.Alignments other = alignments_so
+  runs_so table.Depths other = depths_so

@@ -9,7 +9,7 @@ ghost use Rattle.tl_tables.specs.statement.Layout;
 use std::alloc::{AllocError, Global};
 use tl_cover::message::MessageKind;
 use tl_cover::name::append_detail;
-use tl_cover::situation::{Bytes, Situation};
+use tl_cover::situation::{Bytes, Pending, Situation};
 
 /// The name of the param of a kind of message, if it has one.
 fn param_name(kind: MessageKind) -> Option<&'static str>
@@ -37,6 +37,14 @@ fn append_access(bytes: Bytes, head: &mut Vec<u8>) -> Result<(), AllocError>
     head.extend_from_slice(b"-at")
 }
 
+/// Appends the head of the row of a kind of messages that can be pending.
+fn append_pending(kind: Pending, head: &mut Vec<u8>) -> Result<(), AllocError>
+    ensures { OnOk result (head.new.items ≡ head.old.items ++ Layout.pending_head kind) }
+{
+    head.extend_from_slice(b"pending-")?;
+    head.extend_from_slice(kind.name().as_bytes())
+}
+
 /// Appends the head of the row that begins with a bin.
 fn append_head(bin: Situation, head: &mut Vec<u8>) -> Result<(), AllocError>
     ensures { OnOk result (head.new.items ≡ head.old.items ++ Walk.head_of bin) }
@@ -44,6 +52,7 @@ fn append_head(bin: Situation, head: &mut Vec<u8>) -> Result<(), AllocError>
     match bin {
         Situation::Sent(kind) => append_kind(kind, head),
         Situation::Aligned(bytes, _) => append_access(bytes, head),
+        Situation::Among(kind, _) => append_pending(kind, head),
         _ => head.extend_from_slice(b"waited"),
     }
 }

@@ -5,7 +5,7 @@ ghost use Rattle.tl_tables.specs.code.Walk;
 
 use tl_beat::opcode::{OpA, OpD};
 use tl_cover::message::MessageKind;
-use tl_cover::situation::{Bytes, Situation, Wait};
+use tl_cover::situation::{Bytes, Depth, Situation, Wait};
 
 /// A table of a link.
 #[derive(Clone, Copy)]
@@ -18,6 +18,8 @@ pub enum Table {
     Waits,
     /// The accesses, by bytes and alignment.
     Alignments,
+    /// How many messages of a kind were pending.
+    Depths,
 }
 
 /// The bins of a row, one after another in the order of the bins: the columns before the first, and their number.
@@ -37,6 +39,7 @@ impl Table {
             Table::Permissions => "permissions",
             Table::Waits => "waits",
             Table::Alignments => "alignments",
+            Table::Depths => "pending",
         }
     }
 
@@ -47,6 +50,7 @@ impl Table {
         match self {
             Table::Messages | Table::Alignments => &["1", "2", "4", "8", "16", "32", "64"],
             Table::Permissions => &["None", "Branch", "Trunk"],
+            Table::Depths => &["1", "2", "3-4", "5-8", "9-16", "17-up"],
             Table::Waits => &[
                 "0", "1", "2-3", "4-7", "8-15", "16-31", "32-63", "64-127", "128-up",
             ],
@@ -60,6 +64,7 @@ impl Table {
         match self {
             Table::Messages | Table::Alignments => 7,
             Table::Permissions => 3,
+            Table::Depths => 6,
             Table::Waits => 9,
         }
     }
@@ -72,6 +77,7 @@ impl Table {
             (Table::Messages, Situation::Sent(kind)) => messages(kind),
             (Table::Waits, Situation::Waited(Wait::None)) => Some(Run { before: 0, bins: 9 }),
             (Table::Alignments, Situation::Aligned(bytes, many)) => alignments(bytes, many),
+            (Table::Depths, Situation::Among(_, Depth::One)) => Some(Run { before: 0, bins: 6 }),
             _ => None,
         }
     }

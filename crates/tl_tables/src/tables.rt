@@ -84,7 +84,8 @@ fn append_link(
     append_table(alloc, Table::Messages, width, link, counts, out)?;
     append_table(alloc, Table::Permissions, width, link, counts, out)?;
     append_table(alloc, Table::Waits, width, link, counts, out)?;
-    append_table(alloc, Table::Alignments, width, link, counts, out)
+    append_table(alloc, Table::Alignments, width, link, counts, out)?;
+    append_table(alloc, Table::Depths, width, link, counts, out)
 }
 
 /// The counts of all bins on a link, by those on all links.

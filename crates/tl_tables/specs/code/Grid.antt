@@ -1,5 +1,6 @@
 -- The table of permissions as the code sums it, from bin to bin.
-use Rattle.std.specs.Prelude.{ℕ, Bool, true, false, ◌+◌, ◌==◌, ◌&&◌, ◌++◌, List, [], ◌∷◌, codes, if◌then◌else◌, Option, None}
+use Rattle.std.specs.Prelude.{ℕ, Bool, true, false, ◌+◌, ◌==◌, ◌&&◌, ◌++◌, List}
+use Rattle.std.specs.Prelude.{[], ◌∷◌, codes, if◌then◌else◌, Option, None}
 use Rattle.std.specs.List.{flat_map}
 use Rattle.tl_beat.specs.declared.opcode.OpC.TheVariants as c
 use Rattle.tl_cover.specs.declared.message.MessageKind.TheVariants as kind
@@ -49,7 +50,8 @@ is_to _ _ = false
 abbrev pub is_in : Line → Perm → Situation → Bool
 is_in (line.Grant cap) held (Granted grow) = grows grow cap held
 is_in (line.Report cap) held (Answered report asked) = (cap_code cap == cap_code asked) && is_from report held
-is_in (line.Release cap) held (Sent (kind.C c.Release (param.Report report) bytes)) = is_to report cap && is_from report held
+is_in (line.Release cap) held (Sent (kind.C c.Release (param.Report report) bytes)) =
+    is_to report cap && is_from report held
 is_in (line.Release cap) held (Sent (kind.C c.ReleaseData (param.Report report) bytes)) =
     is_to report cap && is_from report held
 is_in _ _ _ = false

@@ -1,13 +1,15 @@
 -- The rows of tables as the code comes upon them, from bin to bin.
-use Rattle.std.specs.Prelude.{ℕ, zero, suc, ◌+◌, ◌-◌, ◌==◌, List, [], ◌∷◌, codes, if◌then◌else◌, nat_lt, Option, Some, None}
+use Rattle.std.specs.Prelude.{ℕ, zero, suc, ◌+◌, ◌-◌, ◌==◌, List, [], ◌∷◌}
+use Rattle.std.specs.Prelude.{codes, if◌then◌else◌, nat_lt, Option, Some, None}
 use Rattle.tl_beat.specs.declared.opcode.OpA.TheVariants as a
 use Rattle.tl_beat.specs.declared.opcode.OpD.TheVariants as d
 use Rattle.tl_cover.specs.declared.message.MessageKind.{MessageKind}
 use Rattle.tl_cover.specs.declared.message.MessageKind.TheVariants as kind
 use Rattle.tl_cover.specs.declared.situation.Bytes.{Bytes}
 use Rattle.tl_cover.specs.declared.situation.Bytes.TheVariants as bytes
+use Rattle.tl_cover.specs.declared.situation.Depth.TheVariants as depth
 use Rattle.tl_cover.specs.declared.situation.Situation.{Situation}
-use Rattle.tl_cover.specs.declared.situation.Situation.TheVariants.{Aligned, Sent, Waited}
+use Rattle.tl_cover.specs.declared.situation.Situation.TheVariants.{Aligned, Among, Sent, Waited}
 use Rattle.tl_cover.specs.declared.situation.Wait.TheVariants as wait
 use Rattle.tl_cover.specs.statement.Bins.{all_bins}
 use Rattle.tl_tables.specs.declared.table.Run.{Run}
@@ -15,7 +17,7 @@ use Rattle.tl_tables.specs.declared.table.Table.{Table}
 use Rattle.tl_tables.specs.declared.table.Table.TheVariants as table
 use Rattle.tl_tables.specs.statement.Counts.{cell_at}
 use Rattle.tl_tables.specs.statement.Layout as layout
-use Rattle.tl_tables.specs.statement.Layout.{Layout, access_head, kind_head}
+use Rattle.tl_tables.specs.statement.Layout.{Layout, access_head, kind_head, pending_head}
 use Rattle.tl_tables.specs.statement.Numbered.{numbered}
 use Rattle.tl_tables.specs.statement.Tables.{row_text}
 
@@ -24,6 +26,7 @@ table_of table.Messages = layout.messages
 table_of table.Permissions = layout.permissions
 table_of table.Waits = layout.waits
 table_of table.Alignments = layout.alignments
+table_of table.Depths = layout.depths
 
 -- the number of columns
 abbrev pub columns : Table → ℕ
@@ -31,6 +34,7 @@ columns table.Messages = 7
 columns table.Permissions = 3
 columns table.Waits = 9
 columns table.Alignments = 7
+columns table.Depths = 6
 
 abbrev run : ℕ → ℕ → Run
 run before bins = record { before = before; bins = bins }
@@ -68,11 +72,13 @@ abbrev pub run_of : Table → Situation → Option Run
 run_of table.Messages (Sent kind) = messages kind
 run_of table.Waits (Waited wait.None) = Some (run 0 9)
 run_of table.Alignments (Aligned size many) = alignments size many
+run_of table.Depths (Among kind depth.One) = Some (run 0 6)
 run_of _ _ = None
 
 abbrev pub head_of : Situation → List ℕ
 head_of (Sent kind) = kind_head kind
 head_of (Aligned size many) = access_head size
+head_of (Among kind depth) = pending_head kind
 head_of _ = codes "waited"
 
 -- the count in a column of a row whose first bin is at this place

@@ -10,12 +10,13 @@ use Rattle.tl_cover.specs.declared.message.Param.{Param}
 use Rattle.tl_cover.specs.declared.message.Param.TheVariants as param
 use Rattle.tl_cover.specs.declared.situation.Bytes.{Bytes}
 use Rattle.tl_cover.specs.declared.situation.Bytes.TheVariants as bytes
+use Rattle.tl_cover.specs.declared.situation.Pending.{Pending}
 use Rattle.tl_cover.specs.declared.situation.Situation.{Situation}
-use Rattle.tl_cover.specs.declared.situation.Situation.TheVariants.{Aligned, Answered, Granted, Sent, Waited}
+use Rattle.tl_cover.specs.declared.situation.Situation.TheVariants.{Aligned, Among, Answered, Granted, Sent, Waited}
 use Rattle.tl_cover.specs.statement.Bins.{all_bytes, all_grows, all_waits, arithmetics, caps, intents, logicals}
-use Rattle.tl_cover.specs.statement.Bins.{reports, reports_of_trunk}
+use Rattle.tl_cover.specs.statement.Bins.{all_depths, all_pending, reports, reports_of_trunk}
 use Rattle.tl_cover.specs.statement.Messages.{fields, letter, opcode_name}
-use Rattle.tl_cover.specs.statement.Names.{bytes_name, param_of, wait_name, with_detail}
+use Rattle.tl_cover.specs.statement.Names.{bytes_name, depth_name, param_of, pending_name, wait_name, with_detail}
 use Rattle.tl_params.specs.declared.param.Cap.TheVariants as cap
 use Rattle.tl_params.specs.declared.param.Grow.TheVariants as grow
 use Rattle.tl_params.specs.declared.param.Report.{Report}
@@ -134,6 +135,21 @@ alignments = record {
   rows = map alignment_row all_bytes;
 }
 
+-- ---- how many messages of a kind are pending when one of it begins, with that one
+
+abbrev pub pending_head : Pending → List ℕ
+pending_head kind = codes "pending-" ++ pending_name kind
+
+abbrev pub depth_row : Pending → LayoutRow
+depth_row kind = record { head = pending_head kind; cells = map (λ depth. only (Among kind depth)) all_depths }
+
+abbrev pub depths : Layout
+depths = record {
+  title = codes "pending";
+  columns = map depth_name all_depths;
+  rows = map depth_row all_pending;
+}
+
 -- all tables, in their order
 abbrev pub all_tables : List Layout
-all_tables = messages ∷ permissions ∷ waits ∷ alignments ∷ []
+all_tables = messages ∷ permissions ∷ waits ∷ alignments ∷ depths ∷ []

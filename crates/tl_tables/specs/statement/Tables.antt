@@ -1,5 +1,6 @@
 -- The tables of links as text. A row whose bins a link can't have is left out, and so is a table without rows.
-use Rattle.std.specs.Prelude.{ℕ, Bool, false, ◌||◌, ◌++◌, ◌-◌, ◌+◌, ◌*◌, ◌/◌, max, List, [], ◌∷◌, length, map, replicate}
+use Rattle.std.specs.Prelude.{ℕ, Bool, false, ◌||◌, ◌++◌, ◌-◌, ◌+◌, ◌*◌, ◌/◌, max, List}
+use Rattle.std.specs.Prelude.{[], ◌∷◌, length, map, replicate}
 use Rattle.std.specs.Prelude.{codes, if◌then◌else◌, Option, Some, None, is_some, slice_range}
 use Rattle.std.specs.Fmt.{decimal}
 use Rattle.std.specs.List.{flat_map}

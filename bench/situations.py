@@ -1,8 +1,8 @@
 #!/usr/bin/env python3
 """situations.py TOOL [SEEDS]: counts the situations of the random traces of SEEDS seeds (250 if none is said) in each of four
 worlds, and of the examples' traces in the folder situations/, by reading the lines, and compares the counts and the first lines
-with those of `tltool cover --json`, of each trace and of all together; the tables of the links likewise. Says what came of the events of the schedules, and what
-part of them came to nothing. Ends with the sums of outcomes, messages and situations, and `situations: N traces, M differ`."""
+with those of `tltool cover --json`, of each trace and of all together; the tables of the links likewise, and their text with that
+of `tltool cover --tables`. Says what came of the events of the schedules, and what part of them came to nothing. Ends with the sums of outcomes, messages and situations, and `situations: N traces, M differ`."""
 import collections
 import json
 import pathlib
@@ -44,6 +44,9 @@ PARAMS = {
 }
 PLAIN = ["PutFullData", "PutPartialData", "Get", "AccessAck", "AccessAckData"]
 WAITS = ["0", "1", "2-3", "4-7", "8-15", "16-31", "32-63", "64-127"]
+# How many are pending, with the one that begins; and the requests whose sources are counted, by their opcodes.
+DEPTHS = ["1", "2", "3-4", "5-8", "9-16"]
+REQUESTS = {"acquire": (6, 7), "get": (4,), "put": (0, 1), "atomic": (2, 3)}
 
 
 class Beat:
@@ -98,6 +101,7 @@ class Link:
         self.acquiring, self.releasing, self.probed = set(), set(), set()
         self.granted = {}  # the sink that a block waits for
         self.sinks = set()
+        self.sources = {kind: set() for kind in [*REQUESTS, "release"]}  # those of what is pending, by kind
         self.newest = None
 
     def begins(self, beat):
@@ -117,6 +121,8 @@ class Link:
     def open(self, beat):
         if beat.channel == "A":
             self.requests[beat.source] = beat
+            for kind, opcodes in REQUESTS.items():
+                (self.sources[kind].add if beat.opcode in opcodes else self.sources[kind].discard)(beat.source)
         if beat.acquire:
             self.acquiring.add(beat.block)
             if beat.param < 2:
@@ -125,6 +131,7 @@ class Link:
             self.probed.add(beat.block)
         if beat.release:
             self.releases[beat.source] = beat.block
+            self.sources["release"].add(beat.source)
             self.releasing.add(beat.block)
         if beat.grant:
             self.granted[self.requests[beat.source].block] = beat.sink
@@ -142,6 +149,10 @@ class Link:
             self.acquiring.discard(block)
         if beat.release_ack:
             self.releasing.discard(self.releases[beat.source])
+            self.sources["release"].discard(beat.source)
+        elif beat.channel == "D":
+            for kind in REQUESTS:
+                self.sources[kind].discard(beat.source)
         if beat.channel == "E":
             self.sinks.discard(beat.sink)
             self.granted = {block: sink for block, sink in self.granted.items() if sink != beat.sink}
@@ -267,6 +278,14 @@ def kind_of(beat):
     return "-".join([beat.channel, beat.name, *([params[beat.param]] if params else []), str(2**beat.size)])
 
 
+def pending(beat, link):
+    """The kind of a message of which several can be pending, and how many are before it."""
+    if beat.channel == "A":
+        return next(((kind, len(link.sources[kind])) for kind, opcodes in REQUESTS.items() if beat.opcode in opcodes), None)
+    found = {"probe": len(link.probed), "release": len(link.sources["release"]), "grant": len(link.sinks)}
+    return next(((kind, before) for kind, before in found.items() if getattr(beat, kind)), None)
+
+
 def bins(beat, link, number):
     """The bins of the table of its link in which a message begins with a beat, in this line."""
     yield kind_of(beat)
@@ -280,6 +299,9 @@ def bins(beat, link, number):
         yield f"waited-{WAITS[between.bit_length()] if between < 128 else '128-up'}"
     if beat.access:
         yield f"access-{2**beat.size}-at-{min(64, beat.address & -beat.address or 64)}"
+    if found := pending(beat, link):
+        kind, before = found
+        yield f"pending-{kind}-{DEPTHS[before.bit_length()] if before < 16 else '17-up'}"
 
 
 def can_come(name, level, width, liberties):
@@ -287,6 +309,8 @@ def can_come(name, level, width, liberties):
     word, *rest = name.split("-")
     if word == "access":
         return level != "UL" or int(rest[0]) <= width
+    if word == "pending":
+        return rest[0] in ("get", "put") or level == "C" or rest[0] == "atomic" and level == "UH"
     if word not in list("ABCDE"):
         return level == "C"
     opcode, param, size = rest[0], rest[1:-1], rest[-1]
@@ -337,6 +361,49 @@ def covered(trace):
     return found, tables
 
 
+def layout():
+    """The tables of a link: title, heads of the columns, and the rows, each with its head and the names of the bins in its cells."""
+    sizes, held = [str(2**n) for n in range(7)], "NBT"
+    heads = [
+        "-".join(filter(None, [channel, opcode, param]))
+        for channel in "ABCD"
+        for opcode in filter(None, OPCODES[channel])
+        for param in PARAMS.get(opcode, [None])
+    ]
+    rows = [(head, [[f"{head}-{size}"] for size in sizes]) for head in heads]
+    yield "messages", sizes, [*rows, ("E-GrantAck", [[]] * 6 + [["E-GrantAck"]])]
+    grants = [(f"grant-{cap}", [[f"grant-{it}{cap}"] for it in held]) for cap in CAPS]
+    reports = [(f"report-{cap}", [[f"report-{it}to{left}-{cap}" for left in held] for it in held]) for cap in CAPS]
+    opcodes = ["Release", "ReleaseData"]
+    releases = [(f"release-{cap}", [[f"C-{opcode}-{it}{cap}-64" for opcode in opcodes] for it in held]) for cap in CAPS]
+    yield "permissions", ["None", "Branch", "Trunk"], [*grants, *reports, *releases]
+    waits = [*WAITS, "128-up"]
+    yield "waits", waits, [("waited", [[f"waited-{it}"] for it in waits])]
+    yield "alignments", sizes, [(f"access-{size}-at", [[f"access-{size}-at-{it}"] for it in sizes]) for size in sizes]
+    depths, kinds = [*DEPTHS, "17-up"], [*REQUESTS, "release", "probe", "grant"]
+    yield "pending", depths, [(f"pending-{kind}", [[f"pending-{kind}-{it}"] for it in depths]) for kind in kinds]
+
+
+def tables_text(links, counted):
+    """The text of the tables of so many links. `counted` gives the counts of a link by the names of bins; what a link can't have
+    is in none."""
+    counts = [counted(link) for link in range(links)]
+    width = 2 + max([6, *(len(str(count)) for here in counts for count in here.values())])
+    text = ""
+    for link, here in enumerate(counts):
+        for title, columns, rows in layout():
+            lines = []
+            for head, cells in rows:
+                sums = [[here[name] for name in names if name in here] for names in cells]
+                if any(sums):
+                    said = [str(sum(it)) if it else "-" for it in sums]
+                    lines.append(head.ljust(24) + "".join(it.rjust(width) for it in said))
+            if lines:
+                front = f"{title} on link {link}".ljust(24) + "".join(it.rjust(width) for it in columns)
+                text += "\n".join(["", front, *lines, ""])
+    return text
+
+
 def outcome_of(line):
     """The kind of an outcome's line."""
     if re.match(r"[0-9a-f]{2} [A-E] ", line):
@@ -376,7 +443,7 @@ class Comparison:
         self.tool = tool
         self.traces = self.differ = 0
         self.sums, self.first = collections.Counter(), {}
-        self.bins, self.can = collections.Counter(), set()
+        self.bins, self.can, self.links = collections.Counter(), set(), 0
         self.folder = tempfile.TemporaryDirectory()
         self.files = []
 
@@ -399,6 +466,17 @@ class Comparison:
                 self.differ += 1
                 print(f"{what}: {name}: told {told.get(name)}, counted {counted}")
 
+    def compare_text(self, what, links, tables, can, *words, text=None):
+        """The text of the tables, behind that of the situations."""
+        names = {name for _, name in can} | {name for _, name in tables}
+        counted = lambda link: {
+            name: tables[link, name] for name in names if (link, name) in can or (link, name) in tables
+        }
+        told = said(self.tool, "cover", "--tables", *words, text=text)
+        if told != said(self.tool, "cover", *words, text=text) + tables_text(links, counted):
+            self.differ += 1
+            print(f"{what}: the text of its tables differs")
+
     def add(self, what, trace):
         here, tables = covered(trace)
         situations, told = self.told(text=trace)
@@ -406,6 +484,8 @@ class Comparison:
         levels, liberties, width = header_of(trace)
         can = {(link, name) for link, level in enumerate(levels) for name in told if can_come(name, level, width, liberties)}
         self.compare_bins(what, told, tables, lambda *cell: cell in can)
+        self.compare_text(what, len(levels), tables, can, text=trace)
+        self.links = max(self.links, len(levels))
         self.bins.update(tables)
         self.can |= can
         for name, (count, line) in here.items():
@@ -419,6 +499,7 @@ class Comparison:
         """The same of all traces in one call; gives the names of all situations."""
         rows, bins = self.told(*map(str, self.files))
         self.compare_bins("all", bins, self.bins, lambda *cell: cell in self.can)
+        self.compare_text("all", self.links, self.bins, self.can, *map(str, self.files))
         here = {name: (self.sums[name], *place) for name, place in self.first.items()}
         told = {row["name"]: (row["count"], row["trace"], row["line"]) for row in rows}
         self.compare("all", told, {name: here.get(name, (0, None, None)) for name in told} | here)

@@ -1,7 +1,9 @@
 #!/usr/bin/env python3
 """situations.py TOOL DATA: of each trace in the folder situations/ of DATA, whose name is a situation's, its last message begins
 in that situation, and no message before it does: so TOOL's `cover` has to say, of the trace and of the trace without its last
-line. There is a trace for each situation that it tells. Ends with 'situations: N passed, M failed'."""
+line. There is a trace for each situation that it tells. The counts of each trace and of all together, and the text of their tables,
+have to be those of bench/situations.py. Ends with 'situations: N passed, M failed'."""
+import importlib.util
 import json
 import pathlib
 import subprocess
@@ -27,6 +29,24 @@ def is_right(tool, name, lines):
     )
 
 
+def counting():
+    """The program in bench/situations.py, which counts by reading the lines."""
+    path = pathlib.Path(__file__).resolve().parent.parent / "bench/situations.py"
+    spec = importlib.util.spec_from_file_location("counting", path)
+    program = importlib.util.module_from_spec(spec)
+    spec.loader.exec_module(program)
+    return program
+
+
+def differing(tool, traces):
+    """How many of its counts and tables `cover` has otherwise than that program."""
+    comparison = counting().Comparison(tool)
+    for name, lines in traces.items():
+        comparison.add(name, "".join(lines))
+    comparison.all_together()
+    return comparison.differ
+
+
 def main():
     tool, folder = pathlib.Path(sys.argv[1]).resolve(), pathlib.Path(sys.argv[2], "situations")
     traces = {path.stem: path.read_text().splitlines(keepends=True) for path in sorted(folder.glob("*.trace"))}
@@ -35,8 +55,9 @@ def main():
     wrong += [f"{name} has no trace" for name in told - traces.keys()]
     for name in wrong:
         print(name)
-    print(f"situations: {len(traces.keys() | told) - len(wrong)} passed, {len(wrong)} failed")
-    sys.exit(bool(wrong))
+    failed = len(wrong) + differing(tool, traces)
+    print(f"situations: {len(traces.keys() | told) - len(wrong)} passed, {failed} failed")
+    sys.exit(bool(failed))
 
 
 if __name__ == "__main__":

@@ -40,6 +40,16 @@ WIDE_WORDS = f"""00 A AcquireBlock NtoT size=6 source=0100 address=0000000180000
 01 D GrantData toB size=6 source=0002 sink=0011 denied=0 data={64 * '0'} corrupt=0
 01 E GrantAck sink=0011
 """
+PERMISSIONS = """permissions on link 0       None  Branch   Trunk
+grant-toT                      1       0       -
+grant-toB                      0       -       -
+report-toT                     0       0       0
+report-toB                     0       0       1
+report-toN                     0       0       0
+release-toB                    -       -       0
+release-toN                    -       0       0
+
+"""
 WIDE = "tltool: the header is of wide beats, which only monitor, coherent and cover read\n"
 NUMBER = "a number from 0 to 18446744073709551615"
 LIST = "1 to 16 clients with commas between them, each UL, UH or C with its number of sources from 1 to 8, as C:2,C:2,UH:1"
@@ -248,6 +258,10 @@ ROWS = [
     ("tltool cover --help", 0, "..", ""),
     ("tltool cover --json a --json", 2, "", "error: .."),
     ("tltool cover --json=x", 2, "", "error: .."),
+    ("tltool cover --tables --tables two_caches.trace", 2, "", "error: .."),
+    ("tltool cover --tables=x two_caches.trace", 2, "", "error: .."),
+    ("tltool cover --tables --json two_caches.trace", 2, "", "error: the argument '--tables' cannot be used with '--json', which has the tables too\n.."),
+    ("tltool cover --json two_caches.trace --tables", 2, "", "error: the argument '--tables' cannot be used with '--json', which has the tables too\n.."),
     ("tltool cover --all 2 two_caches.trace", 2, "", "error: unexpected argument '--all' found.."),
     # words of a random schedule
     ("tltool random", 2, "", "error: the following required arguments were not provided:\n  --seed <N>.."),
@@ -381,6 +395,20 @@ ROWS = [
     ("tltool cover </dev/null", 1, "line 1 F7\n0 of 79 situations seen\n", ""),
     ("tltool cover --json </dev/null", 1, "{\"verdict\": \"line 1 F7\", \"seen\": 0, \"of\": 79, \"situations\": [], \"bins\": [{\"name\": \"A-PutFullData-1\", \"counts\": []},\n..", ""),
     ("tltool cover --json two_caches.trace wrong_report.trace | grep AcquireBlock-NtoB", 0, "  {\"name\": \"A-AcquireBlock-NtoB-64\", \"counts\": [1, 1]},\n", ""),
+    ("tltool cover --tables two_caches.trace | head -81 | cmp - <(tltool cover two_caches.trace)", 0, "", ""),
+    ("tltool cover --tables two_caches.trace | grep -A 8 'permissions on link 0'", 0, PERMISSIONS, ""),
+    ("tltool cover --tables two_caches.trace two_caches.trace | grep -c 'report-toB  *0  *0  *2$'", 0, "1\n", ""),
+    ("tltool cover --tables two_caches.trace wrong_report.trace | grep A-AcquireBlock-NtoB | tr -s ' '", 0, "A-AcquireBlock-NtoB - - - - - - 1\nA-AcquireBlock-NtoB - - - - - - 1\n", ""),
+    ("tltool cover --tables wrong_report.trace", 1, "line 13 H12\n..", ""),
+    ("tltool cover --tables wrong_report.trace | grep -c ' on link '", 0, "5\n", ""),
+    ("tltool cover --tables two_caches.trace | grep -c '^pending-[a-z]*  *[01]  *0  *0  *0  *0  *0$'", 0, "14\n", ""),
+    ("printf 'tltrace 1 UH\\n' | tltool cover --tables | grep ^pending | tr -s ' '", 0, "pending on link 0 1 2 3-4 5-8 9-16 17-up\npending-get 0 0 0 0 0 0\npending-put 0 0 0 0 0 0\npending-atomic 0 0 0 0 0 0\n", ""),
+    ("tltool cover --tables </dev/null", 1, "line 1 F7\n0 of 79 situations seen\n", ""),
+    ("printf 'tltrace 2 8 UL\\n' | tltool cover --tables | grep -c -e ' on link ' -e '^A-'", 0, "6\n", ""),
+    ("printf 'tltrace 2 8 UL\\n' | tltool cover --tables | grep ^access-8-at", 0, "access-8-at                    -       -       -       0       0       0       0\n", ""),
+    ("tltool cover --tables wide/two_caches.trace | grep -A 4 'permissions on link 0' | tail -2 | tr -s ' '", 0, "report-toT 0 0 0\nreport-toB 0 0 1\n", ""),
+    ("tltool cover --tables two_caches.trace >/dev/full", 3, "", "tltool: write failed\n"),
+    ("tltool cover --tables nope.trace", 3, "", "tltool: cannot open nope.trace\n"),
     ("tltool cover nope.trace", 3, "", "tltool: cannot open nope.trace\n"),
     # the situations of several traces
     ("tltool cover two_caches.trace wrong_report.trace | head -2", 0, "two_caches.trace: clean 29\nwrong_report.trace: line 13 H12\n", ""),

@@ -202,7 +202,7 @@ typedef struct tl_bin_tally {
 } tl_bin_tally;
 
 /* Bins have numbers from 0 on, in the order in which `tltool cover --json` writes them. */
-enum { TL_BINS = 161 };
+enum { TL_BINS = 203 };
 
 /* Makes a cover of 1 to 16 links of these levels (enum tl_level), of beats of 4, 8 or 16 bytes, that have these
    liberties (the sum of enum tl_liberty), behind a handle that holds nothing. */

@@ -75,10 +75,14 @@ static void the_bins_of_two_links(void) {
   want(is_bin(bin_of(&cover, 0, "B-ProbeBlock-toB-64"), 1, 5, 1), "a Probe in line 5");
   want(is_bin(bin_of(&cover, 0, "report-TtoB-toB"), 1, 6, 1), "its answer in line 6");
   want(is_bin(bin_of(&cover, 0, "waited-0"), 1, 6, 1), "right after it");
+  want(is_bin(bin_of(&cover, 0, "pending-acquire-1"), 1, 2, 1), "no other Acquire was pending");
+  want(is_bin(bin_of(&cover, 0, "pending-grant-2"), 0, 0, 1), "nor another Grant");
   want(is_bin(bin_of(&cover, 0, "A-Get-4"), 0, 0, 1), "no Get on link 0");
   want(is_bin(bin_of(&cover, 0, "C-Release-TtoT-64"), 0, 0, 0), "without liberties no Release keeps what is held");
   want(is_bin(bin_of(&cover, 1, "A-Get-4"), 1, 7, 1), "a Get in line 7");
   want(is_bin(bin_of(&cover, 1, "access-4-at-8"), 1, 7, 1), "at a multiple of 8");
+  want(is_bin(bin_of(&cover, 1, "pending-get-1"), 1, 7, 1), "while none is pending");
+  want(is_bin(bin_of(&cover, 1, "pending-probe-1"), 0, 0, 0), "a link of level UL has no Probes");
   want(is_bin(bin_of(&cover, 1, "A-Get-8"), 0, 0, 1), "a Get of a beat may come");
   want(is_bin(bin_of(&cover, 1, "A-Get-16"), 0, 0, 0), "a link of level UL has no Get of two beats");
   want(is_bin(bin_of(&cover, 1, "access-16-at-16"), 0, 0, 0), "nor another access of two");

@@ -4,6 +4,7 @@
 pub mod chart;
 mod clients;
 pub mod command;
+pub mod cover;
 pub mod liberties;
 mod number;
 pub mod random;

@@ -2,6 +2,7 @@
 
 use crate::chart::Range;
 use crate::command::Command;
+use crate::cover::CoverForm;
 use crate::random::Options;
 use crate::search::{Aim, Inquiry};
 use tl_params::liberties::Liberties;
@@ -42,10 +43,10 @@ pub enum Task {
         allow: Liberties,
         file: Option<String>,
     },
-    /// The situations in the traces of the files of these names, or without a name in the trace on standard input, as
-    /// text or as JSON.
+    /// The situations in the traces of the files of these names, or without a name in the trace on standard input, in
+    /// this form.
     Cover {
-        json: bool,
+        form: CoverForm,
         files: Vec<String>,
     },
     /// A random schedule.

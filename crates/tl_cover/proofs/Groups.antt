@@ -15,6 +15,7 @@ use Rattle.tl_cover.specs.declared.group.Group.{Group}
 use Rattle.tl_cover.specs.declared.message.MessageKind.TheVariants as kind
 use Rattle.tl_cover.specs.declared.row.Row.{Row}
 use Rattle.tl_cover.specs.declared.scene.Scene.{Scene}
+use Rattle.tl_cover.specs.declared.situation.Pending.TheVariants as pending
 use Rattle.tl_cover.specs.declared.situation.Situation.{Situation}
 use Rattle.tl_cover.specs.declared.situation.Situation.TheVariants as situation
 use Rattle.tl_cover.specs.declared.stretch.Stretch.{Stretch}
@@ -204,6 +205,13 @@ module _ {w : ℕ} (s : Scene) where
   comes_with (situation.Sent kind.E) (beat.C x) e = refl
   comes_with (situation.Sent kind.E) (beat.D x) e = refl
   comes_with (situation.Sent kind.E) (beat.E x) e = absurd cc
+  comes_with (situation.Among pending.Acquire depth) x e = rw e refl
+  comes_with (situation.Among pending.Get depth) x e = rw e refl
+  comes_with (situation.Among pending.Put depth) x e = rw e refl
+  comes_with (situation.Among pending.Atomic depth) x e = rw e refl
+  comes_with (situation.Among pending.Release depth) x e = rw e refl
+  comes_with (situation.Among pending.Probe depth) x e = rw e refl
+  comes_with (situation.Among pending.Grant depth) x e = rw e refl
   comes_with (situation.Aligned bytes many) x e = first_two (is_access_beat x) (asks_for bytes x) (is_aligned many x) e
     where
       first_two : (p q r : Bool) → (p && q) ≡ false → (p && (q && r)) ≡ false

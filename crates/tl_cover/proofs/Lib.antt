@@ -1,11 +1,13 @@
-pub mod Lists
-pub mod Pasts
-pub mod Groups
-pub mod Changed
-pub mod Rows
-pub mod Counted
-pub mod Awaited
-pub mod Scenes
-pub mod Links
 pub mod Answered
+pub mod Apart
+pub mod Awaited
+pub mod Changed
+pub mod Counted
+pub mod Groups
+pub mod Links
+pub mod Lists
+pub mod OpenSources
+pub mod Pasts
+pub mod Rows
+pub mod Scenes
 mod Worked

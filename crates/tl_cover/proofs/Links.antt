@@ -11,7 +11,7 @@ use Rattle.tl_burst.specs.statement.Messages.{History}
 use Rattle.tl_cover.proofs.Rows.{none_counted, table_counted, table_kept}
 use Rattle.tl_cover.proofs.Scenes.{opening_begins}
 use Rattle.tl_cover.specs.code.Covering.{AreUnused, IsUnused, KnowPasts, KnowsLink, Taken, opening_of, unseen}
-use Rattle.tl_cover.specs.code.Past.{KnowsPast, asked_in, asked_next, found}
+use Rattle.tl_cover.specs.code.Past.{AreApart, KnowsPast, asked_in, asked_next, found}
 use Rattle.tl_cover.specs.declared.past.LinkPast.{LinkPast}
 use Rattle.tl_cover.specs.declared.scene.Scene.{Scene}
 use Rattle.tl_cover.specs.statement.Bins.{all_bins}
@@ -56,6 +56,7 @@ unfolding probe_at on_link
 link_none p past none rows = λ w l n i. record {
   past = past w;
   probes_are = λ k. ap (found k) none;
+  apart = subst AreApart (sym none) tt;
   rows_are = rows ∙ none_counted w l n i;
 }
 
@@ -80,6 +81,7 @@ module _ {w : ℕ} (l : Liberties) (n : ℕ) (old new : LinkPast) (x : Link × B
     past = subst (λ (h : History w). KnowsPast new h) (sym (own_link x.0.0 x t refl))
         (taken.past (on_link x.0.0 t) had.past first_is complete);
     probes_are = λ k. probe_taken k (had.probes_are k) (taken.probes k (on_link x.0.0 t));
+    apart = taken.apart had.apart;
     rows_are = table_counted l n x t line opening old.rows.items new.rows.items at_line from had.rows_are taken.rows;
   }
 
@@ -90,6 +92,7 @@ unfolding probe_at
 link_kept {w = w} l n i p x t other had = let no : (x.0.0 == i) ≡ false = ne_eqb x.0.0 i other in record {
   past = subst (λ (h : History w). KnowsPast p h) (sym (other_link i x t other)) had.past;
   probes_are = λ k. rw no (had.probes_are k);
+  apart = had.apart;
   rows_are = had.rows_are ∙ table_kept l n i x t no;
 }
 

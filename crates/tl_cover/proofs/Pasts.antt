@@ -5,6 +5,8 @@ use Rattle.tl_beat.specs.declared.beat.Beat.{Beat}
 use Rattle.tl_beat.specs.declared.beat.Beat.TheVariants as beat
 use Rattle.tl_beat.specs.statement.Control.{control_of}
 use Rattle.tl_burst.specs.statement.Messages.{History}
+use Rattle.tl_cover.proofs.OpenSources.{open_taken}
+use Rattle.tl_cover.specs.code.Open.{KnowsOpen, OpenTaken}
 use Rattle.tl_cover.specs.code.Past.{KnowsPast, awaited_next, awaits}
 use Rattle.tl_cover.specs.code.Past.{block_released, has, is_of, released_next, request_next}
 use Rattle.tl_cover.specs.code.Past.{KnowsUnderWay, no_messages, turned, under_way_next}
@@ -23,15 +25,17 @@ use Rattle.tl_rules.specs.statement.History.{block_at, grants, request_of}
 -- nothing is kept of a link that has carried nothing
 pub past_none : (w : ℕ) (p : LinkPast) → ((s : ℕ) → at p.requests s ≡ None) → ((s : ℕ) → at p.released s ≡ None)
     → p.acquires.items ≡ [] → p.releases.items ≡ [] → p.awaited.items ≡ []
-    → ((s : ℕ) → at p.sinks s ≡ None) → p.newest ≡ None → p.under_way ≡ no_messages → KnowsPast {w = w} p []
+    → ((s : ℕ) → at p.sinks s ≡ None) → KnowsOpen {w = w} p.open [] → p.newest ≡ None → p.under_way ≡ no_messages
+    → KnowsPast {w = w} p []
 unfolding request_of release_of pending grant_sink under_way
-past_none w p requests released acquires releases awaited sinks newest messages = record {
+past_none w p requests released acquires releases awaited sinks sources newest messages = record {
   requests_are = requests;
   released_are = released;
   acquires_are = λ k. ap (has k) acquires;
   releases_are = λ k. ap (has k) releases;
   awaited_are = λ k s. ap (awaits k s) awaited;
   sinks_are = λ s. ap is_some (sinks s);
+  open_is = sources;
   newest_is = newest;
   under_way_is = record {
     a_is = ap (λ (u : UnderWay). u.a) messages;
@@ -165,9 +169,10 @@ pub past_taken : {w : ℕ} (p q : LinkPast) (x : Beat w) (h : History w) (first 
     → ((k : ℕ) → is_of k block ≡ closes (AcquireOf k) x h)
     → ((k s : ℕ) → awaits k s q.awaited.items ≡ awaited_next first last x block k s (awaits k s p.awaited.items))
     → ((s : ℕ) → is_some (at q.sinks s) ≡ sink_next first last x s (is_some (at p.sinks s)))
+    → OpenTaken p.open q.open first last x
     → q.newest ≡ Some (control_of x) → q.under_way ≡ under_way_next last x p.under_way → KnowsPast q (x ∷ h)
-past_taken p q x h first last block begun complete had requests released acquires releases of awaited sinks newest
-    messages =
+past_taken p q x h first last block begun complete had requests released acquires releases of awaited sinks sources
+    newest messages =
     record {
       requests_are = λ s. requests s ∙ rw (begun, had.requests_are s) (request-next x h s);
       released_are = λ s. released s ∙ rw (begun, had.released_are s) (released-next x h s);
@@ -176,6 +181,7 @@ past_taken p q x h first last block begun complete had requests released acquire
       awaited_are = λ k s. awaited k s ∙ rw (begun, complete, had.awaited_are k s) (awaited-next x h block of k s);
       sinks_are = sinks_taken x h first last begun complete (λ s. is_some (at p.sinks s)) (λ s. is_some (at q.sinks s))
           sinks had.sinks_are;
+      open_is = open_taken p.open q.open x h first last begun complete had.open_is sources;
       newest_is = newest;
       under_way_is = subst (λ (u : UnderWay). KnowsUnderWay u (x ∷ h)) (sym messages)
           (under_way-next x h last p.under_way complete had.under_way_is);

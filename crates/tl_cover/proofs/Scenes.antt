@@ -5,7 +5,8 @@ use Rattle.tl_beat.specs.declared.beat.Beat.{Beat}
 use Rattle.tl_cover.specs.code.Covering.{opening_of}
 use Rattle.tl_cover.specs.declared.scene.Scene.{Scene}
 use Rattle.tl_cover.specs.declared.scene.Standing.{Standing}
-use Rattle.tl_cover.specs.statement.Scene.{acquiring, answered, asked_of, block_named, granting, holders, is_between, newest}
+use Rattle.tl_cover.specs.statement.Scene.{acquiring, answered, asked_of, block_named, depth}
+use Rattle.tl_cover.specs.statement.Scene.{granting, holders, is_between, newest}
 use Rattle.tl_cover.specs.statement.Scene.{request_named, scene, standing_of}
 use Rattle.tl_monitor.specs.statement.Count.{count_below}
 use Rattle.tl_params.specs.declared.key.Key.TheVariants.{AcquireOf, ReleaseOf, GrantSink, GrantAckOf, ProbeOf}
@@ -31,11 +32,12 @@ module _ {w : ℕ} (l : Liberties) (n i : ℕ) (t : Trace w) where
       → s.line ≡ length t + 1 → s.asked ≡ asked_of i (block_named x (on_link i t)) t
       → s.block ≡ standing_of l n i (block_named x (on_link i t)) t
       → s.waiting ≡ count_below 256 (λ sink. pending (GrantSink sink) (on_link i t))
+      → s.depth ≡ depth x (on_link i t)
       → s.request ≡ request_named x (on_link i t) → s.previous ≡ newest (on_link i t)
       → s.answered ≡ answered x (on_link i t) → s.between ≡ is_between (on_link i t) → s.granting ≡ granting n i t
       → Some s ≡ opening_of l n i x t
-  opening_some x s e line asked block waiting request previous answers between grants =
-      rw (e, ← line, ← asked, ← block, ← waiting, ← request, ← previous, ← answers, ← between, ← grants) refl
+  opening_some x s e line asked block waiting many request previous answers between grants =
+      rw (e, ← line, ← asked, ← block, ← waiting, ← many, ← request, ← previous, ← answers, ← between, ← grants) refl
 
   -- what is known of it says whether it begins
   pub opening_begins : (x : Beat w) → is_some (opening_of l n i x t) ≡ begins x (on_link i t)

@@ -13,7 +13,9 @@ use Rattle.tl_cover.specs.declared.message.MessageKind.TheVariants as kind
 use Rattle.tl_cover.specs.declared.message.Param.TheVariants as param
 use Rattle.tl_cover.specs.declared.situation.Bytes.TheVariants as bytes
 use Rattle.tl_cover.specs.declared.situation.Situation.{Situation}
-use Rattle.tl_cover.specs.declared.situation.Situation.TheVariants.{Aligned, Answered, Granted, Sent, Waited}
+use Rattle.tl_cover.specs.declared.situation.Depth.TheVariants as depth
+use Rattle.tl_cover.specs.declared.situation.Pending.TheVariants as pending
+use Rattle.tl_cover.specs.declared.situation.Situation.TheVariants.{Aligned, Among, Answered, Granted, Sent, Waited}
 use Rattle.tl_cover.specs.declared.situation.Wait.TheVariants as wait
 use Rattle.tl_cover.specs.statement.Bins.{all_bins}
 use Rattle.tl_cover.specs.statement.Covered.{lines, occurs_on}
@@ -165,8 +167,25 @@ at_eight : came 1 (Aligned bytes.Four bytes.Eight) ≡ 6 ∷ []
 unfolding lines unfinished on_link request_of release_of grant_sink pending held_under under_way probe_at sum_below
 at_eight = refl
 
--- there are 161 bins
-bins : length all_bins ≡ 161
+-- no Get is pending when the first begins, and the first when the second does
+gets : came 1 (Among pending.Get depth.One) ≡ 6 ∷ []
+unfolding lines unfinished on_link request_of release_of grant_sink pending held_under under_way probe_at sum_below
+gets = refl
+
+second_get : came 1 (Among pending.Get depth.Two) ≡ 7 ∷ []
+unfolding lines unfinished on_link request_of release_of grant_sink pending held_under under_way probe_at sum_below
+second_get = refl
+
+first_grant : came 0 (Among pending.Grant depth.One) ≡ 3 ∷ []
+unfolding lines unfinished on_link request_of release_of grant_sink pending held_under under_way probe_at sum_below
+first_grant = refl
+
+no_put : came 1 (Among pending.Put depth.One) ≡ []
+unfolding lines unfinished on_link request_of release_of grant_sink pending held_under under_way probe_at sum_below
+no_put = refl
+
+-- there are 203 bins
+bins : length all_bins ≡ 203
 bins = refl
 
 -- a link of level UL with beats of 8 bytes has Gets of 8 bytes and none of 16, and no Acquires

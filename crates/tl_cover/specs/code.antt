@@ -1,3 +1,4 @@
 pub mod Covering
 pub mod Groups
+pub mod Open
 pub mod Past

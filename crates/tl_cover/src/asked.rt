@@ -1,8 +1,8 @@
 //! The pending Probes of a link, by block.
 
-ghost use Rattle.std.specs.Prelude.{ℕ, OnOk, Some, None, ◌≡◌, ◌==◌, ◌&&◌, if◌then◌else◌};
+ghost use Rattle.std.specs.Prelude.{ℕ, OnOk, Some, None, ◌≡◌, ◌<◌, ◌^◌, ◌==◌, ◌&&◌, if◌then◌else◌};
 ghost use Rattle.tl_burst.specs.statement.Messages.{History};
-ghost use Rattle.tl_cover.specs.code.Past.{asked_next, found};
+ghost use Rattle.tl_cover.specs.code.Past.{AreApart, asked_next, found};
 ghost use Rattle.tl_params.specs.declared.key.Key.TheVariants.{ProbeOf};
 ghost use Rattle.tl_rules.specs.statement.History.{closes, opens};
 
@@ -30,15 +30,18 @@ pub fn found(all: &Vec<Asked>, block: u32) -> Option<ProbeAt>
 
 /// Removes the Probe of a block.
 fn answer(all: &mut Vec<Asked>, block: u32)
-    ensures { (k : ℕ) → found k all.new.items ≡ (if block == k then None else found k all.old.items) }
+    ensures found { (k : ℕ) → found k all.new.items ≡ (if block == k then None else found k all.old.items) }
+    ensures apart { AreApart all.old.items → AreApart all.new.items }
 {
     all.retain(|asked| asked.block != block);
 }
 
 /// Adds the Probe of a block, in place of any earlier one.
 fn ask(all: &mut Vec<Asked>, asked: Asked) -> Result<(), AllocError>
-    ensures { OnOk result ((k : ℕ) → found k all.new.items
+    requires { asked.block < 2 ^ 26 }
+    ensures found { OnOk result ((k : ℕ) → found k all.new.items
         ≡ (if asked.block == k then Some asked.probe else found k all.old.items)) }
+    ensures apart { OnOk result (AreApart all.old.items → AreApart all.new.items) }
 {
     answer(all, asked.block);
     all.push(asked)?;
@@ -53,9 +56,10 @@ pub fn note_probe<const W: usize>(
     last: bool,
     beat: &Beat<W>,
 ) -> Result<(), AllocError>
-    ensures { OnOk result ((k : ℕ) (h : History W) → found k all.new.items
+    ensures found { OnOk result ((k : ℕ) (h : History W) → found k all.new.items
         ≡ asked_next beat.now line (first && opens (ProbeOf k) beat.now h)
         (last && closes (ProbeOf k) beat.now h) (found k all.old.items)) }
+    ensures apart { OnOk result (AreApart all.old.items → AreApart all.new.items) }
 {
     match beat {
         Beat::B(x) if first && is_probe(x.opcode) => ask(

@@ -2,14 +2,14 @@
 
 use crate::message::MessageKind::{A, B, C, D, E};
 use crate::message::Param;
-use crate::situation::Situation::{self, Aligned, Answered, Granted, Sent, Waited};
-use crate::situation::{Bytes, Wait};
+use crate::situation::Situation::{self, Aligned, Among, Answered, Granted, Sent, Waited};
+use crate::situation::{Bytes, Depth, Pending, Wait};
 use tl_beat::opcode::{OpA, OpB, OpC, OpD};
 use tl_params::param::{Arithmetic, Cap, Grow, Intent, Logical, Report};
 
 /// The situations that are counted on each link: the kinds of messages, the growths by Grants, the reports by cap, the
-/// waits of Probes, and the alignments of accesses.
-pub const BINS: [Situation; 161] = [
+/// waits of Probes, the alignments of accesses, and how many messages of a kind are pending.
+pub const BINS: [Situation; 203] = [
     Sent(A(OpA::PutFullData, Param::Zero, Bytes::One)),
     Sent(A(OpA::PutFullData, Param::Zero, Bytes::Two)),
     Sent(A(OpA::PutFullData, Param::Zero, Bytes::Four)),
@@ -287,4 +287,46 @@ pub const BINS: [Situation; 161] = [
     Aligned(Bytes::ThirtyTwo, Bytes::ThirtyTwo),
     Aligned(Bytes::ThirtyTwo, Bytes::SixtyFour),
     Aligned(Bytes::SixtyFour, Bytes::SixtyFour),
+    Among(Pending::Acquire, Depth::One),
+    Among(Pending::Acquire, Depth::Two),
+    Among(Pending::Acquire, Depth::Four),
+    Among(Pending::Acquire, Depth::Eight),
+    Among(Pending::Acquire, Depth::Sixteen),
+    Among(Pending::Acquire, Depth::More),
+    Among(Pending::Get, Depth::One),
+    Among(Pending::Get, Depth::Two),
+    Among(Pending::Get, Depth::Four),
+    Among(Pending::Get, Depth::Eight),
+    Among(Pending::Get, Depth::Sixteen),
+    Among(Pending::Get, Depth::More),
+    Among(Pending::Put, Depth::One),
+    Among(Pending::Put, Depth::Two),
+    Among(Pending::Put, Depth::Four),
+    Among(Pending::Put, Depth::Eight),
+    Among(Pending::Put, Depth::Sixteen),
+    Among(Pending::Put, Depth::More),
+    Among(Pending::Atomic, Depth::One),
+    Among(Pending::Atomic, Depth::Two),
+    Among(Pending::Atomic, Depth::Four),
+    Among(Pending::Atomic, Depth::Eight),
+    Among(Pending::Atomic, Depth::Sixteen),
+    Among(Pending::Atomic, Depth::More),
+    Among(Pending::Release, Depth::One),
+    Among(Pending::Release, Depth::Two),
+    Among(Pending::Release, Depth::Four),
+    Among(Pending::Release, Depth::Eight),
+    Among(Pending::Release, Depth::Sixteen),
+    Among(Pending::Release, Depth::More),
+    Among(Pending::Probe, Depth::One),
+    Among(Pending::Probe, Depth::Two),
+    Among(Pending::Probe, Depth::Four),
+    Among(Pending::Probe, Depth::Eight),
+    Among(Pending::Probe, Depth::Sixteen),
+    Among(Pending::Probe, Depth::More),
+    Among(Pending::Grant, Depth::One),
+    Among(Pending::Grant, Depth::Two),
+    Among(Pending::Grant, Depth::Four),
+    Among(Pending::Grant, Depth::Eight),
+    Among(Pending::Grant, Depth::Sixteen),
+    Among(Pending::Grant, Depth::More),
 ];

@@ -252,6 +252,7 @@ impl<const W: usize> Covering<W> {
             asked: past.asked_of(block),
             block: self.standing(link, past, block),
             waiting: past.sinks.len(),
+            depth: past.depth(beat),
             request: past.request_named(beat),
             previous: past.newest,
             answered: past.answered(beat),

@@ -4,7 +4,7 @@ ghost use Rattle.std.specs.Prelude.{◌≡◌, ◌≤◌};
 ghost use Rattle.tl_beat.specs.statement.Width.{IsWidth};
 ghost use Rattle.tl_cover.specs.statement.Kinds;
 
-use crate::situation::{Bytes, Lanes, Wait};
+use crate::situation::{Bytes, Depth, Lanes, Pending, Wait};
 use tl_beat::beat::{Beat, BeatA};
 use tl_beat::opcode::{OpA, OpD};
 use tl_params::param::{Arithmetic, Cap, Grow, Logical, Report};
@@ -281,6 +281,35 @@ pub fn is_wait(wait: Wait, beats: u64) -> bool
         Wait::ThirtyTwo => beats >= 32 && beats < 64,
         Wait::SixtyFour => beats >= 64 && beats < 128,
         Wait::Longer => beats >= 128,
+    }
+}
+
+/// Whether a beat is of a message of this kind.
+pub fn is_pending_kind<const W: usize>(kind: Pending, beat: &Beat<W>) -> bool
+    ensures { result ≡ Kinds.is_pending_kind kind beat.now }
+{
+    match kind {
+        Pending::Acquire => is_acquire_beat(beat),
+        Pending::Get => is_get(beat),
+        Pending::Put => is_put(beat),
+        Pending::Atomic => is_atomic(beat),
+        Pending::Release => is_release_beat(beat),
+        Pending::Probe => is_probe_beat(beat),
+        Pending::Grant => is_grant_beat(beat),
+    }
+}
+
+/// Whether a number of messages that are pending before another one is in this range, with that one.
+pub fn is_depth(depth: Depth, before: usize) -> bool
+    ensures { result ≡ Kinds.is_depth depth before }
+{
+    match depth {
+        Depth::One => before == 0,
+        Depth::Two => before == 1,
+        Depth::Four => before >= 2 && before < 4,
+        Depth::Eight => before >= 4 && before < 8,
+        Depth::Sixteen => before >= 8 && before < 16,
+        Depth::More => before >= 16,
     }
 }
 

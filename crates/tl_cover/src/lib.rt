@@ -12,6 +12,7 @@ mod kind;
 mod meets;
 pub mod message;
 pub mod name;
+mod open;
 mod past;
 mod possible;
 pub mod row;

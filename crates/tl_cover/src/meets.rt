@@ -7,9 +7,9 @@ ghost use Rattle.tl_cover.specs.statement.Situations;
 use crate::kind::{
     asks_for, gives, has_arithmetic, has_cap, has_grow, has_lanes, has_logical, has_report,
     has_sink_without_grant, is_access_beat, is_acquire_beat, is_aligned, is_atomic,
-    is_denied_grant, is_denied_uncorrupt, is_get, is_grant_ack_beat, is_grant_beat, is_grant_with,
-    is_probe_ack_beat, is_probe_beat, is_probe_with_source, is_put, is_release_beat,
-    is_report_with_data, is_wait, releases_with, says_nothing_held,
+    is_denied_grant, is_denied_uncorrupt, is_depth, is_get, is_grant_ack_beat, is_grant_beat,
+    is_grant_with, is_pending_kind, is_probe_ack_beat, is_probe_beat, is_probe_with_source, is_put,
+    is_release_beat, is_report_with_data, is_wait, releases_with, says_nothing_held,
 };
 use crate::scene::{ProbeAt, Scene, is_same};
 use crate::situation::{Situation, Wait};
@@ -163,5 +163,8 @@ pub fn meets<const W: usize>(situation: Situation, beat: &Beat<W>, scene: &Scene
         Situation::Aligned(bytes, many) => is_access_beat(beat)
             && asks_for(bytes, beat)
             && is_aligned(many, beat),
+        Situation::Among(kind, depth) => {
+            is_pending_kind(kind, beat) && is_depth(depth, scene.depth)
+        }
     }
 }

@@ -3,7 +3,7 @@
 ghost use Rattle.std.specs.Prelude.{◌≡◌, ◌++◌, OnOk, option_map};
 ghost use Rattle.tl_cover.specs.statement.Names;
 
-use crate::situation::{Bytes, Lanes, Situation, Wait};
+use crate::situation::{Bytes, Depth, Lanes, Pending, Situation, Wait};
 use std::alloc::AllocError;
 
 impl Lanes {
@@ -55,8 +55,41 @@ impl Wait {
     }
 }
 
+impl Pending {
+    /// The kind in the name of a situation.
+    pub fn name(self) -> &'static str
+        ensures { result.now ≡ Names.pending_name self }
+    {
+        match self {
+            Self::Acquire => "acquire",
+            Self::Get => "get",
+            Self::Put => "put",
+            Self::Atomic => "atomic",
+            Self::Release => "release",
+            Self::Probe => "probe",
+            Self::Grant => "grant",
+        }
+    }
+}
+
+impl Depth {
+    /// The number of messages in the name of a situation.
+    pub fn name(self) -> &'static str
+        ensures { result.now ≡ Names.depth_name self }
+    {
+        match self {
+            Self::One => "1",
+            Self::Two => "2",
+            Self::Four => "3-4",
+            Self::Eight => "5-8",
+            Self::Sixteen => "9-16",
+            Self::More => "17-up",
+        }
+    }
+}
+
 /// Appends a dash and a detail, if there is one.
-fn append_detail(detail: Option<&str>, out: &mut Vec<u8>) -> Result<(), AllocError>
+pub fn append_detail(detail: Option<&str>, out: &mut Vec<u8>) -> Result<(), AllocError>
     ensures { OnOk result (out.new.items
         ≡ Names.with_detail out.old.items (option_map (λ s. s.now) detail.entry)) }
 {
@@ -120,6 +153,7 @@ impl Situation {
             Self::Answered(..) => "report",
             Self::Waited(_) => "waited",
             Self::Aligned(..) => "access",
+            Self::Among(..) => "pending",
         }
     }
 
@@ -140,6 +174,7 @@ impl Situation {
             Self::Answered(report, _) => Some(report.name()),
             Self::Waited(wait) => Some(wait.name()),
             Self::Aligned(bytes, _) => Some(bytes.name()),
+            Self::Among(kind, _) => Some(kind.name()),
             _ => None,
         }
     }
@@ -152,6 +187,7 @@ impl Situation {
             Self::Sent(kind) => kind.fields()?.0.name(),
             Self::Answered(_, cap) => Some(cap.name()),
             Self::Aligned(..) => Some("at"),
+            Self::Among(_, depth) => Some(depth.name()),
             _ => None,
         }
     }
@@ -239,6 +275,8 @@ impl Situation {
             Self::Waited(_) => "a ProbeAck so many beats of the trace after its Probe",
             Self::Aligned(..) =>
                 "an access of this many bytes whose address this many divide, and no more up to 64",
+            Self::Among(..) =>
+                "a message of this kind; with it this many of its kind are pending on the link",
         }
     }
 }

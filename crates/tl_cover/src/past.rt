@@ -1,6 +1,6 @@
 //! The record of the beats that one link has carried.
 
-ghost use Rattle.std.specs.Prelude.{ℕ, IfOk, OnOk, ◌≡◌, ◌∷◌, ◌++◌, [], ◌&&◌, is_some, map};
+ghost use Rattle.std.specs.Prelude.{ℕ, IfOk, OnOk, ◌≡◌, ◌∷◌, ◌++◌, [], ◌&&◌, is_some, length, map};
 ghost use Rattle.tl_beat.specs.declared.beat.Beat.{Beat};
 ghost use Rattle.tl_beat.specs.declared.channel.Channel.TheVariants as channel;
 ghost use Rattle.tl_beat.specs.statement.Width.{IsWidth};
@@ -22,6 +22,7 @@ use crate::asked::{Asked, found, note_probe};
 use crate::bins::BINS;
 use crate::blocks::turn;
 use crate::counts::{new_rows, note_all};
+use crate::open::Open;
 use crate::possible::is_possible;
 use crate::row::{LinkBin, Row};
 use crate::scene::{ProbeAt, Scene};
@@ -50,6 +51,8 @@ pub struct LinkPast {
     pub awaited: Vec<Awaited>,
     /// The sinks whose GrantAcks are pending.
     pub sinks: ByteTable<()>,
+    /// The sources with pending requests and Releases.
+    open: Open,
     /// The control fields of the newest beat.
     pub newest: Option<Control>,
     /// The newest beats of the messages that aren't complete.
@@ -197,6 +200,7 @@ impl LinkPast {
             probes: Vec::new(alloc),
             awaited: Vec::new(alloc),
             sinks: ByteTable::new(),
+            open: Open::none(),
             newest: None,
             under_way: UnderWay::none(),
             level,
@@ -242,6 +246,20 @@ impl LinkPast {
             Beat::D(_) => self.under_way.a,
             Beat::E(_) => self.under_way.d,
             _ => None,
+        }
+    }
+
+    /// The number of messages of the kind of a beat's message that are pending.
+    pub fn depth<const W: usize>(&self, beat: &Beat<W>) -> usize
+        ensures { (h : History W) → KnowsPast self.now h → length self.now.probes.items ≡ scenes.probes_pending h →
+            result ≡ scenes.depth beat.now h }
+    {
+        match beat {
+            Beat::A(x) => self.open.alike(x.opcode),
+            Beat::B(_) => self.probes.len(),
+            Beat::C(_) => self.open.releases(),
+            Beat::D(_) => self.sinks.len(),
+            Beat::E(_) => 0,
         }
     }
 
@@ -333,6 +351,7 @@ impl LinkPast {
         note_probe(&mut self.probes, line, first, last, beat)?;
         note_grant(&mut self.awaited, first, last, beat, granted)?;
         note_sink(&mut self.sinks, first, last, beat);
+        self.open.take(first, last, beat);
         note_request(&mut self.requests, first, beat);
         note_release(&mut self.released, first, beat);
         self.newest = Some(beat.control());

@@ -6,7 +6,7 @@ ghost use Rattle.tl_cover.specs.statement.Possible;
 
 use crate::kind::number_of;
 use crate::message::{MessageKind, Param};
-use crate::situation::{Bytes, Situation};
+use crate::situation::{Bytes, Pending, Situation};
 use tl_beat::opcode::{OpA, OpC, OpD};
 use tl_params::param::{Cap, Report};
 use tl_rules::level::Level;
@@ -21,6 +21,17 @@ fn least_level(kind: MessageKind) -> Level
         MessageKind::A(OpA::ArithmeticData | OpA::LogicalData | OpA::Intent, ..) => Level::UH,
         MessageKind::D(OpD::AccessAck | OpD::AccessAckData, ..) => Level::UL,
         MessageKind::D(OpD::HintAck, ..) => Level::UH,
+        _ => Level::C,
+    }
+}
+
+/// The least level whose links have messages of this kind.
+fn level_of(kind: Pending) -> Level
+    ensures { result ≡ Possible.level_of kind }
+{
+    match kind {
+        Pending::Get | Pending::Put => Level::UL,
+        Pending::Atomic => Level::UH,
         _ => Level::C,
     }
 }
@@ -79,6 +90,7 @@ pub fn is_possible<const W: usize>(liberties: Liberties, level: Level, bin: Situ
     match bin {
         Situation::Sent(kind) => has_kind::<W>(liberties, level, kind),
         Situation::Aligned(bytes, _) => fits::<W>(level, bytes),
+        Situation::Among(kind, _) => rank(level_of(kind)) <= rank(level),
         _ => level == Level::C,
     }
 }

@@ -46,6 +46,9 @@ pub struct Scene {
     pub asked: Option<ProbeAt>,
     /// The number of Grants of the link that wait for their GrantAcks.
     pub waiting: usize,
+    /// The number of messages of its kind that are pending on the link: of Acquires, Gets, Puts or atomics for one of
+    /// channel A, of Probes, Releases and Grants for one of B, C and D.
+    pub depth: usize,
     /// The last request with the source of a response to one.
     pub request: Option<Request>,
     /// The control fields of the beat before it on the link.

@@ -44,6 +44,34 @@ pub enum Wait {
     Longer,
 }
 
+/// The kinds of messages of which several can be pending on a link.
+#[derive(Clone, Copy, Debug, PartialEq, Eq)]
+pub enum Pending {
+    Acquire,
+    Get,
+    Put,
+    Atomic,
+    Release,
+    Probe,
+    /// A Grant that waits for its GrantAck.
+    Grant,
+}
+
+/// The number of messages of a kind that are pending on a link, with the one that begins.
+#[derive(Clone, Copy, Debug, PartialEq, Eq)]
+pub enum Depth {
+    One,
+    Two,
+    /// 3 or 4.
+    Four,
+    /// 5 to 8.
+    Eight,
+    /// 9 to 16.
+    Sixteen,
+    /// 17 or more.
+    More,
+}
+
 /// A situation in which a message begins. Its definition is a predicate on the beats up to the message's first.
 #[derive(Clone, Copy, Debug, PartialEq, Eq)]
 pub enum Situation {
@@ -137,6 +165,8 @@ pub enum Situation {
     Waited(Wait),
     /// An access of this many bytes at a multiple of that many: the greatest number up to 64 that divides its address.
     Aligned(Bytes, Bytes),
+    /// A message of this kind that makes so many of its kind pending on its link.
+    Among(Pending, Depth),
 }
 
 impl Situation {

@@ -47,7 +47,7 @@ pub const OF_ALL: [Stretch; 33] = [
 ];
 
 /// The stretches of `BINS`.
-pub const OF_BINS: [Stretch; 30] = [
+pub const OF_BINS: [Stretch; 37] = [
     Stretch(Group::A(OpA::PutFullData), 7),
     Stretch(Group::A(OpA::PutPartialData), 14),
     Stretch(Group::A(OpA::ArithmeticData), 24),
@@ -78,4 +78,11 @@ pub const OF_BINS: [Stretch; 30] = [
     Stretch(Group::AccessOf(Bytes::Sixteen), 158),
     Stretch(Group::AccessOf(Bytes::ThirtyTwo), 160),
     Stretch(Group::AccessOf(Bytes::SixtyFour), 161),
+    Stretch(Group::Acquire, 167),
+    Stretch(Group::Get, 173),
+    Stretch(Group::Put, 179),
+    Stretch(Group::Atomic, 185),
+    Stretch(Group::Release, 191),
+    Stretch(Group::Probe, 197),
+    Stretch(Group::Grant, 203),
 ];

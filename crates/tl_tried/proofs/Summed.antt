@@ -1,12 +1,11 @@
 -- The situations and the counts of several traces, one after another.
 use Rattle.std.proofs.Common.{◌≡◌, ◌<◌, ◌≤◌, ℕ, zero, suc, ◌+◌, List, [], ◌∷◌, ◌++◌, length, take, drop}
-use Rattle.std.proofs.Common.{refl, sym, ap, ◌∙◌, arith, add-one, append_assoc}
-use Rattle.std.proofs.lemmas.List.{append-nil, at_drop_more, drop_all, take-append-drop}
+use Rattle.std.proofs.Common.{refl, sym, ap, ◌∙◌, arith, add-one}
+use Rattle.std.proofs.lemmas.List.{at_drop_more, drop_all, take-append-drop}
 use Rattle.std.specs.Prelude.{slice_index_or, slice_set, Option}
 use Rattle.tl_tried.specs.declared.sum.Sum.{Sum}
 use Rattle.tl_tried.specs.declared.tried.Tried.{Tried}
 use Rattle.tl_tried.specs.statement.Sums.{cells_from, sums_from, with_cells, with_each, with_trace}
-use Rattle.tl_tried.specs.statement.Told.{numbered}
 
 -- ---- the elements of two lists, one by one
 
@@ -86,28 +85,3 @@ pub cells_all : (all : List Tried) (i : ℕ) (now start : List (Option ℕ)) →
     → cells_from now (drop i all) ≡ cells_from start all → now ≡ cells_from start all
 unfolding cells_from
 cells_all all i now start past before = rw (drop_all i all past) at before
-
--- ---- the texts of elements, one by one
-
-pub numbered_next : {X : Type 0} (text : ℕ → X → List ℕ) (xs : List X) (i : ℕ) (d : X) (old now more : List ℕ)
-    → i < length xs → more ≡ now ++ text i (slice_index_or xs i d)
-    → now ++ numbered text i (drop i xs) ≡ old ++ numbered text 0 xs
-    → more ++ numbered text (i + 1) (drop (i + 1) xs) ≡ old ++ numbered text 0 xs
-unfolding numbered
-numbered_next text xs i d old now more lt said before =
-    ap (λ (front : List ℕ). front ++ numbered text (i + 1) (drop (i + 1) xs)) said
-    ∙ append_assoc now (text i (slice_index_or xs i d)) (numbered text (i + 1) (drop (i + 1) xs))
-    ∙ ap (λ (back : List ℕ). now ++ back) (sym (at_drop_more (numbered text i) xs i d lt)) ∙ before
-
--- the same of an element that was read
-pub numbered_on : {X : Type 0} (text : ℕ → X → List ℕ) (xs : List X) (i : ℕ) (x : X) (old now more : List ℕ)
-    → i < length xs → x ≡ slice_index_or xs i x → more ≡ now ++ text i x
-    → now ++ numbered text i (drop i xs) ≡ old ++ numbered text 0 xs
-    → more ++ numbered text (i + 1) (drop (i + 1) xs) ≡ old ++ numbered text 0 xs
-numbered_on text xs i x old now more lt is said before =
-    numbered_next text xs i x old now more lt (said ∙ ap (λ (y : _). now ++ text i y) is) before
-
-pub numbered_all : {X : Type 0} (text : ℕ → X → List ℕ) (xs : List X) (i : ℕ) (old now : List ℕ) → length xs ≤ i
-    → now ++ numbered text i (drop i xs) ≡ old ++ numbered text 0 xs → now ≡ old ++ numbered text 0 xs
-unfolding numbered
-numbered_all text xs i old now past before = rw (drop_all i xs past, append-nil now) at before

@@ -1,8 +1,9 @@
 -- What is told of traces that were read.
-use Rattle.std.proofs.Common.{◌≡◌, ◌≢◌, ℕ, suc, Bool, false, true, not, nat_lt, ◌==◌, if◌then◌else◌}
+use Rattle.std.proofs.Common.{◌≡◌, ◌≢◌, ℕ, suc, Bool, false, not, nat_lt, ◌==◌}
 use Rattle.std.proofs.Common.{List, [], ◌∷◌, ◌++◌, length, refl, sym, ap, ap₂, ◌∙◌, subst, arith, lt-ltb, ne_eqb}
 use Rattle.std.specs.Io.KnownBytes.{Consumes}
 use Rattle.std.specs.Prelude.{Option}
+use Rattle.tl_command.specs.declared.cover.CoverForm.{CoverForm}
 use Rattle.tl_cover.specs.declared.row.Row.{Row}
 use Rattle.tl_engine.specs.statement.Lines.{lines_of}
 use Rattle.tl_engine.specs.code.Progress.{HasAll}
@@ -58,21 +59,19 @@ tried allow h had left verdict status said old rows counts (read, consumed, judg
 )
 
 -- what is told of traces, several of which have these names
-pub told_so : (json : Bool) (names by : Names) (all : List Tried) (sums : List Sum) (cells : List (Option ℕ))
+pub told_so : (form : CoverForm) (names by : Names) (all : List Tried) (sums : List Sum) (cells : List (Option ℕ))
     (old text : List ℕ)
     → by ≡ shown names → sums ≡ sums_of all → cells ≡ cells_of all → old ≡ []
-    → text ≡ old ++ told_named json by all sums cells → text ≡ told json names all
-told_so json names by all sums cells old text are summed counted empty is =
-    is ∙ ap (λ (o : List ℕ). o ++ told_named json by all sums cells) empty
-    ∙ ap (λ (b : Names). told_named json b all sums cells) are
-    ∙ ap (λ (ss : List Sum). told_named json (shown names) all ss cells) summed
-    ∙ ap (λ (cs : List (Option ℕ)). told_named json (shown names) all (sums_of all) cs) counted
+    → text ≡ old ++ told_named form by all sums cells → text ≡ told form names all
+told_so form names by all sums cells old text are summed counted empty is =
+    is ∙ ap (λ (o : List ℕ). o ++ told_named form by all sums cells) empty
+    ∙ ap (λ (b : Names). told_named form b all sums cells) are
+    ∙ ap (λ (ss : List Sum). told_named form (shown names) all ss cells) summed
+    ∙ ap (λ (cs : List (Option ℕ)). told_named form (shown names) all (sums_of all) cs) counted
 
--- JSON, for several traces if there are names
-pub json_so : {X : Type 0} (json empty : Bool) (names : Names) (as_json : Bool → X) (as_text : X)
-    → json ≡ true → empty ≡ (length names == 0)
-    → as_json (not empty) ≡ (if json then as_json (nat_lt 0 (length names)) else as_text)
-json_so json empty [] as_json as_text is none = rw (is, none) refl
-json_so json empty (name ∷ names) as_json as_text is none =
+-- JSON is for several traces if there are names
+pub several_so : (empty : Bool) (names : Names) → empty ≡ (length names == 0) → not empty ≡ nat_lt 0 (length names)
+several_so empty [] none = rw none refl
+several_so empty (name ∷ names) none =
     let some : suc (length names) ≢ 0 = omega arith in
-    rw (is, none, ne_eqb (suc (length names)) 0 some, lt-ltb 0 (suc (length names)) (omega arith)) refl
+    rw (none, ne_eqb (suc (length names)) 0 some, lt-ltb 0 (suc (length names)) (omega arith)) refl

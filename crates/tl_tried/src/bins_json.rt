@@ -1,23 +1,25 @@
 //! Reports the tables of links as JSON.
 
 ghost use Rattle.std.specs.Prelude.{◌≡◌, ◌++◌, OnOk, ◌%◌, ◌==◌};
+ghost use Rattle.tl_tables.specs.statement.Counts.{bin_count};
+ghost use Rattle.tl_tables.specs.statement.Numbered.{numbered};
 ghost use Rattle.tl_tried.specs.statement.Told;
 
-use crate::text::append_number;
 use std::alloc::AllocError;
 use tl_cover::bins::BINS;
 use tl_cover::situation::Situation;
+use tl_tables::text::append_number;
 
 /// Whether a place among the counts is one of the bin with this number. Each link has as many counts as there are bins.
-#[tactic(auto, unfolding(crate::specs::statement::Told::bin_count))]
+#[tactic(auto, unfolding(tl_tables::specs::statement::Counts::bin_count))]
 fn is_of(bin: usize, place: usize) -> bool
-    ensures { result ≡ (place % Told.bin_count == bin) }
+    ensures { result ≡ (place % bin_count == bin) }
 {
     place % BINS.len() == bin
 }
 
 /// A comma, for the counts of links other than link 0.
-#[tactic(auto, unfolding(crate::specs::statement::Told::bin_count))]
+#[tactic(auto, unfolding(tl_tables::specs::statement::Counts::bin_count))]
 fn comma(place: usize) -> &'static str
     ensures { result.now ≡ Told.comma place }
 {
@@ -52,7 +54,7 @@ fn append_count(
 
 /// Appends the counts of the bin with this number on all links.
 fn append_counts(bin: usize, cells: &[Option<u64>], out: &mut Vec<u8>) -> Result<(), AllocError>
-    ensures { OnOk result (out.new.items ≡ out.old.items ++ Told.numbered (Told.cell_of_json bin) 0 cells.now) }
+    ensures { OnOk result (out.new.items ≡ out.old.items ++ numbered (Told.cell_of_json bin) 0 cells.now) }
 {
     for (place, cell) in cells.iter().enumerate() {
         append_count(bin, place, *cell, out)?;
@@ -90,7 +92,7 @@ fn append_all(
     bins: &[Situation],
     out: &mut Vec<u8>,
 ) -> Result<(), AllocError>
-    ensures { OnOk result (out.new.items ≡ out.old.items ++ Told.numbered (Told.bin_json cells.now) 0 bins.now) }
+    ensures { OnOk result (out.new.items ≡ out.old.items ++ numbered (Told.bin_json cells.now) 0 bins.now) }
 {
     for (i, bin) in bins.iter().enumerate() {
         append_bin(cells, i, *bin, out)?;

@@ -6,9 +6,10 @@ ghost use Rattle.tl_tried.specs.statement.Told;
 
 use crate::bins_json::append_bins;
 use crate::sum::{Place, Sum};
-use crate::text::{all, append_number, append_with, seen_in};
+use crate::text::{all, seen_in};
 use crate::tried::Tried;
 use std::alloc::AllocError;
+use tl_tables::text::append_with;
 
 /// Appends the first place of a situation: the line, and for several traces the number of the trace.
 fn append_first(several: bool, place: Place, out: &mut Vec<u8>) -> Result<(), AllocError>

@@ -7,6 +7,7 @@ use crate::tried::Tried;
 use std::alloc::{AllocError, Global};
 use tl_cover::row::Row;
 use tl_cover::situation::Situation;
+use tl_tables::sum::cell_sum;
 
 /// A line of one of several traces, which are numbered from 0.
 #[derive(Clone, Copy, Debug, PartialEq, Eq)]
@@ -67,17 +68,6 @@ fn add_trace(sums: &mut Vec<Sum>, trace: usize, rows: &[Row]) -> Result<(), Allo
         }
     }
     Ok(())
-}
-
-/// The sum of two counts, either of which may be missing. A sum above 2^64 - 1 is an error.
-fn cell_sum(sum: Option<u64>, cell: Option<u64>) -> Result<Option<u64>, AllocError>
-    ensures { IfOk result (λ both. both ≡ Sums.cell_sum sum cell) }
-{
-    match (sum, cell) {
-        (None, other) => Ok(other),
-        (Some(n), None) => Ok(Some(n)),
-        (Some(n), Some(m)) => Ok(Some(n.checked_add(m).ok_or(AllocError)?)),
-    }
 }
 
 /// Adds the counts of all bins on the links of one more trace.

@@ -11,8 +11,10 @@ use crate::text::append_text;
 use crate::tried::Tried;
 use std::alloc::{AllocError, Global};
 use std::io::Write;
+use tl_command::cover::CoverForm;
 use tl_engine::output::write_all;
 use tl_engine::status::{Status, ToolFault};
+use tl_tables::tables::append_tables;
 
 /// Whether a line is at fault.
 fn is_broken(status: Status) -> bool
@@ -40,10 +42,11 @@ fn shown(names: &[String]) -> &[String]
     if names.len() > 1 { names } else { &[] }
 }
 
-/// Appends the verdicts and the situations, as text or as JSON, with these names of the traces. JSON has the tables of
-/// the links too.
+/// Appends the verdicts and the situations, and the tables of the links if the form has them, with these names of the
+/// traces.
 fn append_told(
-    json: bool,
+    alloc: Global,
+    form: CoverForm,
     names: &[String],
     all: &[Tried],
     sums: &[Sum],
@@ -51,36 +54,39 @@ fn append_told(
     out: &mut Vec<u8>,
 ) -> Result<(), AllocError>
     ensures { OnOk result (out.new.items
-        ≡ out.old.items ++ told_named json names.now all.now sums.now cells.now) }
+        ≡ out.old.items ++ told_named form names.now all.now sums.now cells.now) }
 {
-    if json {
-        append_json(!names.is_empty(), all, sums, cells, out)
-    } else {
-        append_text(names, all, sums, out)
+    match form {
+        CoverForm::Text => append_text(names, all, sums, out),
+        CoverForm::Tables => {
+            append_text(names, all, sums, out)?;
+            append_tables(alloc, cells, out)
+        }
+        CoverForm::Json => append_json(!names.is_empty(), all, sums, cells, out),
     }
 }
 
 /// Writes the verdict of each trace and the situations of all: those that came, with their counts and first places,
-/// their number, and those that never came. JSON also has the counts of all bins on each link. The names are used for
-/// several traces. The status is `Broken` if a line of one of them is at fault.
+/// their number, and those that never came. If the form has tables, it also writes the counts of all bins on each link.
+/// The names are used for several traces. The status is `Broken` if a line of one of them is at fault.
 ///
 /// The fault is `Memory`, and nothing was written, or `Write`, and some of the text is left.
 pub fn tell<W: Write>(
     alloc: Global,
-    json: bool,
+    form: CoverForm,
     names: &[String],
     all: &[Tried],
     writer: &mut W,
 ) -> Result<Status, ToolFault>
     ensures ok { IfOk result (λ status. (status ≡ status_of all.now)
-        × Appends (W.contents writer.old) (W.contents writer.new) (told json names.now all.now)) }
+        × Appends (W.contents writer.old) (W.contents writer.new) (told form names.now all.now)) }
     ensures fault { IfErr result (GivesUpTelling (W.contents writer.old) (W.contents writer.new)
-        (told json names.now all.now)) }
+        (told form names.now all.now)) }
 {
     let sums = sums_of(alloc, all)?;
     let cells = cells_of(alloc, all)?;
     let mut text = Vec::new(alloc);
-    append_told(json, shown(names), all, &sums, &cells, &mut text)?;
+    append_told(alloc, form, shown(names), all, &sums, &cells, &mut text)?;
     write_all(writer, &text)?;
     Ok(status_of(all))
 }

@@ -1,31 +1,14 @@
 //! Reports the situations of traces as text.
 
 ghost use Rattle.std.specs.Prelude.{◌≡◌, ◌++◌, OnOk, option_map};
-ghost use Rattle.std.specs.Fmt.{decimal};
 ghost use Rattle.std.specs.List.{flat_map};
 ghost use Rattle.tl_tried.specs.statement.Told;
 
 use crate::sum::Sum;
 use crate::tried::Tried;
-use itoa::Buffer;
 use std::alloc::AllocError;
 use tl_cover::situation::Situation;
-
-/// Appends a number in decimal.
-pub fn append_number(number: u64, out: &mut Vec<u8>) -> Result<(), AllocError>
-    ensures { OnOk result (out.new.items ≡ out.old.items ++ decimal number) }
-{
-    let mut digits = Buffer::new();
-    out.extend_from_slice(digits.format(number).as_bytes())
-}
-
-/// Appends a text, and a number after it.
-pub fn append_with(text: &str, number: u64, out: &mut Vec<u8>) -> Result<(), AllocError>
-    ensures { OnOk result (out.new.items ≡ out.old.items ++ (text.now ++ decimal number)) }
-{
-    out.extend_from_slice(text.as_bytes())?;
-    append_number(number, out)
-}
+use tl_tables::text::{append_number, append_with};
 
 /// The number of situations that came.
 pub fn seen_in(sums: &[Sum]) -> u64

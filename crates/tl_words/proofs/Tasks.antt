@@ -24,7 +24,7 @@ use Rattle.tl_words.specs.declared.words.WordsFault.{WordsFault}
 use Rattle.tl_words.specs.declared.words.WordsFault.TheVariants as fault
 use Rattle.tl_words.specs.Refused.{AsksNothing, IsFaultOf, IsRefusal}
 use Rattle.tl_words.specs.Tool.{AreAllowedIn, AreTaken, IsAim, IsInquiryOf}
-use Rattle.tl_words.specs.Tool.{IsTaskOf, command_in, command_named, flag_named, is_reported, is_wide}
+use Rattle.tl_words.specs.Tool.{IsTaskOf, command_in, command_named, flag_named, form_in, form_of, is_reported, is_wide}
 use Rattle.tl_words.specs.Tool.{judges_together, together_named, tool_of, words_in}
 use Rattle.tl_params.specs.declared.liberties.Liberties.{Liberties}
 
@@ -70,7 +70,7 @@ no_draw rows option wrong (Search aim file) is = no_search (codes "random") (fir
 no_draw rows option wrong (Report inquiry file report junit) is =
     no_inquiry (codes "random") (first_of (codes "all") rows) inquiry refl is.0
 no_draw rows option wrong (Chart range allow file) is = let none = is.0 in absurd cc
-no_draw rows option wrong (Cover json files) is = let none = is.0 in absurd cc
+no_draw rows option wrong (Cover form files) is = let none = is.0 in absurd cc
 no_draw rows option wrong (Draw options) is = wrong_for_all (words_in rows) option wrong options is.1
 
 -- the same words name the same lines and block
@@ -88,7 +88,7 @@ no_chart rows wrong (Search aim file) is = no_search (codes "chart") (first_of (
 no_chart rows wrong (Report inquiry file report junit) is =
     no_inquiry (codes "chart") (first_of (codes "all") rows) inquiry refl is.0
 no_chart rows wrong (Chart range allow file) is = wrong range allow is.1 is.2
-no_chart rows wrong (Cover json files) is = let none = is.0 in absurd cc
+no_chart rows wrong (Cover form files) is = let none = is.0 in absurd cc
 no_chart rows wrong (Draw options) is = let none = is.0 in absurd cc
 
 -- a name that is no command's, and none of `chart`, `cover` and `random`, asks for nothing
@@ -103,7 +103,7 @@ no_read name rows none unsaid other another apart plain unreported (Search aim f
 no_read name rows none unsaid other another apart plain unreported (Report inquiry file report junit) is =
     let reported = is.1 in absurd cc
 no_read name rows none unsaid other another apart plain unreported (Chart range allow file) is = let same = is.0 in absurd cc
-no_read name rows none unsaid other another apart plain unreported (Cover json files) is = let same = is.0 in absurd cc
+no_read name rows none unsaid other another apart plain unreported (Cover form files) is = let same = is.0 in absurd cc
 no_read name rows none unsaid other another apart plain unreported (Draw options) is = let same = is.0 in absurd cc
 
 -- a word of `--all` that asks a command which doesn't search, or that is no number, asks for nothing
@@ -120,7 +120,7 @@ no_aim name word rows none said other another apart plain unreported (Report inq
     let reported = is.1 in absurd cc
 no_aim name word rows none said other another apart plain unreported (Chart range allow file) is = let same = is.0 in
     absurd cc
-no_aim name word rows none said other another apart plain unreported (Cover json files) is = let same = is.0 in absurd cc
+no_aim name word rows none said other another apart plain unreported (Cover form files) is = let same = is.0 in absurd cc
 no_aim name word rows none said other another apart plain unreported (Draw options) is = let same = is.0 in absurd cc
 
 -- words of a judgement that is reported, whose command judges nothing or whose word of `--all` is no number, ask for
@@ -139,7 +139,7 @@ no_report name word rows none said other another apart plain reported (Report in
     none inquiry (subst (λ (w : Option Text). IsInquiryOf name w inquiry) said is.0)
 no_report name word rows none said other another apart plain reported (Chart range allow file) is = let same = is.0 in
     absurd cc
-no_report name word rows none said other another apart plain reported (Cover json files) is = let same = is.0 in absurd cc
+no_report name word rows none said other another apart plain reported (Cover form files) is = let same = is.0 in absurd cc
 no_report name word rows none said other another apart plain reported (Draw options) is = let same = is.0 in absurd cc
 
 -- a word of `--allow` that names no liberties asks for nothing
@@ -153,7 +153,7 @@ no_liberties_named name rows none other another apart plain (Search aim file) is
 no_liberties_named name rows none other another apart plain (Report inquiry file report junit) is =
     none inquiry.aim.allow is.5
 no_liberties_named name rows none other another apart plain (Chart range allow file) is = let same = is.0 in absurd cc
-no_liberties_named name rows none other another apart plain (Cover json files) is = let same = is.0 in absurd cc
+no_liberties_named name rows none other another apart plain (Cover form files) is = let same = is.0 in absurd cc
 no_liberties_named name rows none other another apart plain (Draw options) is = let same = is.0 in absurd cc
 
 -- a word that names no width of wide beats asks for nothing
@@ -165,8 +165,24 @@ no_wide rows flagged none (Search aim file) is = no_search (codes "decode") (fir
 no_wide rows flagged none (Report inquiry file report junit) is =
     no_inquiry (codes "decode") (first_of (codes "all") rows) inquiry refl is.0
 no_wide rows flagged none (Chart range allow file) is = let same = is.0 in absurd cc
-no_wide rows flagged none (Cover json files) is = let same = is.0 in absurd cc
+no_wide rows flagged none (Cover form files) is = let same = is.0 in absurd cc
 no_wide rows flagged none (Draw options) is = let same = is.0 in absurd cc
+
+-- both flags of `cover` ask for nothing
+pub no_form : (rows : List Row) → form_in rows ≡ None → (task : Task) → ¬ IsTaskOf (codes "cover") rows task
+no_form rows both (Read command allow file) is = let none = is.0 in absurd cc
+no_form rows both (DecodeWide width file) is = let none = is.0 in absurd cc
+no_form rows both (Search aim file) is = no_search (codes "cover") (first_of (codes "all") rows) aim refl is.0
+no_form rows both (Report inquiry file report junit) is =
+    no_inquiry (codes "cover") (first_of (codes "all") rows) inquiry refl is.0
+no_form rows both (Chart range allow file) is = let none = is.0 in absurd cc
+no_form rows both (Cover form files) is = let some = is.1 in absurd cc
+no_form rows both (Draw options) is = let none = is.0 in absurd cc
+
+-- the flags that were found give the form
+pub form_found : (rows : List Row) (tables json : Bool) → tables ≡ flag_named (first_of (codes "tables") rows)
+    → json ≡ flag_named (first_of (codes "json") rows) → form_of tables json ≡ form_in rows
+form_found rows tables json first second = rw (first, second) refl
 
 -- where `decode` reads wide beats, its name and its flag are there
 pub wide_so : (name : Text) (rows : List Row) → is_wide name rows ≡ true

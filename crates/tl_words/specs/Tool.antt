@@ -8,6 +8,8 @@ use Rattle.clap.specs.declared.builder.action.ArgAction.TheVariants.{Append, Set
 use Rattle.clap.specs.Words.{App, Row, Rule, Text, all_of, first_of, new_app, new_rule, with_rule, with_subcommand}
 use Rattle.tl_command.specs.declared.command.Command.{Command}
 use Rattle.tl_command.specs.declared.command.Command.TheVariants.{Coherent, Decode, Explain, Monitor, Run}
+use Rattle.tl_command.specs.declared.cover.CoverForm.{CoverForm}
+use Rattle.tl_command.specs.declared.cover.CoverForm.TheVariants as form
 use Rattle.tl_command.specs.declared.search.Aim.{Aim}
 use Rattle.tl_command.specs.declared.search.Inquiry.{Inquiry}
 use Rattle.tl_command.specs.declared.task.Task.{Task}
@@ -71,9 +73,10 @@ chart_of = with_rule (with_rule (with_range (new_app (codes "chart"))) (valued_r
 abbrev pub several_rule : Text → Rule
 several_rule name = record (new_rule name) { action = Some Append }
 
--- `cover [--json] [FILE..]`
+-- `cover [--tables] [--json] [FILE..]`
 abbrev pub cover_of : App
-cover_of = with_rule (with_rule (new_app (codes "cover")) (flag_rule (codes "json"))) (several_rule (codes "FILE"))
+cover_of = with_rule (with_rule (with_rule (new_app (codes "cover")) (flag_rule (codes "tables")))
+    (flag_rule (codes "json"))) (several_rule (codes "FILE"))
 
 -- `run [--trace] [FILE]`
 abbrev pub run_of : App
@@ -158,6 +161,16 @@ file_in rows = first_of (codes "FILE") rows
 abbrev pub files_in : List Row → List Text
 files_in rows = unwrap_or (all_of (codes "FILE") rows) []
 
+-- the form of a report on situations, by whether `--tables` and `--json` are given; none if both are
+abbrev pub form_of : Bool → Bool → Option CoverForm
+form_of false false = Some form.Text
+form_of true false = Some form.Tables
+form_of false true = Some form.Json
+form_of true true = None
+
+abbrev pub form_in : List Row → Option CoverForm
+form_in rows = form_of (flag_named (first_of (codes "tables") rows)) (flag_named (first_of (codes "json") rows))
+
 -- the words of the options of `random`
 abbrev pub words_in : List Row → Words
 words_in rows = record {
@@ -228,7 +241,7 @@ IsTaskOf name rows (Chart range allow file) =
     (bytes_eq name (codes "chart") ≡ true)
     × IsRange (first_of (codes "lines") rows) (first_of (codes "block") rows) range
     × AreAllowed (first_of (codes "allow") rows) allow × (option_map string_bytes file ≡ file_in rows)
-IsTaskOf name rows (Cover json files) =
-    (bytes_eq name (codes "cover") ≡ true) × (json ≡ flag_named (first_of (codes "json") rows))
+IsTaskOf name rows (Cover form files) =
+    (bytes_eq name (codes "cover") ≡ true) × (form_in rows ≡ Some form)
     × (map string_bytes files.items ≡ files_in rows)
 IsTaskOf name rows (Draw options) = (bytes_eq name (codes "random") ≡ true) × AreOptions (words_in rows) options

@@ -181,18 +181,24 @@ pub fn chart<'a>(alloc: Global) -> Result<clap::Command<'a>, AllocError>
 }
 
 /// `tltool cover`.
-fn cover<'a>(alloc: Global) -> Result<clap::Command<'a>, AllocError>
+pub fn cover<'a>(alloc: Global) -> Result<clap::Command<'a>, AllocError>
     ensures app { IfOk result (λ c. app_of c ≡ cover_of) }
     ensures local { IfOk result (λ c. (out-Command c).has_globals ≡ false) }
 {
-    let json = flag(alloc, "json", "Write the counts as one JSON object");
+    let tables = flag(alloc, "tables", help::TABLES);
+    let json = flag(
+        alloc,
+        "json",
+        "Write the counts and the tables as one JSON object",
+    );
     let cover = named(
         alloc,
         "cover",
         "Counts the situations in which the messages of recorded traces begin",
         help::COVER,
     );
-    with_argument(with_argument(cover, json)?, files(alloc, FILES_HELP))
+    let cover = with_argument(with_argument(cover, tables)?, json)?;
+    with_argument(cover, files(alloc, FILES_HELP))
 }
 
 fn run<'a>(alloc: Global) -> Result<clap::Command<'a>, AllocError>

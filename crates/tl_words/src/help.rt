@@ -249,6 +249,10 @@ pub const CHART: &str = outcomes_of_a_trace!(
     "\n  tltool run --trace schedules/a_release_races_with_a_probe.schedule | tltool chart >race.svg",
 );
 
+/// The help on `--tables`.
+pub const TABLES: &str =
+    "Write the tables of each link too: messages by opcode, param and bytes, and by the permission held before";
+
 /// The help after the options of `cover`.
 pub const COVER: &str = outcomes_of_a_trace!(
     "Situations are counted up to that line. `tltool explain FILE` says why it is at fault.\n",
@@ -256,6 +260,7 @@ pub const COVER: &str = outcomes_of_a_trace!(
     "  F9   more than 2^26 blocks, 256 sources of a link or 256 sinks\n",
     ;
     "\n  tltool cover two_caches.trace",
+    "\n  tltool cover --tables two_caches.trace",
     "\n  tltool cover --json two_caches.trace wrong_report.trace",
     "\n  tltool random --seed 1 | tltool run --trace | tltool cover --json",
 );

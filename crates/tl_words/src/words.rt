@@ -1,7 +1,7 @@
 //! Reads the program's words: `tltool decode [--wide] [--width BYTES] [FILE]`, `tltool monitor [--allow LIBERTIES] [--all N]
 //! [--report FILE] [--junit FILE] [FILE]`, `tltool coherent` with the same options, `tltool explain [--coherent]
 //! [--allow LIBERTIES] FILE`, `tltool chart [--lines A-B] [--block BBB] [--allow LIBERTIES]
-//! [FILE]`, `tltool cover [--json] [FILE..]`, `tltool run [--trace] [FILE]`, `tltool random --seed N` with its options,
+//! [FILE]`, `tltool cover [--tables] [--json] [FILE..]`, `tltool run [--trace] [FILE]`, `tltool random --seed N` with its options,
 //! and those that ask for help or the version.
 
 ghost use Rattle.std.specs.Prelude.{◌≡◌, IfOk, IfErr, MatchOption, true, false};

@@ -1,6 +1,7 @@
 -- How the program ends that counts the situations of traces.
-use Rattle.std.specs.Prelude.{◌≡◌, ◌⊎◌, ◌++◌, ◌∷◌, [], ℕ, Bool, List, length, Option, Result, Err, IfErr, IfOk}
+use Rattle.std.specs.Prelude.{◌≡◌, ◌⊎◌, ◌++◌, ◌∷◌, [], ℕ, List, length, Option, Result, Err, IfErr, IfOk}
 use Rattle.std.specs.Io.KnownBytes.{Appends}
+use Rattle.tl_command.specs.declared.cover.CoverForm.{CoverForm}
 use Rattle.tl_engine.specs.declared.status.Status.{Status}
 use Rattle.tl_engine.specs.declared.status.ToolFault.{ToolFault}
 use Rattle.tl_engine.specs.statement.Exit.{exit_status}
@@ -15,24 +16,24 @@ AddsTried had left old new = (tried : Tried) × IsTried no_liberties had left tr
 
 -- The status is that of an outcome which writing the counts of these traces, with these names if there are several,
 -- has over the output.
-abbrev pub EndsTold : Bool → Names → List Tried → Option (List ℕ) → Option (List ℕ) → ℕ → Type 0
-EndsTold json names all held holds status =
+abbrev pub EndsTold : CoverForm → Names → List Tried → Option (List ℕ) → Option (List ℕ) → ℕ → Type 0
+EndsTold form names all held holds status =
     (outcome : Result Status ToolFault) × (status ≡ exit_status outcome)
-    × IfOk outcome (λ judged. (judged ≡ status_of all) × Appends held holds (told json names all))
-    × IfErr outcome (GivesUpTelling held holds (told json names all))
+    × IfOk outcome (λ judged. (judged ≡ status_of all) × Appends held holds (told form names all))
+    × IfErr outcome (GivesUpTelling held holds (told form names all))
 
 -- Nothing was written, and the status is that of an input that can't be read.
 abbrev pub EndsUnread : Option (List ℕ) → Option (List ℕ) → ℕ → Type 0
 EndsUnread held holds status = (status ≡ exit_status (Err ToolFault.Read)) × (holds ≡ held)
 
 -- The counts of the one trace are written, or nothing is.
-abbrev pub EndsCovered : Bool → Option (List ℕ) → Option (List ℕ) → Option (List ℕ) → Option (List ℕ) → ℕ → Type 0
-EndsCovered json had left held holds status =
-    ((all : List Tried) × AddsTried had left [] all × EndsTold json [] all held holds status)
+abbrev pub EndsCovered : CoverForm → Option (List ℕ) → Option (List ℕ) → Option (List ℕ) → Option (List ℕ) → ℕ → Type 0
+EndsCovered form had left held holds status =
+    ((all : List Tried) × AddsTried had left [] all × EndsTold form [] all held holds status)
     ⊎ EndsUnread held holds status
 
 -- The counts of as many traces are written as there are names, or none.
-abbrev pub EndsCoveredIn : Bool → Names → Option (List ℕ) → Option (List ℕ) → ℕ → Type 0
-EndsCoveredIn json names held holds status =
-    ((all : List Tried) × (length all ≡ length names) × EndsTold json names all held holds status)
+abbrev pub EndsCoveredIn : CoverForm → Names → Option (List ℕ) → Option (List ℕ) → ℕ → Type 0
+EndsCoveredIn form names held holds status =
+    ((all : List Tried) × (length all ≡ length names) × EndsTold form names all held holds status)
     ⊎ EndsUnread held holds status

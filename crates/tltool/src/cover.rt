@@ -7,6 +7,7 @@ ghost use Rattle.tltool.specs.Covered.{AddsTried, EndsCovered, EndsCoveredIn, En
 use crate::{told, unopened};
 use std::io::{Read, Write};
 use std::{fs, io};
+use tl_command::cover::CoverForm;
 use tl_engine::status::ToolFault;
 use tl_params::liberties::Liberties;
 use tl_tried::tell::tell;
@@ -60,50 +61,56 @@ fn try_files(rt: &HostRuntime, names: &[String], all: &mut Vec<Tried>) -> Result
     Ok(())
 }
 
-/// Writes the verdicts and situations of the traces that were tried. These names are used for several traces.
+/// Writes the verdicts and situations of the traces that were tried, in this form. These names are used for several
+/// traces.
 fn tell_over<W: Write>(
     rt: &HostRuntime,
-    json: bool,
+    form: CoverForm,
     names: &[String],
     all: &[Tried],
     output: &mut W,
 ) -> u8
-    ensures { EndsTold json names.now all.now (W.contents output.old) (W.contents output.new) result }
+    ensures { EndsTold form names.now all.now (W.contents output.old) (W.contents output.new) result }
 {
-    told(rt, tell(rt.alloc(), json, names, all, output))
+    told(rt, tell(rt.alloc(), form, names, all, output))
 }
 
 /// Reports the situations of the trace of a reader. Writes nothing if it can't be read or there is no memory.
-fn cover_over<R: Read, W: Write>(rt: &HostRuntime, json: bool, input: &mut R, output: &mut W) -> u8
-    ensures { EndsCovered json (R.remaining input.old) (R.remaining input.new) (W.contents output.old)
+fn cover_over<R: Read, W: Write>(
+    rt: &HostRuntime,
+    form: CoverForm,
+    input: &mut R,
+    output: &mut W,
+) -> u8
+    ensures { EndsCovered form (R.remaining input.old) (R.remaining input.new) (W.contents output.old)
         (W.contents output.new) result }
 {
     let mut all = Vec::new(rt.alloc());
     match try_over(rt, input, &mut all) {
-        Ok(()) => tell_over(rt, json, &[], &all, output),
+        Ok(()) => tell_over(rt, form, &[], &all, output),
         Err(status) => status,
     }
 }
 
 /// Reports the situations of the traces in the files of these names. Writes nothing if one of them can't be opened or
 /// read.
-fn cover_files<W: Write>(rt: &HostRuntime, json: bool, names: &[String], output: &mut W) -> u8
-    ensures { EndsCoveredIn json names.now (W.contents output.old) (W.contents output.new) result }
+fn cover_files<W: Write>(rt: &HostRuntime, form: CoverForm, names: &[String], output: &mut W) -> u8
+    ensures { EndsCoveredIn form names.now (W.contents output.old) (W.contents output.new) result }
 {
     let mut all = Vec::new(rt.alloc());
     match try_files(rt, names, &mut all) {
-        Ok(()) => tell_over(rt, json, names, &all, output),
+        Ok(()) => tell_over(rt, form, names, &all, output),
         Err(status) => status,
     }
 }
 
 /// Reports the situations of the traces in the files of these names, or of the one on standard input if there is no
 /// name.
-pub(crate) fn cover(rt: &HostRuntime, json: bool, names: &[String]) -> u8 {
+pub(crate) fn cover(rt: &HostRuntime, form: CoverForm, names: &[String]) -> u8 {
     let mut output = io::writer(rt);
     if names.is_empty() {
-        cover_over(rt, json, &mut rt.reader(), &mut output)
+        cover_over(rt, form, &mut rt.reader(), &mut output)
     } else {
-        cover_files(rt, json, names, &mut output)
+        cover_files(rt, form, names, &mut output)
     }
 }

@@ -354,7 +354,7 @@ fn run(rt: &HostRuntime, task: Task) -> u8 {
             junit,
         } => report(rt, inquiry, file, json, junit),
         Task::Chart { range, allow, file } => chart(rt, range, allow, file),
-        Task::Cover { json, files } => cover(rt, json, files.as_slice()),
+        Task::Cover { form, files } => cover(rt, form, files.as_slice()),
         Task::Draw { options } => draw(rt, &options, &mut io::writer(rt)),
     }
 }

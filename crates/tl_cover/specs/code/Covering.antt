@@ -1,11 +1,12 @@
 -- What a covering has of a trace.
-use Rattle.std.specs.Prelude.{ℕ, Bool, ◌<◌, ◌≡◌, ◌+◌, ◌&&◌, List, [], ◌∷◌, length, map, if◌then◌else◌, slice_index_or, Option}
+use Rattle.std.specs.Prelude.{ℕ, Bool, ◌<◌, ◌≡◌, ◌+◌, ◌&&◌, List, []}
+use Rattle.std.specs.Prelude.{◌∷◌, length, map, if◌then◌else◌, slice_index_or, Option}
 use Rattle.std.specs.Prelude.{◌++◌, drop, is_some, take}
 use Rattle.std.specs.Prelude.{Some, None, unwrap_or}
 use Rattle.tl_beat.specs.declared.beat.Beat.{Beat}
 use Rattle.tl_burst.specs.statement.Messages.{History}
 use Rattle.tl_cover.specs.code.Groups.{Fits}
-use Rattle.tl_cover.specs.code.Past.{KnowsPast, asked_next, found}
+use Rattle.tl_cover.specs.code.Past.{AreApart, KnowsPast, asked_next, found}
 use Rattle.tl_cover.specs.declared.past.LinkPast.{LinkPast}
 use Rattle.tl_cover.specs.declared.row.Row.{Row}
 use Rattle.tl_cover.specs.declared.scene.Scene.{Scene}
@@ -50,6 +51,7 @@ opening_of l n i x t = if begins x (on_link i t) then Some (scene l n i x t) els
 pub record KnowsLink {w : ℕ} (l : Liberties) (n : ℕ) (p : LinkPast) (i : ℕ) (t : Trace w) : Type 0 where
   pub past : KnowsPast p (on_link i t)
   pub probes_are : (k : ℕ) → found k p.probes.items ≡ probe_at i k t
+  pub apart : AreApart p.probes.items
   pub rows_are : p.rows.items ≡ table l n i t
 
 -- What is kept of a link after a beat in this line: with the facts about the message that it begins, if it begins one,
@@ -61,6 +63,7 @@ pub record Taken {w : ℕ} (old new : LinkPast) (line : ℕ) (opening : Option S
     pub probes : (k : ℕ) (h : History w) → found k new.probes.items
         ≡ asked_next x line (is_some opening && opens (ProbeOf k) x h) (last && closes (ProbeOf k) x h)
         (found k old.probes.items)
+    pub apart : AreApart old.probes.items → AreApart new.probes.items
     pub rows : Fits 0 OF_BINS old.rows.items → new.rows.items ≡ map (row_with line x opening) old.rows.items
     pub level : new.level ≡ old.level
 

@@ -12,6 +12,8 @@ use Rattle.tl_cover.specs.declared.group.Group.TheVariants as group
 use Rattle.tl_cover.specs.declared.message.MessageKind.{MessageKind}
 use Rattle.tl_cover.specs.declared.message.MessageKind.TheVariants as kind
 use Rattle.tl_cover.specs.declared.row.Row.{Row}
+use Rattle.tl_cover.specs.declared.situation.Pending.{Pending}
+use Rattle.tl_cover.specs.declared.situation.Pending.TheVariants as pending
 use Rattle.tl_cover.specs.declared.situation.Situation.{Situation}
 use Rattle.tl_cover.specs.declared.situation.Situation.TheVariants as situation
 use Rattle.tl_cover.specs.declared.stretch.Stretch.{Stretch}
@@ -72,6 +74,16 @@ group_of_kind (kind.C opcode param bytes) = group.C opcode
 group_of_kind (kind.D opcode param bytes) = group.D opcode
 group_of_kind kind.E = group.GrantAck
 
+-- the group of the messages of this kind
+abbrev pub group_of_pending : Pending → Group
+group_of_pending pending.Acquire = group.Acquire
+group_of_pending pending.Get = group.Get
+group_of_pending pending.Put = group.Put
+group_of_pending pending.Atomic = group.Atomic
+group_of_pending pending.Release = group.Release
+group_of_pending pending.Probe = group.Probe
+group_of_pending pending.Grant = group.Grant
+
 -- the group of the messages with which the situation can come
 abbrev pub group_of : Situation → Group
 group_of situation.ProbeBesideRelease = group.Probe
@@ -117,6 +129,7 @@ group_of (situation.Sent kind) = group_of_kind kind
 group_of (situation.Answered report cap) = group.ProbeAck
 group_of (situation.Waited wait) = group.ProbeAck
 group_of (situation.Aligned bytes many) = group.AccessOf bytes
+group_of (situation.Among kind depth) = group_of_pending kind
 group_of situation.BetweenBursts = group.Any
 group_of situation.CopyDropped = group.Any
 

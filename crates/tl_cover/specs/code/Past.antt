@@ -1,7 +1,7 @@
 -- The state of a link says the same as its history.
 use Rattle.std.specs.Prelude.{ℕ, Bool, true, false, not, ◌==◌, ◌≡◌, ◌&&◌}
 use Rattle.std.specs.Prelude.{if◌then◌else◌, List, Option, Some, None, is_some}
-use Rattle.std.specs.Prelude.{option_map}
+use Rattle.std.specs.Prelude.{option_map, [], ◌∷◌, ◌<◌, ◌^◌, ⊤}
 use Rattle.std.specs.List.{find, list_any}
 use Rattle.tl_beat.specs.declared.beat.Beat.{Beat}
 use Rattle.tl_beat.specs.declared.beat.Beat.TheVariants as beat
@@ -10,6 +10,7 @@ use Rattle.tl_beat.specs.declared.channel.Channel.TheVariants as channel
 use Rattle.tl_beat.specs.declared.control.Control.{Control}
 use Rattle.tl_beat.specs.statement.Control.{control_of}
 use Rattle.tl_burst.specs.statement.Messages.{History}
+use Rattle.tl_cover.specs.code.Open.{KnowsOpen}
 use Rattle.tl_cover.specs.declared.acknowledged.Awaited.{Awaited}
 use Rattle.tl_cover.specs.declared.asked.Asked.{Asked}
 use Rattle.tl_cover.specs.declared.past.LinkPast.{LinkPast}
@@ -41,6 +42,11 @@ turned opened closed before = if opened then true else if closed then false else
 -- the pending Probe of the block
 abbrev pub found : ℕ → List Asked → Option ProbeAt
 found k all = option_map (λ a. a.probe) (find (λ a. a.block == k) all)
+
+-- each block of the list is there once
+abbrev pub AreApart : List Asked → Type 0
+AreApart [] = ⊤
+AreApart (a ∷ all) = (a.block < 2 ^ 26) × (found a.block all ≡ None) × AreApart all
 
 -- the pending Probe of a message's block, if it has one
 abbrev pub asked_in : LinkPast → Option ℕ → Option ProbeAt
@@ -111,5 +117,6 @@ pub record KnowsPast {w : ℕ} (p : LinkPast) (h : History w) : Type 0 where
   pub releases_are : (k : ℕ) → has k p.releases.items ≡ pending (ReleaseOf k) h
   pub awaited_are : (k s : ℕ) → awaits k s p.awaited.items ≡ (pending (GrantAckOf k) h && is_sink s (grant_sink k h))
   pub sinks_are : (s : ℕ) → is_some (at p.sinks s) ≡ pending (GrantSink s) h
+  pub open_is : KnowsOpen p.open h
   pub newest_is : p.newest ≡ newest h
   pub under_way_is : KnowsUnderWay p.under_way h

@@ -14,6 +14,10 @@ use Rattle.tl_cover.specs.declared.situation.Bytes.{Bytes}
 use Rattle.tl_cover.specs.declared.situation.Bytes.TheVariants as bytes
 use Rattle.tl_cover.specs.declared.situation.Lanes.{Lanes}
 use Rattle.tl_cover.specs.declared.situation.Lanes.TheVariants as lanes
+use Rattle.tl_cover.specs.declared.situation.Depth.{Depth}
+use Rattle.tl_cover.specs.declared.situation.Depth.TheVariants as depth
+use Rattle.tl_cover.specs.declared.situation.Pending.{Pending}
+use Rattle.tl_cover.specs.declared.situation.Pending.TheVariants as pending
 use Rattle.tl_cover.specs.declared.situation.Wait.{Wait}
 use Rattle.tl_cover.specs.declared.situation.Wait.TheVariants as wait
 use Rattle.tl_params.specs.declared.param.Arithmetic.{Arithmetic}
@@ -206,6 +210,33 @@ is_wait wait.Sixteen n = nat_le 16 n && nat_lt n 32
 is_wait wait.ThirtyTwo n = nat_le 32 n && nat_lt n 64
 is_wait wait.SixtyFour n = nat_le 64 n && nat_lt n 128
 is_wait wait.Longer n = nat_le 128 n
+
+-- requests of this opcode are of the kind
+abbrev pub asks : Pending → OpA → Bool
+asks pending.Acquire opcode = is_acquire opcode
+asks pending.Get opcode = is_get_opcode opcode
+asks pending.Put opcode = is_put_opcode opcode
+asks pending.Atomic opcode = is_atomic_opcode opcode
+asks _ opcode = false
+
+-- the beat is of a message of this kind
+abbrev pub is_pending_kind : {w : ℕ} → Pending → Beat w → Bool
+is_pending_kind pending.Acquire x = is_acquire_beat x
+is_pending_kind pending.Get x = is_get x
+is_pending_kind pending.Put x = is_put x
+is_pending_kind pending.Atomic x = is_atomic x
+is_pending_kind pending.Release x = is_release_beat x
+is_pending_kind pending.Probe x = is_probe_beat x
+is_pending_kind pending.Grant x = is_grant_beat x
+
+-- the number of messages of a kind that are pending before another one is in this range, with that one
+abbrev pub is_depth : Depth → ℕ → Bool
+is_depth depth.One n = n == 0
+is_depth depth.Two n = n == 1
+is_depth depth.Four n = nat_le 2 n && nat_lt n 4
+is_depth depth.Eight n = nat_le 4 n && nat_lt n 8
+is_depth depth.Sixteen n = nat_le 8 n && nat_lt n 16
+is_depth depth.More n = nat_le 16 n
 
 -- the lanes that the mask of a beat names: none, some or all
 abbrev pub lanes_named : {w : ℕ} → BeatA w → Lanes

@@ -6,6 +6,10 @@ use Rattle.tl_cover.specs.declared.situation.Lanes.{Lanes}
 use Rattle.tl_cover.specs.declared.situation.Lanes.TheVariants as lanes
 use Rattle.tl_cover.specs.declared.situation.Situation.{Situation}
 use Rattle.tl_cover.specs.declared.situation.Situation.TheVariants as situation
+use Rattle.tl_cover.specs.declared.situation.Depth.{Depth}
+use Rattle.tl_cover.specs.declared.situation.Depth.TheVariants as depth
+use Rattle.tl_cover.specs.declared.situation.Pending.{Pending}
+use Rattle.tl_cover.specs.declared.situation.Pending.TheVariants as pending
 use Rattle.tl_cover.specs.declared.situation.Wait.{Wait}
 use Rattle.tl_cover.specs.declared.situation.Wait.TheVariants as wait
 use Rattle.tl_cover.specs.declared.message.Param.{Param}
@@ -39,6 +43,25 @@ wait_name wait.Sixteen = codes "16-31"
 wait_name wait.ThirtyTwo = codes "32-63"
 wait_name wait.SixtyFour = codes "64-127"
 wait_name wait.Longer = codes "128-up"
+
+-- a kind of messages that can be pending in the name of a situation
+abbrev pub pending_name : Pending → List ℕ
+pending_name pending.Acquire = codes "acquire"
+pending_name pending.Get = codes "get"
+pending_name pending.Put = codes "put"
+pending_name pending.Atomic = codes "atomic"
+pending_name pending.Release = codes "release"
+pending_name pending.Probe = codes "probe"
+pending_name pending.Grant = codes "grant"
+
+-- a range of numbers of messages in the name of a situation
+abbrev pub depth_name : Depth → List ℕ
+depth_name depth.One = codes "1"
+depth_name depth.Two = codes "2"
+depth_name depth.Four = codes "3-4"
+depth_name depth.Eight = codes "5-8"
+depth_name depth.Sixteen = codes "9-16"
+depth_name depth.More = codes "17-up"
 
 -- the first word of a situation's name
 abbrev pub word : Situation → List ℕ
@@ -87,6 +110,7 @@ word (situation.Sent kind) = letter kind
 word (situation.Answered report cap) = codes "report"
 word (situation.Waited wait) = codes "waited"
 word (situation.Aligned bytes many) = codes "access"
+word (situation.Among kind depth) = codes "pending"
 
 -- the detail that distinguishes situations with the same first word
 abbrev pub detail : Situation → Option (List ℕ)
@@ -105,6 +129,7 @@ detail (situation.Sent kind) = Some (opcode_name kind)
 detail (situation.Answered report cap) = Some (report_name report)
 detail (situation.Waited wait) = Some (wait_name wait)
 detail (situation.Aligned bytes many) = Some (bytes_name bytes)
+detail (situation.Among kind depth) = Some (pending_name kind)
 detail _ = None
 
 -- the names of the param and of the bytes of a message
@@ -121,6 +146,7 @@ abbrev pub second : Situation → Option (List ℕ)
 second (situation.Sent kind) = param_of (fields kind)
 second (situation.Answered report cap) = Some (cap_name cap)
 second (situation.Aligned bytes many) = Some (codes "at")
+second (situation.Among kind depth) = Some (depth_name depth)
 second _ = None
 
 -- the third detail
@@ -187,3 +213,5 @@ sentence (situation.Answered report cap) = codes "a ProbeAck with this report, t
 sentence (situation.Waited wait) = codes "a ProbeAck so many beats of the trace after its Probe"
 sentence (situation.Aligned bytes many) =
     codes "an access of this many bytes whose address this many divide, and no more up to 64"
+sentence (situation.Among kind depth) =
+    codes "a message of this kind; with it this many of its kind are pending on the link"

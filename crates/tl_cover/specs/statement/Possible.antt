@@ -11,7 +11,9 @@ use Rattle.tl_cover.specs.declared.message.Param.{Param}
 use Rattle.tl_cover.specs.declared.message.Param.TheVariants as param
 use Rattle.tl_cover.specs.declared.situation.Bytes.{Bytes}
 use Rattle.tl_cover.specs.declared.situation.Situation.{Situation}
-use Rattle.tl_cover.specs.declared.situation.Situation.TheVariants.{Aligned, Sent}
+use Rattle.tl_cover.specs.declared.situation.Pending.{Pending}
+use Rattle.tl_cover.specs.declared.situation.Pending.TheVariants as pending
+use Rattle.tl_cover.specs.declared.situation.Situation.TheVariants.{Aligned, Among, Sent}
 use Rattle.tl_cover.specs.statement.Kinds.{number_of}
 use Rattle.tl_cover.specs.statement.Messages.{fields}
 use Rattle.tl_params.specs.declared.level.Level.{Level}
@@ -42,6 +44,13 @@ abbrev pub least_level : MessageKind → Level
 least_level (kind.A opcode param bytes) = least_of_request opcode
 least_level (kind.D opcode param bytes) = least_of_response opcode
 least_level _ = level.C
+
+-- the least level whose links have messages of this kind
+abbrev pub level_of : Pending → Level
+level_of pending.Get = level.UL
+level_of pending.Put = level.UL
+level_of pending.Atomic = level.UH
+level_of _ = level.C
 
 -- the place of a level
 abbrev pub rank : Level → ℕ
@@ -89,5 +98,6 @@ has_kind w l level kind =
 abbrev pub is_possible : ℕ → Liberties → Level → Situation → Bool
 is_possible w l level (Sent kind) = has_kind w l level kind
 is_possible w l level (Aligned bytes many) = fits w level bytes
+is_possible w l level (Among kind depth) = nat_le (rank (level_of kind)) (rank level)
 is_possible w l level.C _ = true
 is_possible w l _ _ = false

@@ -1,8 +1,11 @@
 -- The facts about a message that the beats before it give, at its first beat.
-use Rattle.std.specs.Prelude.{ℕ, Bool, false, not, [], ◌∷◌, ◌==◌, ◌&&◌, ◌+◌, length, if◌then◌else◌}
+use Rattle.std.specs.Prelude.{ℕ, ◌^◌, Bool, false, not, [], ◌∷◌, ◌==◌, ◌&&◌, ◌+◌, length, if◌then◌else◌}
 use Rattle.std.specs.Prelude.{Option, Some, None, is_some, option_map}
 use Rattle.tl_beat.specs.declared.beat.Beat.{Beat}
 use Rattle.tl_beat.specs.declared.beat.Beat.TheVariants as beat
+use Rattle.tl_beat.specs.declared.beat.BeatA.{BeatA}
+use Rattle.tl_beat.specs.declared.opcode.OpA.{OpA}
+use Rattle.tl_beat.specs.declared.opcode.OpA.TheVariants as a
 use Rattle.tl_beat.specs.declared.control.Control.{Control}
 use Rattle.tl_beat.specs.statement.Control.{control_of}
 use Rattle.tl_beat.specs.declared.channel.Channel.{Channel}
@@ -12,8 +15,12 @@ use Rattle.tl_burst.specs.statement.Messages.{History, on}
 use Rattle.tl_cover.specs.declared.scene.ProbeAt.{ProbeAt}
 use Rattle.tl_cover.specs.declared.scene.Scene.{Scene}
 use Rattle.tl_cover.specs.declared.scene.Standing.{Standing}
+use Rattle.tl_cover.specs.declared.situation.Pending.{Pending}
+use Rattle.tl_cover.specs.declared.situation.Pending.TheVariants as kind
+use Rattle.tl_cover.specs.statement.Kinds.{asks}
 use Rattle.tl_monitor.specs.statement.Count.{count_below}
 use Rattle.tl_params.specs.declared.key.Key.TheVariants.{AcquireOf, ReleaseOf, GrantSink, GrantAckOf, ProbeOf}
+use Rattle.tl_params.specs.declared.key.Key.TheVariants.{ReleaseSource, RequestSource}
 use Rattle.tl_params.specs.declared.liberties.Liberties.{Liberties}
 use Rattle.tl_params.specs.declared.perm.Perm.{Perm}
 use Rattle.tl_params.specs.declared.perm.Perm.TheVariants as perm
@@ -139,13 +146,56 @@ grants_beside i t m = not (m == i) && is_of_grant (under_way channel.D (on_link 
 abbrev pub granting : {w : ℕ} → ℕ → ℕ → Trace w → ℕ
 granting n i t = count_below n (grants_beside i t)
 
+-- ---- how many are pending
+
+-- there is a request, and it is of this kind
+abbrev pub asks_so : {w : ℕ} → Pending → Option (BeatA w) → Bool
+asks_so kind None = false
+asks_so kind (Some x) = asks kind x.opcode
+
+-- the number of sources whose request is pending and of this kind
+abbrev pub requests_pending : {w : ℕ} → Pending → History w → ℕ
+requests_pending kind h = count_below 256 (λ s. pending (RequestSource s) h && asks_so kind (request_of s h))
+
+-- the number of pending requests of the kind of this opcode: Acquires, Gets, Puts or atomics
+abbrev pub alike_pending : {w : ℕ} → OpA → History w → ℕ
+alike_pending a.AcquireBlock h = requests_pending kind.Acquire h
+alike_pending a.AcquirePerm h = requests_pending kind.Acquire h
+alike_pending a.Get h = requests_pending kind.Get h
+alike_pending a.PutFullData h = requests_pending kind.Put h
+alike_pending a.PutPartialData h = requests_pending kind.Put h
+alike_pending a.ArithmeticData h = requests_pending kind.Atomic h
+alike_pending a.LogicalData h = requests_pending kind.Atomic h
+alike_pending a.Intent h = 0
+
+-- the number of blocks whose Probe is pending
+abbrev pub probes_pending : {w : ℕ} → History w → ℕ
+probes_pending h = count_below (2 ^ 26) (λ k. pending (ProbeOf k) h)
+
+-- the number of sources whose Release is pending
+abbrev pub releases_pending : {w : ℕ} → History w → ℕ
+releases_pending h = count_below 256 (λ s. pending (ReleaseSource s) h)
+
+-- the number of sinks whose GrantAck is pending
+abbrev pub grants_pending : {w : ℕ} → History w → ℕ
+grants_pending h = count_below 256 (λ s. pending (GrantSink s) h)
+
+-- the number of messages of the kind of this beat's message that are pending before it
+abbrev pub depth : {w : ℕ} → Beat w → History w → ℕ
+depth (beat.A x) h = alike_pending x.opcode h
+depth (beat.B x) h = probes_pending h
+depth (beat.C x) h = releases_pending h
+depth (beat.D x) h = grants_pending h
+depth (beat.E x) h = 0
+
 -- the facts about the message that begins with the beat x on link i
 abbrev pub scene : {w : ℕ} → Liberties → ℕ → ℕ → Beat w → Trace w → Scene
 scene l n i x t = record {
   line = length t + 1;
   asked = asked_of i (block_named x (on_link i t)) t;
   block = standing_of l n i (block_named x (on_link i t)) t;
-  waiting = count_below 256 (λ s. pending (GrantSink s) (on_link i t));
+  waiting = grants_pending (on_link i t);
+  depth = depth x (on_link i t);
   request = request_named x (on_link i t);
   previous = newest (on_link i t);
   answered = answered x (on_link i t);

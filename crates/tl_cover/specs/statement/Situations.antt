@@ -16,7 +16,7 @@ use Rattle.tl_cover.specs.statement.Kinds.{is_denied_uncorrupt, is_probe_with_so
 use Rattle.tl_cover.specs.statement.Kinds.{releases_with, says_nothing_held}
 use Rattle.tl_cover.specs.statement.Kinds.{is_acquire_beat, is_atomic, is_get, is_grant_ack_beat, is_grant_beat}
 use Rattle.tl_cover.specs.statement.Kinds.{is_grant_with, is_probe_beat, is_put, is_release_beat}
-use Rattle.tl_cover.specs.statement.Kinds.{is_aligned, is_probe_ack_beat, is_wait}
+use Rattle.tl_cover.specs.statement.Kinds.{is_aligned, is_depth, is_pending_kind, is_probe_ack_beat, is_wait}
 use Rattle.tl_cover.specs.statement.Messages.{is_of_kind}
 use Rattle.tl_cover.specs.statement.Scene.{scene}
 use Rattle.tl_params.specs.declared.liberties.Liberties.{Liberties}
@@ -121,6 +121,7 @@ meets (situation.Sent kind) x s = is_of_kind kind x
 meets (situation.Answered report cap) x s = has_report report x && is_asked cap s.asked
 meets (situation.Waited wait) x s = is_probe_ack_beat x && has_waited wait s.line s.asked
 meets (situation.Aligned bytes many) x s = is_access_beat x && (asks_for bytes x && is_aligned many x)
+meets (situation.Among kind depth) x s = is_pending_kind kind x && is_depth depth s.depth
 
 -- a message begins in the situation with the beat x after t, the trace of n links
 abbrev pub occurs : {w : ℕ} → Liberties → ℕ → Situation → Link × Beat w → Trace w → Bool

@@ -1,9 +1,10 @@
 -- The counts of each situation over several traces, and its first place.
-use Rattle.std.specs.Prelude.{ℕ, ◌+◌, List, [], ◌∷◌, map, Option, Some, None, option_map}
+use Rattle.std.specs.Prelude.{ℕ, ◌+◌, List, [], ◌∷◌, map, Option, option_map}
 use Rattle.std.specs.Option.{option_or}
 use Rattle.tl_cover.specs.declared.row.Row.{Row}
 use Rattle.tl_tried.specs.declared.sum.Place.{Place}
 use Rattle.tl_tried.specs.declared.sum.Sum.{Sum}
+use Rattle.tl_tables.specs.statement.Counts.{cell_sum}
 use Rattle.tl_tried.specs.declared.tried.Tried.{Tried}
 
 -- the first place of a situation in the trace with this number
@@ -28,12 +29,6 @@ with_each add new (x ∷ xs) (y ∷ ys) = add x y ∷ with_each add new xs ys
 -- the sums of earlier traces with the counts of the trace with this number
 abbrev pub with_trace : ℕ → List Sum → List Row → List Sum
 with_trace i = with_each (added i) (sum_of i)
-
--- the sum of two counts; a count that is missing adds nothing
-abbrev pub cell_sum : Option ℕ → Option ℕ → Option ℕ
-cell_sum None other = other
-cell_sum (Some n) None = Some n
-cell_sum (Some n) (Some m) = Some (n + m)
 
 -- the counts of all bins on all links over earlier traces with those of one more
 abbrev pub with_cells : List (Option ℕ) → List (Option ℕ) → List (Option ℕ)

@@ -1,5 +1,5 @@
 -- The report of the situations of traces.
-use Rattle.std.specs.Prelude.{ℕ, Bool, true, false, ◌++◌, ◌-◌, ◌+◌, ◌%◌, ◌==◌, List, [], ◌∷◌, length, take, count_by, codes}
+use Rattle.std.specs.Prelude.{ℕ, Bool, true, false, ◌++◌, ◌-◌, ◌%◌, ◌==◌, List, [], ◌∷◌, length, take, count_by, codes}
 use Rattle.std.specs.Prelude.{if◌then◌else◌, nat_lt, Option, Some, None, is_some, option_map, slice_get}
 use Rattle.std.specs.Prelude.{String, string_bytes}
 use Rattle.std.specs.declared.alloc.Global.{Global}
@@ -9,6 +9,11 @@ use Rattle.tl_cover.specs.declared.situation.Situation.{Situation}
 use Rattle.tl_cover.specs.statement.Bins.{all_bins}
 use Rattle.tl_cover.specs.statement.Covered.{all_situations}
 use Rattle.tl_cover.specs.statement.Names.{name, sentence}
+use Rattle.tl_command.specs.declared.cover.CoverForm.{CoverForm}
+use Rattle.tl_command.specs.declared.cover.CoverForm.TheVariants as form
+use Rattle.tl_tables.specs.statement.Counts.{bin_count}
+use Rattle.tl_tables.specs.statement.Numbered.{numbered}
+use Rattle.tl_tables.specs.statement.Tables.{tables_text}
 use Rattle.tl_tried.specs.declared.sum.Place.{Place}
 use Rattle.tl_tried.specs.declared.sum.Sum.{Sum}
 use Rattle.tl_tried.specs.declared.tried.Tried.{Tried}
@@ -44,11 +49,6 @@ before_verdict (Some named) = named ++ codes ": "
 -- the verdict of the trace with this number
 abbrev pub verdict_text : Names → ℕ → Tried → List ℕ
 verdict_text names i tried = before_verdict (name_of names i) ++ tried.verdict.items
-
--- the texts of these elements one after another, by number and element; the first has this number
-unfoldable pub numbered : {X : Type 0} → (ℕ → X → List ℕ) → ℕ → List X → List ℕ
-numbered text i [] = []
-numbered text i (x ∷ xs) = text i x ++ numbered text (i + 1) xs
 
 -- the verdicts of these traces, numbered from 0
 abbrev pub verdicts_text : Names → List Tried → List ℕ
@@ -181,10 +181,6 @@ summary_json sums = codes "\"seen\": " ++ (decimal (seen_in sums) ++ (codes ", \
 abbrev pub list_json : Bool → List Sum → List ℕ
 list_json several sums = codes ", \"situations\": [" ++ (sums_json several sums ++ codes "]")
 
--- the number of all bins
-unfoldable pub bin_count : ℕ
-bin_count = length all_bins
-
 -- a count, or null if there is none
 abbrev pub cell_json : Option ℕ → List ℕ
 cell_json None = codes "null"
@@ -219,12 +215,13 @@ told_json several all sums cells =
 
 -- ---- either
 
--- the report as text or as JSON, with these names of the traces; none for one trace
-abbrev pub told_named : Bool → Names → List Tried → List Sum → List (Option ℕ) → List ℕ
-told_named json names all sums cells =
-    if json then told_json (nat_lt 0 (length names)) all sums cells else told_text names all sums
+-- the report in this form, with these names of the traces; none for one trace
+abbrev pub told_named : CoverForm → Names → List Tried → List Sum → List (Option ℕ) → List ℕ
+told_named form.Text names all sums cells = told_text names all sums
+told_named form.Tables names all sums cells = told_text names all sums ++ tables_text cells
+told_named form.Json names all sums cells = told_json (nat_lt 0 (length names)) all sums cells
 
--- The report of these traces: their verdicts, and the situations of all of them. JSON has the tables of their links
--- too. These names are used for several traces.
-abbrev pub told : Bool → Names → List Tried → List ℕ
-told json names all = told_named json (shown names) all (sums_of all) (cells_of all)
+-- The report of these traces in this form: their verdicts, and the situations of all of them. Two of the forms have the
+-- tables of their links too. These names are used for several traces.
+abbrev pub told : CoverForm → Names → List Tried → List ℕ
+told form names all = told_named form (shown names) all (sums_of all) (cells_of all)

@@ -1,6 +1,6 @@
 use Rattle.std.proofs.Common.{arith}
 use Rattle.tl_cover.specs.declared.situation.Situation.TheVariants.{ProbeBesideRelease}
-use Rattle.tl_tried.proofs.Summed.{numbered_all, numbered_next}
+use Rattle.tl_tables.proofs.Numbered.{numbered_all, numbered_next}
 use Rattle.tl_tried.specs.statement.Told.{bin_json}
 use Rattle.tl_tried.proofs.bins_json.append_all.Goals as goal
 

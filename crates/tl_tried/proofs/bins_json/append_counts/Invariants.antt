@@ -1,5 +1,6 @@
 use Rattle.std.proofs.Common.{◌≡◌, ◌++◌, drop}
-use Rattle.tl_tried.specs.statement.Told.{cell_of_json, numbered}
+use Rattle.tl_tables.specs.statement.Numbered.{numbered}
+use Rattle.tl_tried.specs.statement.Told.{cell_of_json}
 use Rattle.tl_tried.proofs.bins_json.append_counts.Given as goal
 
 abbrev pub invariant-loop-place : goal.invariant-loop-place

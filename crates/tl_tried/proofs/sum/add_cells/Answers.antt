@@ -1,6 +1,6 @@
 use Rattle.std.proofs.Common.{arith}
 use Rattle.tl_tried.proofs.Summed.{joined_all}
-use Rattle.tl_tried.specs.statement.Sums.{cell_sum}
+use Rattle.tl_tables.specs.statement.Counts.{cell_sum}
 use Rattle.tl_tried.proofs.sum.add_cells.Goals as goal
 
 pub returns : goal.returns

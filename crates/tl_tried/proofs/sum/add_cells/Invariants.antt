@@ -1,5 +1,6 @@
 use Rattle.std.proofs.Common.{◌≡◌, ◌≤◌, length}
-use Rattle.tl_tried.specs.statement.Sums.{cell_sum, with_cells}
+use Rattle.tl_tables.specs.statement.Counts.{cell_sum}
+use Rattle.tl_tried.specs.statement.Sums.{with_cells}
 use Rattle.tl_tried.proofs.Summed.{so_far}
 use Rattle.tl_tried.proofs.sum.add_cells.Given as goal
 

@@ -5,7 +5,7 @@ use Rattle.tl_tried.proofs.tell.tell.Goals as goal
 
 pub returns-clause-ok : goal.returns-clause-ok
 returns-clause-ok g c =
-    let is = told_so c.args.json c.args.names.now c.shown.result.now c.args.all.now _ _ _ c.append_told.new.out.items
+    let is = told_so c.args.form c.args.names.now c.shown.result.now c.args.all.now _ _ _ c.append_told.new.out.items
     c.shown.ensures (c.deref.ensures.value ∙ c.in_ok-sums.ensures) (c.deref-2.ensures.value ∙ c.in_ok-cells.ensures)
     c.new-text.ensures.items
     c.in_ok-append_told.ensures in
@@ -14,7 +14,7 @@ returns-clause-ok g c =
 pub returns-in_err-write_all-clause-fault : goal.returns-in_err-write_all-clause-fault
 returns-in_err-write_all-clause-fault g c =
     let p = err_from_is_err_and c.from_residual-in_err-write_all.result c.from_residual-in_err-write_all.ensures.1 in
-    let is = told_so c.args.json c.args.names.now c.shown.result.now c.args.all.now _ _ _ c.append_told.new.out.items
+    let is = told_so c.args.form c.args.names.now c.shown.result.now c.args.all.now _ _ _ c.append_told.new.out.items
     c.shown.ensures (c.deref.ensures.value ∙ c.in_ok-sums.ensures) (c.deref-2.ensures.value ∙ c.in_ok-cells.ensures)
     c.new-text.ensures.items
     c.in_ok-append_told.ensures in

@@ -1,5 +1,5 @@
 use Rattle.std.proofs.Common.{arith}
-use Rattle.tl_tried.proofs.Summed.{numbered_all, numbered_on}
+use Rattle.tl_tables.proofs.Numbered.{numbered_all, numbered_on}
 use Rattle.tl_tried.specs.statement.Told.{verdict_text}
 use Rattle.tl_tried.proofs.text.append_verdicts.Goals as goal
 

@@ -20,9 +20,10 @@ returns g c = on_ok_weaker c.note_all.result (λ noted. record {
       c.in_ok-turn-2.ensures (λ k. c.released.ensures k h)
       (λ k. c.only_if-2.ensures k ∙ ap (λ b. c.args.last && b) (c.release_acknowledged-answered.ensures k h had))
       had.releases_are)
-      (λ k. c.granted-granted.ensures k h had) c.in_ok-note_grant.ensures c.note_sink.ensures
+      (λ k. c.granted-granted.ensures k h had) c.in_ok-note_grant.ensures c.note_sink.ensures c.take.ensures
       (ap Some c.control.ensures) c.with-self.ensures;
-  probes = λ k h. rw (← c.is_some-first.ensures) (c.in_ok-note_probe.ensures k h);
+  probes = λ k h. rw (← c.is_some-first.ensures) (c.in_ok-note_probe.ensures.found k h);
+  apart = c.in_ok-note_probe.ensures.apart;
   rows = noted;
   level = refl;
 }) c.note_all.ensures

@@ -1,0 +1,4 @@
+pub mod Cells
+pub mod Layouts
+pub mod Numbered
+mod Worked

@@ -1,0 +1,4 @@
+pub mod Counts
+pub mod Layout
+pub mod Numbered
+pub mod Tables

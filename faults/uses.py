@@ -27,7 +27,6 @@ LINES_LOOKED_FOR = "a number from 1 to 18446744073709551615, without leading zer
 LINES = "the numbers of the first line and of the last, without leading zeros, as 2-80"
 BLOCK = "the number of a block in three digits or in seven, of 0 to 9 and a to f, as 00f"
 LIBERTIES = "none, standard, or names of ids, sinks, writer, early, drops, reports, denied and uncorrupt, in this order, with a comma between them"
-EARLY = "tltool: the header names early answers, which coherent doesn't take\n"
 WIDE_WORDS = f"""00 A AcquireBlock NtoT size=6 source=0100 address=0000000180000000 mask=ffffffff data=- corrupt=0
 00 D GrantData toT size=6 source=0100 sink=0010 denied=0 data={64 * '0'} corrupt=0
 00 D GrantData toT size=6 source=0100 sink=0010 denied=0 data={64 * '0'} corrupt=0
@@ -53,7 +52,6 @@ release-toN                    -       0       0
 WIDE = "tltool: the header is of wide beats, which only monitor, coherent and cover read\n"
 NUMBER = "a number from 0 to 18446744073709551615"
 LIST = "1 to 16 clients with commas between them, each UL, UH or C with its number of sources from 1 to 8, as C:2,C:2,UH:1"
-LIBERTIES_TOGETHER = "none, or names of ids, sinks, writer, drops, reports, denied and uncorrupt, in this order, with a comma between them"
 
 # The beats of what follows.
 PERM, GRANT, PROBE = "A 7 1 6 00 00000000 ff - 0", "D 4 0 6 00 00 0 - 0", "B 6 2 6 00 00000000 ff - 0"
@@ -83,12 +81,17 @@ def of_liberties(right):
     rows = []
     for path in pathlib.Path(sys.argv[2], "rules").glob("*.trace"):
         header, *lines = path.read_text().splitlines()
-        version, liberty = header.split()[1], header.split()[3:4]
-        if version == "4" and liberty[0] in NAMES and path.stem.endswith("_right") == right:
+        version, liberty, levels = header.split()[1], header.split()[3:4], header.split()[4:]
+        if version == "4" and liberty[0] in NAMES and len(levels) == 1 and path.stem.endswith("_right") == right:
             rows.append((liberty[0], path.stem.split("_")[0], [it[3:] for it in lines]))
     return sorted(rows, key=lambda row: (NAMES.index(row[0]), row))
 
 
+# The traces of early answers, all links together: the line at fault, the beats of the right one, and the line of that one that
+# breaks a rule without the liberty.
+AT_FAULT_EARLY = (("M1_early", 6), ("M2_early_grant", 7), ("M2_early_release", 8), ("M3_early", 7), ("M4_early", 6))
+RIGHT_EARLY = (("M1_early", 7), ("M2_early_grant", 8), ("M2_early_release", 9), ("M3_early", 6), ("M4_early", 5))
+WITHOUT_EARLY = (("M1_early", 4, "H8"), ("M2_early_grant", 6, "H8"), ("M2_early_release", 6, "H2"), ("M3_early", 5, "H2"), ("M4_early", 5, "H2"))
 # What each liberty allows: the last beat of a trace breaks the rule without it, and none with it.
 UNDER = of_liberties(True)
 # The nearest trace whose last beat breaks this rule with it too.
@@ -195,8 +198,8 @@ ROWS = [
     ("tltool coherent --allow ids <wide/two_caches.trace", 0, "coherent 11\n", ""),
     ("tltool coherent wide/second_part.trace", 1, "line 6 M3\n", ""),
     ("sed '1s/none/early/' wide/two_caches.trace | tltool monitor", 0, "clean 11\n", ""),
-    ("sed '1s/none/early/' wide/two_caches.trace | tltool coherent", 1, F7.format(1), EARLY),
-    ("sed '1s/none/early/' wide/two_caches.trace >early.trace; tltool coherent early.trace", 1, F7.format(1), EARLY),
+    ("sed '1s/none/early/' wide/two_caches.trace | tltool coherent", 0, "coherent 11\n", ""),
+    ("sed '1s/none/early/' wide/two_caches.trace >early.trace; tltool coherent early.trace", 0, "coherent 11\n", ""),
     ("sed '1s/32/24/' wide/two_caches.trace | tltool monitor", 1, F7.format(1), ""),
     ("sed '1s/32/16/' wide/two_caches.trace | tltool monitor", 1, F3.format(2), ""),
     ("sed '1s/none //' wide/two_caches.trace | tltool monitor", 1, F7.format(1), ""),
@@ -214,7 +217,7 @@ ROWS = [
     ("(cat wide/second_part.trace; tail -1 wide/second_part.trace | sed 's/ 2f/ 1f/') | tltool coherent --all 10", 1, "line 6 M3\nfaults 1\n", ""),
     ("(cat wide/second_part.trace; tail -1 wide/second_part.trace) | tltool coherent --all 10", 1, "line 6 M3\nline 7 M3\nfaults 2\n", ""),
     ("(cat wide/second_part.trace; tail -1 wide/second_part.trace) | tltool monitor --all 10", 1, "line 7 H2\nfaults 1\n", ""),
-    ("sed '1s/none/early/' wide/two_caches.trace | tltool coherent --all 3", 1, f"{F7.format(1)}faults 1\n", EARLY),
+    ("sed '1s/none/early/' wide/two_caches.trace | tltool coherent --all 3", 0, "coherent 11\n", ""),
     ("tltool chart wide/two_caches.trace | grep -c 'line 1 F7'", 0, "..", WIDE),
     # words of liberties
     *(
@@ -228,11 +231,11 @@ ROWS = [
     ("tltool monitor --allow early --allow drops two_caches.trace", 2, "", "error: .."),
     *((f"tltool {it} --allow early two_caches.trace", 2, "", "error: unexpected argument '--allow' found..") for it in ("decode", "run")),
     *((f"tltool explain --allow {it} two_caches.trace", 2, "", f"error: invalid value '{it}' for '--allow <LIBERTIES>': {LIBERTIES}\n..") for it in ("all", "drops,early")),
-    *((f"tltool explain --coherent --allow {it} two_caches.trace", 2, "", f"error: invalid value '{it}' for '--allow <LIBERTIES>': {LIBERTIES_TOGETHER}\n..") for it in ("early", "standard", "all")),
+    *((f"tltool explain --coherent --allow {it} two_caches.trace", 2, "", f"error: invalid value '{it}' for '--allow <LIBERTIES>': {LIBERTIES}\n..") for it in ("all", "drops,early")),
     ("tltool explain --allow early H12", 0, "H12 (ProbeAck, ProbeAckData): ..", ""),
     *(
-        (f"tltool coherent {options} --allow {word} two_caches.trace", 2, "", f"error: invalid value '{word}' for '--allow <LIBERTIES>': {LIBERTIES_TOGETHER}\n..")
-        for word in ("early", "standard", "early,drops", "drops,ids", "all") for options in ("", "--all 3", "--report r.json")
+        (f"tltool coherent {options} --allow {word} two_caches.trace", 2, "", f"error: invalid value '{word}' for '--allow <LIBERTIES>': {LIBERTIES}\n..")
+        for word in ("late", "drops,ids", "all") for options in ("", "--all 3", "--report r.json")
     ),
     ("tltool monitor --all 1 --all 2", 2, "", "error: .."),
     ("tltool explain --all 2 two_caches.trace", 2, "", "error: unexpected argument '--all' found.."),
@@ -478,10 +481,9 @@ ROWS = [
         "8 standard,drops C", "8 uncorrupt,standard C", "8 drops, C", "8 ,drops C", "8 early,,drops C", "8 early drops C", "8  none C",
         "2 none C", "32 none C", "8 none" + 17 * " C",
     )),
-    *((f"printf 'tltrace 4 8 early C\\n' {it}", 1, f"{F7.format(1)}{count}", EARLY) for it, count in (
-        ("| tltool coherent", ""), ("| tltool coherent --all 3", "faults 1\n"), ("| tltool coherent --report r.json", ""),
-        ("| tltool coherent --junit r.xml", ""), (">early.trace; tltool coherent early.trace", ""),
-        (">early.trace; tltool coherent --all 3 early.trace", "faults 1\n"), (">early.trace; tltool coherent --report r.json early.trace", ""),
+    *((f"printf 'tltrace 4 8 early C\\n' {it}", 0, "coherent 0\n", "") for it in (
+        "| tltool coherent", "| tltool coherent --all 3", "| tltool coherent --report r.json", "| tltool coherent --junit r.xml",
+        ">early.trace; tltool coherent early.trace", ">early.trace; tltool coherent --all 3 early.trace",
     )),
     *((judged(it, beats), 0, f"clean {len(beats)}\n", "") for it, _, beats in UNDER),
     *((judged("none", beats), 1, f"line {len(beats) + 1} {rule}\n", "") for _, rule, beats in UNDER),
@@ -503,17 +505,25 @@ ROWS = [
     ("sed 's/drops,//' rules/H13_drops_right.trace | tltool monitor", 1, "line 5 H13\n", ""),
     ("sed 's/,reports//' rules/H13_drops_right.trace | tltool monitor", 1, "line 5 L2\n", ""),
     ("tltool monitor rules/H13_drops.trace", 1, "line 5 H13\n", ""),
-    # all links together, under any liberties but `early`
-    *((judged(it, beats, "coherent"), 0, f"coherent {len(beats)}\n", "") for it, _, beats in UNDER if it != "early"),
-    *((judged("none", beats, "coherent"), 1, f"line {len(beats) + 1} {rule}\n", "") for it, rule, beats in UNDER if it != "early"),
-    *((allowed("tltrace 1 C", it, beats, command="coherent"), 0, f"coherent {len(beats)}\n", "") for it, _, beats in UNDER if it != "early"),
-    *((allowed("tltrace 1 C", it, beats, "--all 2", "coherent"), 0, f"coherent {len(beats)}\n", "") for it, _, beats in UNDER if it != "early"),
-    *((allowed("tltrace 1 C", "none", beats, "--all 2", "coherent"), 1, f"line {len(beats) + 1} {rule}\nfaults 1\n", "") for it, rule, beats in UNDER if it != "early"),
-    (allowed("tltrace 4 8 early C", "drops", [], command="coherent"), 1, F7.format(1), EARLY),
-    (judged("standard", [], "coherent"), 1, F7.format(1), EARLY),
-    (judged("early", [], "monitor"), 0, "clean 0\n", ""),
-    ("printf 'tltrace 4 8 early c\\n' | tltool coherent", 1, F7.format(1), ""),
-    ("printf 'tltrace 4 8 early C' | tltool coherent", 1, F7.format(1), ""),
+    # all links together, under any liberties
+    *((judged(it, beats, "coherent"), 0, f"coherent {len(beats)}\n", "") for it, _, beats in UNDER),
+    *((judged("none", beats, "coherent"), 1, f"line {len(beats) + 1} {rule}\n", "") for _, rule, beats in UNDER),
+    *((allowed("tltrace 1 C", it, beats, command="coherent"), 0, f"coherent {len(beats)}\n", "") for it, _, beats in UNDER),
+    *((allowed("tltrace 1 C", it, beats, "--all 2", "coherent"), 0, f"coherent {len(beats)}\n", "") for it, _, beats in UNDER),
+    *((allowed("tltrace 1 C", "none", beats, "--all 2", "coherent"), 1, f"line {len(beats) + 1} {rule}\nfaults 1\n", "") for _, rule, beats in UNDER),
+    (allowed("tltrace 4 8 early C", "drops", [], command="coherent"), 0, "coherent 0\n", ""),
+    (judged("standard", [], "coherent"), 0, "coherent 0\n", ""),
+    # answers that come before the message that they answer is complete
+    *((f"tltool coherent rules/{it}.trace", 1, f"line {line} {it[:2]}\n", "") for it, line in AT_FAULT_EARLY),
+    *((f"tltool coherent rules/{it}_right.trace", 0, f"coherent {count}\n", "") for it, count in RIGHT_EARLY),
+    *((f"sed '1s/4 8 early/2 8/' rules/{it}_right.trace | tltool coherent --allow early", 0, f"coherent {count}\n", "") for it, count in RIGHT_EARLY),
+    *((f"sed '1s/early/none/' rules/{it}_right.trace | tltool coherent", 1, f"line {line} {rule}\n", "") for it, line, rule in WITHOUT_EARLY),
+    ("tltool explain --coherent rules/M1_early.trace | tail -1", 0, "  link 00 holds Branch of block 00000000 since line 4 (a GrantAck before the last beat of its Grant)\n", ""),
+    ("tltool explain --coherent rules/M2_early_grant.trace | tail -1", 0, "  byte 00000008 is 00, and may be 05, set in line 3\n", ""),
+    ("tltool explain --coherent rules/M2_early_release.trace | tail -1", 0, "  byte 00000000 is 00, and may be 05, set in line 6\n", ""),
+    ("tltool explain --coherent rules/M3_early.trace | tail -1", 0, "  byte 00000010 is 00, and may be 05, set in line 3\n", ""),
+    ("tltool explain --coherent rules/M4_early.trace | tail -2", 0, "  its request was complete in line 5\n  link 00 holds Trunk of block 00000000 since line 3\n", ""),
+    ("sed '1s/4 8 early/2 8/' rules/M1_early.trace >late.trace; tltool explain --coherent --allow early late.trace | tail -1", 0, "  link 00 holds Branch of block 00000000 since line 4 (a GrantAck before the last beat of its Grant)\n", ""),
     (together("drops", ["00 B 6 2 6 00 00000000 ff - 0", "00 C 4 5 6 00 00000000 - 0", "01 D 4 0 6 00 01 0 - 0"]), 0, "coherent 7\n", ""),
     (together("drops", ["01 D 4 0 6 00 01 0 - 0"]), 1, "line 6 M1\n", ""),
     (together("denied", ["01 D 4 0 6 00 01 1 - 0"]), 0, "coherent 5\n", ""),

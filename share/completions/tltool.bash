@@ -15,11 +15,7 @@ _tltool() {
         return
     fi
     if [[ $previous == --allow ]]; then
-        if [[ ${COMP_WORDS[1]} == coherent ]]; then
-            COMPREPLY=($(compgen -W 'none ids sinks writer drops reports denied uncorrupt' -- "$current"))
-        else
-            COMPREPLY=($(compgen -W 'none standard ids sinks writer early drops reports denied uncorrupt' -- "$current"))
-        fi
+        COMPREPLY=($(compgen -W 'none standard ids sinks writer early drops reports denied uncorrupt' -- "$current"))
         return
     fi
     if [[ $previous == --profile ]]; then

@@ -16,7 +16,7 @@ complete -c tltool -n '__fish_seen_subcommand_from monitor' -l allow -x -a 'none
 complete -c tltool -n '__fish_seen_subcommand_from monitor' -l all -x -d 'number of lines at fault to stop at'
 complete -c tltool -n '__fish_seen_subcommand_from monitor' -l report -r -F -d 'write a report in JSON'
 complete -c tltool -n '__fish_seen_subcommand_from monitor' -l junit -r -F -d 'write a JUnit report'
-complete -c tltool -n '__fish_seen_subcommand_from coherent' -l allow -x -a 'none ids sinks writer drops reports denied uncorrupt' -d 'liberties in addition to those of the header'
+complete -c tltool -n '__fish_seen_subcommand_from coherent' -l allow -x -a 'none standard ids sinks writer early drops reports denied uncorrupt' -d 'liberties in addition to those of the header'
 complete -c tltool -n '__fish_seen_subcommand_from coherent' -l all -x -d 'number of lines at fault to stop at'
 complete -c tltool -n '__fish_seen_subcommand_from coherent' -l report -r -F -d 'write a report in JSON'
 complete -c tltool -n '__fish_seen_subcommand_from coherent' -l junit -r -F -d 'write a JUnit report'

@@ -53,7 +53,7 @@ use Rattle.tl_engine.specs.declared.status.Status.TheVariants.{Clean, Broken}
 use Rattle.tl_engine.specs.statement.Charted.{Charts, Draws, DrawsAfter, IsCharted, is_broken}
 use Rattle.tl_engine.specs.statement.Fault.{fault_name, fault_text}
 use Rattle.tl_engine.specs.statement.Judged.{JudgedAfter, JudgedBy, clean_text}
-use Rattle.tl_engine.specs.statement.JudgedLinks.{JudgedLinks, faults_by, faults_under, heads_by}
+use Rattle.tl_engine.specs.statement.JudgedLinks.{JudgedLinks, faults_by, faults_under}
 use Rattle.tl_engine.specs.statement.LinksHeader.{NamesAllowed}
 use Rattle.tl_engine.specs.statement.Width.{bytes_of}
 use Rattle.tl_engine.proofs.Decoded.{open_fault}
@@ -151,7 +151,7 @@ module _ {w : ℕ} (allow : Liberties) (old : Charting w) (mid : Monitor w) (lin
       )) in (
         subst (λ (f : Fault). JudgedLinks false allow (lines ++ line ∷ more)
             (before ++ (was ++ fault_text (length lines + 1) f)) Broken) (sym fault_is)
-            (bad_line (heads_by false allow) (faults_by false) clean_text (KnowsBeats false (OfLinks old.monitor)) lines
+            (bad_line (NamesAllowed allow) (faults_by false) clean_text (KnowsBeats false (OfLinks old.monitor)) lines
             before was line (Breaks rule) (judged_in k) (inr (link, x, spells, on_links)) more),
         subst (λ (g : Gatherer). Draws allow g.window (lines ++ line ∷ more) (drawn_of g) new.fault) (sym gatherer)
             drawn_here,
@@ -162,7 +162,7 @@ pub reads_none : {w : ℕ} (allow : Liberties) (c : Charting w) (line : List ℕ
     → line_fault w line ≡ Some fault → GathersLine allow c c line (Some (Line fault))
 unfolding DrawsAfter
 reads_none allow c line fault is = λ lines before was k more. (
-  bad_line (heads_by false allow) (faults_by false) clean_text (KnowsBeats false (OfLinks c.monitor)) lines before was
+  bad_line (NamesAllowed allow) (faults_by false) clean_text (KnowsBeats false (OfLinks c.monitor)) lines before was
       line (Line fault) (judged_in k) (inl (fault, is, refl)) more,
   k.draws (line ∷ more) (drawn_of c.gatherer) c.fault (inr (k.gathers.drawn_is, inl (fault, is, k.unfaulted))),
 )
@@ -238,7 +238,7 @@ module _ (h : ChartLines) (alloc : Global) (g : Gatherer) (is : h.judge ≡ Wait
       pub no_header : (was : List ℕ) → Stops KnowsChart (JudgedLinks false h.allow) h line was was Header
       no_header was = λ lines before known more.
           let k : KnowsJudge h.allow (Waiting alloc g) lines (before ++ was) = rw is at known in
-          header_unread (heads_by false h.allow) (faults_by false) clean_text line before was lines none k.0 k.1 more
+          header_unread (NamesAllowed h.allow) (faults_by false) clean_text line before was lines none k.0 k.1 more
 
       pub no_header_ends : Ends KnowsChart EndsChart h h line
       unfolding Draws
@@ -250,7 +250,7 @@ module _ (h : ChartLines) (alloc : Global) (g : Gatherer) (is : h.judge ≡ Wait
       → Finishes KnowsChart (JudgedLinks false h.allow) h count was was (Some Header)
   chart_missing count was = λ lines before known counted.
       let k : KnowsJudge h.allow (Waiting alloc g) lines (before ++ was) = rw is at known in
-      header_unseen (heads_by false h.allow) (faults_by false) clean_text before was lines k.0 k.1
+      header_unseen (NamesAllowed h.allow) (faults_by false) clean_text before was lines k.0 k.1
 
 -- ---- the end
 

@@ -24,14 +24,15 @@ use Rattle.tl_engine.specs.declared.fault.Fault.TheVariants.{Header, Line}
 use Rattle.tl_engine.specs.statement.Decoded.{is_width}
 use Rattle.tl_engine.specs.statement.Fault.{fault_text}
 use Rattle.tl_engine.specs.statement.Judged.{JudgedAfter}
-use Rattle.tl_engine.proofs.LinksHeaders.{heads_or_none, open_heads}
+use Rattle.tl_engine.proofs.LinksHeaders.{allowed_or_none, open_allowed}
 use Rattle.tl_engine.specs.code.TraceJudging.{JudgesBeat, KnowsBeats}
 use Rattle.tl_engine.specs.code.LinkWatching.{KnowsJudge, KnowsLines, KnowsTrace, Watches, judged_for}
 use Rattle.tl_engine.specs.declared.link_lines.LinkJudge.{LinkJudge}
 use Rattle.tl_engine.specs.declared.link_lines.LinkJudge.TheVariants.{Waiting, Four, Eight, Sixteen}
 use Rattle.tl_engine.specs.declared.link_lines.LinkLines.{LinkLines}
 use Rattle.tl_engine.specs.declared.trace_judge.TraceJudge.{TraceJudge}
-use Rattle.tl_engine.specs.statement.JudgedLinks.{JudgedLinks, LinksSoFar, faults_by, heads_by}
+use Rattle.tl_engine.specs.statement.JudgedLinks.{JudgedLinks, LinksSoFar, faults_by}
+use Rattle.tl_engine.specs.statement.LinksHeader.{NamesAllowed}
 use Rattle.tl_params.specs.declared.level.Level.{Level}
 use Rattle.tl_params.specs.declared.liberties.Liberties.{Liberties}
 use Rattle.tl_params.specs.declared.width.Width.{Width}
@@ -41,21 +42,21 @@ use Rattle.tl_rules.specs.statement.Conformance.{Trace}
 
 module _ (h : LinkLines) (alloc : Global) (is : h.judge ≡ Waiting alloc) where
   pub no_header : (line was : List ℕ)
-      → ((width : Width) (may : Liberties) (levels : List Level) → ¬ heads_by h.together h.allow line width may levels)
+      → ((width : Width) (may : Liberties) (levels : List Level) → ¬ NamesAllowed h.allow line width may levels)
       → Stops KnowsLines (JudgedLinks h.together h.allow) h line was was Header
   no_header line was none = λ lines before known more.
       let k : KnowsJudge h.together h.allow (Waiting alloc) lines (before ++ was) = rw is at known in
-      header_unread (heads_by h.together h.allow) (faults_by h.together) (said_by h.together) line before was lines none k.0 k.1 more
+      header_unread (NamesAllowed h.allow) (faults_by h.together) (said_by h.together) line before was lines none k.0 k.1 more
 
   pub no_lines : (count : ℕ) (was : List ℕ)
       → Finishes KnowsLines (JudgedLinks h.together h.allow) h count was was (Some Header)
   no_lines count was = λ lines before known counted.
       let k : KnowsJudge h.together h.allow (Waiting alloc) lines (before ++ was) = rw is at known in
-      header_unseen (heads_by h.together h.allow) (faults_by h.together) (said_by h.together) before was lines k.0 k.1
+      header_unseen (NamesAllowed h.allow) (faults_by h.together) (said_by h.together) before was lines k.0 k.1
 
   pub header_open : (line said : List ℕ) → IsOpen line
       → Stops KnowsLines (JudgedLinks h.together h.allow) h line said said Header
-  header_open line said ends = no_header line said (open_heads h.together h.allow line ends)
+  header_open line said ends = no_header line said (open_allowed h.allow line ends)
 
 -- ---- the line of a beat
 
@@ -89,11 +90,11 @@ module _ {w : ℕ} (together : Bool) (allow : Liberties) (wrap : TraceJudge w �
       let k = into old lines (before ++ was) known in
       let (link, beat, spells, good, knows) = watches k.levels k.may k.trace k.known in
       out new (lines ++ line ∷ []) (before ++ was)
-      (good_beat (heads_by together allow) (faults_by together) (said_by together) (KnowsBeats together old) lines (KnowsBeats together new) (before ++ was) line
+      (good_beat (NamesAllowed allow) (faults_by together) (said_by together) (KnowsBeats together old) lines (KnowsBeats together new) (before ++ was) line
       k link beat spells good knows)
   judges old new line was (Some fault) watches = λ lines before known.
       let k = into old lines (before ++ was) known in
-      bad_line (heads_by together allow) (faults_by together) (said_by together) (KnowsBeats together old) lines before was line fault k
+      bad_line (NamesAllowed allow) (faults_by together) (said_by together) (KnowsBeats together old) lines before was line fault k
       (watches k.levels k.may k.trace k.known).0
 
   pub watched : {E : Type 0} (old new : TraceJudge w) (line was : List ℕ) (r : Result (Option Fault) E)
@@ -109,7 +110,7 @@ pub open_so : {w : ℕ} (together : Bool) (allow : Liberties) (m : TraceJudge w)
     (k : KnowsTrace together allow m lines (before ++ said)) → IsOpen line → (more : List (List ℕ))
     → JudgedLinks together allow (lines ++ line ∷ more) (before ++ (said ++ fault_text (length lines + 1) (Line F1))) Broken
 open_so {w} together allow m lines before said line k is =
-    bad_line (heads_by together allow) (faults_by together) (said_by together) (KnowsBeats together m) lines before said line (Line F1) k
+    bad_line (NamesAllowed allow) (faults_by together) (said_by together) (KnowsBeats together m) lines before said line (Line F1) k
     (inl (F1, open_fault w line is, refl))
 
 open_after : (together : Bool) (allow : Liberties) (judge : LinkJudge) → ((alloc : Global) → judge ≡ Waiting alloc → ⊥)
@@ -130,7 +131,7 @@ pub end_so : {w : ℕ} (together : Bool) (allow : Liberties) (m : TraceJudge w) 
     → is ≡ was ++ end_by together (count - 1) → KnowsTrace together allow m lines (before ++ was) → count ≡ length lines
     → JudgedLinks together allow lines (before ++ is) Clean
 end_so together allow m count lines before was is says k counted =
-    all_judged (heads_by together allow) (faults_by together) (said_by together) (KnowsBeats together m) lines count before was is
+    all_judged (NamesAllowed allow) (faults_by together) (said_by together) (KnowsBeats together m) lines count before was is
     (says ∙ ap (λ (x : List ℕ). was ++ x) (said_at_end together (count - 1))) k counted
 
 end_after : (together : Bool) (allow : Liberties) (judge : LinkJudge) → ((alloc : Global) → judge ≡ Waiting alloc → ⊥)
@@ -156,13 +157,13 @@ more_so : (together : Bool) (allow : Liberties) (w : ℕ) → IsTrue (is_width w
     → KnowsTrace together allow m lines text → (more : List (List ℕ)) → (rest : List ℕ) × (status : Status)
     × JudgedLinks together allow (lines ++ more) (text ++ rest) status
 more_so together allow w width m lines text k more =
-    judged_behind (heads_by together allow) (faults_by together) (said_by together) (KnowsBeats together m) width lines text k more
+    judged_behind (NamesAllowed allow) (faults_by together) (said_by together) (KnowsBeats together m) width lines text k more
 
 total_so : (together : Bool) (allow : Liberties) (judge : LinkJudge) (lines : List (List ℕ)) (text : List ℕ)
     → KnowsJudge together allow judge lines text → (more : List (List ℕ)) → (rest : List ℕ) × (status : Status)
     × JudgedLinks together allow (lines ++ more) (text ++ rest) status
 total_so together allow (Waiting alloc) lines text known more =
-    rw (known.0, known.1) (judged_whole (heads_by together allow) (faults_by together) (said_by together) (heads_or_none together allow) more)
+    rw (known.0, known.1) (judged_whole (NamesAllowed allow) (faults_by together) (said_by together) (allowed_or_none allow) more)
 total_so together allow (Four m) lines text k more = more_so together allow 4 refl m lines text k more
 total_so together allow (Eight m) lines text k more = more_so together allow 8 refl m lines text k more
 total_so together allow (Sixteen m) lines text k more = more_so together allow 16 refl m lines text k more

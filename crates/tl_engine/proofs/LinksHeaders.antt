@@ -1,8 +1,8 @@
 -- Headers that name what links may do: what was spelled is read, and what was read was spelled so.
 use denote.Ref.{Bor}
-use Rattle.std.proofs.Common.{◌≡◌, ◌≢◌, Bool, true≢false, ◌≤◌, true, append_assoc, length-append, ℕ, List, [], ◌∷◌, ◌++◌, length, refl, ap, sym, ◌∙◌, arith, codes, inl, inr}
+use Rattle.std.proofs.Common.{◌≡◌, ◌≢◌, ◌≤◌, true, append_assoc, length-append, ℕ, List, [], ◌∷◌, ◌++◌, length, refl, ap, sym, ◌∙◌, arith, codes, inl, inr}
 use Rattle.std.specs.Io.BufRead.{ends_with_byte}
-use Rattle.std.specs.Prelude.{◌⊎◌, false, IfSome, MatchOption, Option, Some, None}
+use Rattle.std.specs.Prelude.{◌⊎◌, IfSome, MatchOption, Option, Some, None}
 use Rattle.tl_beat.proofs.SpelledLines.{ends_with_byte-line}
 use Rattle.tl_command.proofs.LibertyWords.{liberties_again, liberties_taken, word-short}
 use Rattle.tl_command.specs.code.LibertyReading.{liberties_at}
@@ -16,9 +16,7 @@ use Rattle.tl_engine.specs.declared.header.Header.{Header}
 use Rattle.tl_engine.specs.statement.Trace.{IsHeader, SpellsHeader, SpellsLevels, levels_text}
 use Rattle.tl_engine.specs.code.HeadReading.{front_at, with_eight, with_four, with_sixteen}
 use Rattle.tl_engine.specs.declared.links_header.LinksHeader.{LinksHeader}
-use Rattle.tl_engine.specs.code.TraceJudging.{ReadsHeader}
-use Rattle.tl_engine.specs.statement.LinksHeader.{IsLinks, NamesAllowed, NamesEarly, NamesLinks, SpellsFourth, SpellsNamed, fourth_front}
-use Rattle.tl_engine.specs.statement.JudgedLinks.{heads_by}
+use Rattle.tl_engine.specs.statement.LinksHeader.{IsLinks, NamesAllowed, NamesLinks, SpellsFourth, SpellsNamed, fourth_front}
 use Rattle.tl_params.proofs.Headers.{after_taken}
 use Rattle.tl_params.proofs.Options.{some_pair}
 use Rattle.tl_params.specs.code.HeaderReading.{after_word}
@@ -255,15 +253,6 @@ module _ (bytes : List ℕ) where
 pub named_or_none : (bytes : List ℕ) → NamedOrNone bytes
 named_or_none bytes = at_liberties bytes (liberties_at bytes) refl
 
--- bytes name this once
-pub named_so : (bytes : List ℕ) (may own : Liberties) (levels others : List Level) → SpellsNamed bytes may levels
-    → SpellsNamed bytes own others → may ≡ own
-named_so bytes may own levels others h g =
-    let read = liberties_again h.word (tail levels) may h.spells (lacks_comma levels h.so_many) in
-    let again = liberties_again g.word (tail others) own g.spells (lacks_comma others g.so_many) in
-    (some_pair (may, tail levels) (own, tail others)
-    (sym (ap liberties_at h.are_bytes ∙ read) ∙ ap liberties_at g.are_bytes ∙ again)).0
-
 abbrev FourthOrNone : List ℕ → Type 0
 FourthOrNone line =
     ((width : Width) × (may : Liberties) × (levels : List Level) × SpellsFourth line width may levels)
@@ -341,84 +330,12 @@ allowed_or_none allow line = go (links_or_none line)
     go (inl (width, own, levels, named)) = inl (width, united own allow, levels, (own, named, refl))
     go (inr none) = inr (λ width may levels named. none width named.0 levels named.1)
 
--- ---- of links that are judged each by itself or all together
-
--- a line names what the links may do once
-named_once : (line : List ℕ) (wide width : Width) (may own : Liberties) (levels others : List Level)
-    → NamesLinks line wide may levels → NamesLinks line width own others → may ≡ own
-named_once line wide width may own levels others (inl (p, s, is)) (inl (q, u, of)) =
-    let e = sym (header_again line wide p levels s) ∙ header_again line width q others u in
-    let (named, same) = some_pair ((wide, p), levels) ((width, q), others) e in
-    is ∙ ap (λ (x : Width × Profile). liberties_of x.1) named ∙ sym of
-named_once line wide width may own levels others (inl (p, s, is)) (inr h) =
-    absurd (versions_apart line wide width p own levels others s h)
-named_once line wide width may own levels others (inr h) (inl (q, u, of)) =
-    absurd (versions_apart line width wide q may others levels u h)
-named_once line wide width may own levels others (inr h) (inr g) =
-    let is = fourth_at line wide may levels h in
-    named_so (h.word ++ tail levels) may own levels others
-    (named_behind line wide may levels h wide (h.word ++ tail levels) is)
-    (named_behind line width own others g wide (h.word ++ tail levels) is)
-
--- links that are judged together name nothing where their answers may be early
-pub none_early : (allow : Liberties) (line : List ℕ) (wide : Width) (own : Liberties) (levels : List Level)
-    → NamesLinks line wide own levels → (united own allow).early ≡ true
-    → (width : Width) (may : Liberties) (others : List Level) → ¬ heads_by true allow line width may others
-none_early allow line wide own levels named early width may others ((again, also, same), late) =
-    let one = named_once line wide width own again levels others named also in
-    true≢false (sym early ∙ ap (λ (l : Liberties). (united l allow).early) one
-    ∙ ap (λ (l : Liberties). l.early) (sym same) ∙ late)
-
-pub heads_or_none : (together : Bool) (allow : Liberties) (line : List ℕ) → IsReadable (heads_by together allow) line
-heads_or_none false allow line = allowed_or_none allow line
-heads_or_none true allow line = go (links_or_none line)
-  where
-    go : IsReadable NamesLinks line → IsReadable (heads_by true allow) line
-    go (inr none) = inr (λ width may levels named. none width named.0.0 levels named.0.1)
-    go (inl (width, own, levels, named)) = late (united own allow).early refl
-      where
-        late : (early : Bool) → (united own allow).early ≡ early → IsReadable (heads_by true allow) line
-        late false is = inl (width, united own allow, levels, ((own, named, refl), is))
-        late true is = inr (none_early allow line width own levels named is)
-
 pub open_allowed : (allow : Liberties) (line : List ℕ) → IsOpen line → (width : Width) (may : Liberties)
     (levels : List Level) → ¬ NamesAllowed allow line width may levels
 open_allowed allow line is width may levels (own, named, same) = open_links line is width own levels named
 
-pub open_heads : (together : Bool) (allow : Liberties) (line : List ℕ) → IsOpen line → (width : Width) (may : Liberties)
-    (levels : List Level) → ¬ heads_by together allow line width may levels
-open_heads false allow line is width may levels named = open_allowed allow line is width may levels named
-open_heads true allow line is width may levels (named, late) = open_allowed allow line is width may levels named
-
--- ---- the header of links that are judged so
-
 -- nothing is named by a line that names no links
-pub none_for : (together : Bool) (allow : Liberties) (line : List ℕ)
+pub none_for : (allow : Liberties) (line : List ℕ)
     → ((width : Width) (may : Liberties) (levels : List Level) → ¬ NamesLinks line width may levels)
-    → (width : Width) (may : Liberties) (levels : List Level) → ¬ heads_by together allow line width may levels
-none_for false allow line none width may levels (own, named, same) = none width own levels named
-none_for true allow line none width may levels ((own, named, same), late) = none width own levels named
-
--- links that may answer early, by a header that was read, and those that may not
-pub early_read : (allow : Liberties) (line : List ℕ) (found : Option LinksHeader) (header : LinksHeader) (soon : Bool)
-    → ReadsHeader false allow line found → found ≡ Some header → soon ≡ header.may.early → soon ≡ true
-    → NamesEarly allow line
-early_read allow line found header soon reads is same early =
-    let names : NamesAllowed allow line header.width header.may header.levels.items = rw is at reads in
-    (header.width, header.may, header.levels.items, names, sym same ∙ early)
-
-pub none_read_early : (allow : Liberties) (line : List ℕ) (found : Option LinksHeader)
-    → ReadsHeader false allow line found → found ≡ None → ¬ NamesEarly allow line
-none_read_early allow line found reads is (width, may, levels, names, early) =
-    let none : (width : Width) (may : Liberties) (levels : List Level) → ¬ NamesAllowed allow line width may levels =
-    rw is at reads in
-    none width may levels names
-
-pub late_read : (allow : Liberties) (line : List ℕ) (found : Option LinksHeader) (header : LinksHeader) (soon : Bool)
-    → ReadsHeader false allow line found → found ≡ Some header → soon ≡ header.may.early → soon ≡ false
-    → ¬ NamesEarly allow line
-late_read allow line found header soon reads is same late (width, may, levels, (own, named, of), early) =
-    let names : NamesAllowed allow line header.width header.may header.levels.items = rw is at reads in
-    let one = named_once line header.width width names.0 own header.levels.items levels names.1 named in
-    let alike : header.may ≡ may = names.2 ∙ ap (λ (l : Liberties). united l allow) one ∙ sym of in
-    true≢false (sym early ∙ ap (λ (l : Liberties). l.early) (sym alike) ∙ sym same ∙ late)
+    → (width : Width) (may : Liberties) (levels : List Level) → ¬ NamesAllowed allow line width may levels
+none_for allow line none width may levels (own, named, same) = none width own levels named

@@ -38,19 +38,13 @@ use Rattle.tl_engine.specs.declared.trace_judge.TraceJudge.{TraceJudge}
 use Rattle.tl_engine.specs.statement.Coherent.{fault_of_breach}
 use Rattle.tl_engine.specs.statement.Explained.{AreLinesOf, SpellsTrace}
 use Rattle.tl_engine.specs.statement.Judged.{IsAtFault}
-use Rattle.tl_engine.specs.statement.JudgedLinks.{faults_by, heads_by}
+use Rattle.tl_engine.specs.statement.JudgedLinks.{faults_by}
 use Rattle.tl_engine.specs.statement.LinksHeader.{NamesAllowed}
 use Rattle.tl_engine.specs.statement.Width.{bytes_of}
 use Rattle.tl_engine.proofs.OneText.{same_beat, spells_or_fails}
 use Rattle.tl_engine.proofs.Replaying.{count_lines}
 
 -- ---- the trace
-
--- a header of links that are judged so names what they may do
-pub names-allowed : (together : Bool) (allow : Liberties) (line : List ℕ) (wide : Width) (may : Liberties)
-    (levels : List Level) → heads_by together allow line wide may levels → NamesAllowed allow line wide may levels
-names-allowed true allow line wide may levels names = names.0
-names-allowed false allow line wide may levels names = names
 
 -- a header alone
 pub traced-first : {w : ℕ} (together : Bool) (allow : Liberties) (judge : TraceJudge w) (line : List ℕ) (wide : Width)

@@ -212,7 +212,7 @@ fn begin(
 ) -> Result<Option<ChartJudge>, AllocError>
     ensures { IfOk result (BeginsChart allow line.now) }
 {
-    let Some(header) = read_for(false, allow, line) else {
+    let Some(header) = read_for(allow, line) else {
         return Ok(None);
     };
     let judge = match header.width {

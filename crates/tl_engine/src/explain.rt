@@ -329,7 +329,7 @@ fn reasons<R: Read>(
     ensures fault { IfErr result (λ fault. fault ≢ ExplainFault.Tool ToolFault.Write) }
 {
     match &found.header {
-        None => explain_header(alloc, coherent, allow, reader, out),
+        None => explain_header(alloc, reader, out),
         Some(header) => match header.width {
             Width::Four => {
                 explain_found::<4, R>(

@@ -7,10 +7,6 @@ use tl_explain::shown::{Span, append_line, shown};
 use tl_params::config::MOST_CLIENTS;
 use tl_params::header::{front_level, front_version};
 
-/// The reason why a header that names early answers is at fault if all links are judged together.
-const EARLY_TOLD: &str =
-    "  coherent takes no early answers: the rules between links don't say which bytes a response may bring before its request is complete; monitor judges each link by itself\n";
-
 /// The place in a header at which reading stopped, and the form that was expected there.
 #[derive(Clone, Copy)]
 struct Stop {
@@ -170,24 +166,4 @@ pub fn tell(line: &[u8], out: &mut Vec<u8>) -> io::Result<()> {
         None => Ok(()),
         Some(guess) => write!(out, "  {guess}\n"),
     }
-}
-
-/// The places of the word that names the liberties, in a header of the fourth form.
-fn word_span(line: &[u8]) -> Span {
-    let bytes = line.strip_prefix(b"tltrace ").unwrap_or(line);
-    let word = behind_width(bytes).unwrap_or(bytes);
-    let rest = match front_liberties(word) {
-        None => word,
-        Some((_, rest)) => rest,
-    };
-    Span {
-        from: before(line, word),
-        to: before(line, rest),
-    }
-}
-
-/// Appends a header that names early answers, and the reason why it is at fault if all links are judged together.
-pub fn tell_early(line: &[u8], out: &mut Vec<u8>) -> io::Result<()> {
-    append_line(line, word_span(line), out)?;
-    out.write_all(EARLY_TOLD.as_bytes())
 }

@@ -67,7 +67,7 @@ fn begin(
     ensures begins { IfOk result (Begins together allow line.now) }
     ensures traced { IfOk result (λ begun. IfSome begun (λ new. TracedBy together allow new (line.now ∷ []))) }
 {
-    let Some(header) = read_for(together, allow, line) else {
+    let Some(header) = read_for(allow, line) else {
         return Ok(None);
     };
     let judge = match header.width {
@@ -116,7 +116,7 @@ impl LinkLines {
 
     /// The header in a first line, if its links can be judged by this judge.
     pub fn header(&self, line: &[u8]) -> Option<LinksHeader> {
-        read_for(self.together, self.allow, line)
+        read_for(self.allow, line)
     }
 
     /// Judges the next line as `handle_line` does, and appends nothing. A fault is one after the trace that the lines

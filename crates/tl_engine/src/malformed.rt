@@ -6,14 +6,13 @@ ghost use Rattle.tl_beat.specs.statement.Width.{IsWidth};
 use crate::engine::{new_chunk, next_piece};
 use crate::explain_fault::ExplainFault;
 use crate::heading;
+use crate::links_header::read_links;
 use crate::status::ToolFault;
-use crate::trace_judge::{names_early, read_for};
 use std::alloc::Global;
 use std::io::Read;
 use tl_beat::fault::LineFault;
 use tl_beat::read::read_line;
 use tl_explain::spelling;
-use tl_params::liberties::Liberties;
 
 /// The number of bytes of a line that are read.
 const LOOKED_AT: usize = 257;
@@ -45,26 +44,19 @@ pub fn fetch<R: Read>(alloc: Global, reader: &mut R, number: u64) -> Result<Vec<
     Ok(line)
 }
 
-/// Explains a first line that is no header, or one with `early` if all links are judged together. `Changed` if it is a
-/// header without fault.
+/// Explains a first line that is no header. `Changed` if it is one.
 pub(crate) fn explain_header<R: Read>(
     alloc: Global,
-    together: bool,
-    allow: Liberties,
     reader: &mut R,
     out: &mut Vec<u8>,
 ) -> Result<(), ExplainFault>
     ensures fault { IfErr result (λ fault. fault ≢ ExplainFault.Tool ToolFault.Write) }
 {
     let line = fetch(alloc, reader, 1)?;
-    if line.len() <= 256 && read_for(together, allow, &line).is_some() {
+    if line.len() <= 256 && read_links(&line).is_some() {
         return Err(ExplainFault::Changed);
     }
-    if line.len() <= 256 && names_early(allow, &line) {
-        heading::tell_early(&line, out)?;
-    } else {
-        heading::tell(&line, out)?;
-    }
+    heading::tell(&line, out)?;
     Ok(())
 }
 

@@ -2,7 +2,7 @@
 
 ghost use Rattle.std.specs.Prelude.{◌≡◌, ◌++◌, ◌∷◌, [], ℕ, OnOk, OnErr, IfErr, codes};
 ghost use Rattle.std.specs.Io.KnownBytes.{Appends};
-ghost use Rattle.tl_engine.specs.statement.Fault.{changed_text, early_text, once_text, open_fault_text};
+ghost use Rattle.tl_engine.specs.statement.Fault.{changed_text, once_text, open_fault_text};
 ghost use Rattle.tl_engine.specs.statement.Parts.{AppendsPart, AppendsShort};
 
 use crate::status::ToolFault;
@@ -67,19 +67,6 @@ pub fn write_changed<W: Write>(name: &str, writer: &mut W) -> Result<(), ToolFau
     ensures fault { IfErr result (λ fault. fault ≡ ToolFault.Write) }
 {
     write_around(b"tltool: ", name, b" changed while it was read\n", writer)
-}
-
-/// Writes the line for standard error if all links are judged together and the header names early answers. The only
-/// fault is `Write`.
-pub fn write_early<W: Write>(writer: &mut W) -> Result<(), ToolFault>
-    ensures ok { OnOk result (Appends (W.contents writer.old) (W.contents writer.new) early_text) }
-    ensures err { OnErr result (AppendsShort (W.contents writer.old) (W.contents writer.new) early_text) }
-    ensures fault { IfErr result (λ fault. fault ≡ ToolFault.Write) }
-{
-    write_all(
-        writer,
-        b"tltool: the header names early answers, which coherent doesn't take\n",
-    )
 }
 
 /// Writes the line for standard error if a file of this name can be read only once, such as a pipe. The only fault is

@@ -35,7 +35,7 @@ impl<const W: usize> Replay<W> {
     fn take_header(&mut self, line: &[u8]) -> bool
         ensures { result ≡ true → TakesHeader self.old self.new line.now }
     {
-        let Some(header) = read_for(false, self.allow, line) else {
+        let Some(header) = read_for(self.allow, line) else {
             return false;
         };
         if header.may != self.may || bytes(header.width) != W {

@@ -1,13 +1,12 @@
 //! Judges the beats of a trace in turn, under the liberties of its links.
 
-ghost use Rattle.std.specs.Prelude.{◌≡◌, Bool, false, true, [], List, IfOk, IfSome};
+ghost use Rattle.std.specs.Prelude.{◌≡◌, Bool, [], List, IfOk};
 ghost use Rattle.tl_beat.specs.statement.Width.{IsWidth};
 ghost use Rattle.tl_monitor.specs.statement.Knows.{begins_on, request_on};
 ghost use Rattle.tl_params.specs.declared.level.Level.{Level};
 ghost use Rattle.tl_params.specs.declared.liberties.Liberties.{Liberties};
 ghost use Rattle.tl_rules.specs.statement.Conformance.{Trace};
 ghost use Rattle.tl_engine.specs.code.TraceJudging.{JudgesBeat, KnowsBeats, ReadsHeader};
-ghost use Rattle.tl_engine.specs.statement.LinksHeader.{NamesEarly};
 
 use crate::fault::Fault;
 use crate::links_header::{LinksHeader, read_links};
@@ -27,39 +26,22 @@ pub enum TraceJudge<const W: usize> {
     OfAll(Judge<W>),
 }
 
-/// Reads the header of a trace that is judged link by link, or with all links together. The links have the liberties
-/// that it names and those that are allowed. None if the line is no header, or if all links are judged together and
-/// `early` is among the liberties.
-pub fn read_for(together: bool, allow: Liberties, line: &[u8]) -> Option<LinksHeader>
-    ensures reads { ReadsHeader together allow line.now result }
-    ensures late { IfSome result (λ header. together ≡ true → header.may.early ≡ false) }
+/// Reads the header of a trace. The links have the liberties that it names and those that are allowed. None if the line
+/// is no header.
+pub fn read_for(allow: Liberties, line: &[u8]) -> Option<LinksHeader>
+    ensures { ReadsHeader allow line.now result }
 {
     let Some(header) = read_links(line) else {
         return None;
     };
     let may = header.may.union(allow);
-    if together && may.early {
-        return None;
-    }
     Some(LinksHeader { may, ..header })
-}
-
-/// Whether a first line is a header whose links may answer early. All links together can't be judged with it.
-pub fn names_early(allow: Liberties, line: &[u8]) -> bool
-    ensures early { result ≡ true → NamesEarly allow line.now }
-    ensures late { result ≡ false → ¬ NamesEarly allow line.now }
-{
-    match read_for(false, allow, line) {
-        None => false,
-        Some(header) => header.may.early,
-    }
 }
 
 impl<const W: usize> TraceJudge<W> {
     /// A judge of the links that a header names, 1 to 16, which has judged no beat.
     pub fn new(alloc: Global, together: bool, header: &LinksHeader) -> Result<Self, AllocError>
-        requires width { IsWidth W }
-        requires late { together ≡ true → header.now.may.early ≡ false }
+        requires { IsWidth W }
         ensures { IfOk result (λ judge. KnowsBeats together judge header.now.levels.items header.now.may []) }
     {
         let levels = header.levels.as_slice();

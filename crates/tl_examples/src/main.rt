@@ -69,7 +69,7 @@ const TRACES: [&str; 45] = [
 ];
 
 /// The traces whose links are judged together.
-const TOGETHER: [&str; 27] = [
+const TOGETHER: [&str; 26] = [
     "two_caches.trace",
     "wrong_report.trace",
     "rules/M1.trace",
@@ -96,7 +96,21 @@ const TOGETHER: [&str; 27] = [
     "rules/M4_shown.trace",
     "rules/M4_shown_early.trace",
     "rules/M4_shown_right.trace",
+];
+
+/// The traces whose links may answer early, which are judged together.
+const EARLY: [&str; 11] = [
     "rules/H8_early_right.trace",
+    "rules/M1_early.trace",
+    "rules/M1_early_right.trace",
+    "rules/M2_early_grant.trace",
+    "rules/M2_early_grant_right.trace",
+    "rules/M2_early_release.trace",
+    "rules/M2_early_release_right.trace",
+    "rules/M3_early.trace",
+    "rules/M3_early_right.trace",
+    "rules/M4_early.trace",
+    "rules/M4_early_right.trace",
 ];
 
 /// The schedules that are played.
@@ -355,6 +369,7 @@ fn main(rt: HostRuntime) -> ExitCode {
         && tell_all(&rt, Command::Coherent, &TOGETHER, b" coherent: ")
         && judge_all(&rt, false, &WIDE, b": ")
         && judge_all(&rt, true, &WIDE, b" coherent: ")
+        && judge_all(&rt, true, &EARLY, b" coherent: ")
         && tell_all(&rt, run, &SCHEDULES, b":\n")
         && tell_all(&rt, trace, &TRACED, b" --trace:\n")
         && explain_all(&rt, false, &TRACES)
@@ -362,6 +377,7 @@ fn main(rt: HostRuntime) -> ExitCode {
         && explain_all(&rt, false, &PENDING)
         && explain_all(&rt, false, &LIBERTIES)
         && explain_all(&rt, true, &TOGETHER)
+        && explain_all(&rt, true, &EARLY)
         && tell_names(&rt, &NAMES)
     {
         ExitCode::SUCCESS

@@ -3,7 +3,6 @@ use Rattle.std.proofs.Common.{◌≡◌, ℕ, ◌==◌, ◌&&◌, [], ◌∷◌,
 use Rattle.std.proofs.Common.{append-nil}
 use Rattle.std.specs.Prelude.{Option, Some, None, if◌then◌else◌, is_some, unwrap_or}
 use Rattle.tl_beat.specs.declared.beat.Beat.{Beat}
-use Rattle.tl_beat.specs.declared.beat.Beat.TheVariants as beat
 use Rattle.tl_beat.specs.declared.beat.Link.{Link}
 use Rattle.tl_burst.specs.statement.Messages.{History}
 use Rattle.tl_params.specs.declared.liberties.Liberties.{Liberties}
@@ -13,18 +12,16 @@ use Rattle.tl_params.specs.declared.profile.Profile.{Profile}
 use Rattle.tl_params.specs.declared.profile.Profile.TheVariants as profile
 use Rattle.tl_params.specs.statement.Liberties.{liberties_of, no_liberties}
 use Rattle.tl_rules.specs.statement.Conformance.{Trace, on_link}
-use Rattle.tl_rules.specs.statement.History.{ends, says_held}
+use Rattle.tl_rules.specs.statement.History.{ends}
 use Rattle.tl_rules.specs.statement.Liberties.{held_under, says_held_under}
 use Rattle.tl_rules.proofs.Profiles.{held-of}
 use Rattle.tl_explain.specs.declared.held.Held.{Held}
 use Rattle.tl_explain.specs.declared.told.Mention.{Mention}
 use Rattle.tl_explain.specs.declared.turns.Moment.{Moment}
 use Rattle.tl_explain.specs.code.Recorded.{IsHeld, IsMoment}
-use Rattle.tl_explain.specs.statement.Evidence.{is_saying, is_saying_under, last_saying, last_saying_under, last_where}
-use Rattle.tl_explain.specs.statement.Evidence.{left_of, mention_of, said_under, told}
-use Rattle.tl_explain.specs.statement.Since.{HasNone, IsHeldSince, IsHeldSinceUnder}
-use Rattle.tl_explain.proofs.Places.{held_since}
-use Rattle.tl_explain.proofs.Rests.{held_left}
+use Rattle.tl_explain.specs.statement.Evidence.{is_saying_under, last_saying_under, last_where}
+use Rattle.tl_explain.specs.statement.Evidence.{mention_of, said_under, told}
+use Rattle.tl_explain.specs.statement.Since.{HasNone, IsHeldSinceUnder}
 use Rattle.tl_explain.proofs.follows.Keys.{here, mention_if}
 
 -- ---- one beat more
@@ -158,40 +155,3 @@ held_kept h l n k x t elsewhere is = record {
 pub held-profile : {w : ℕ} (p : Profile) (k : ℕ) (h : History w)
     → held_under no_liberties k h ≡ held_under (liberties_of p) k h
 held-profile p k h = held-of profile.One k h ∙ sym (held-of p k h)
-
-saying-none : {w : ℕ} (n k : ℕ) (x : Link × Beat w) (t : Trace w)
-    → is_saying_under no_liberties n k x t ≡ is_saying n k x t
-saying-none {w} n k x t =
-    by_flags (x.0.0 == n) (ends x.1 (on_link n t)) (says_held_under no_liberties k x.1 (on_link n t))
-    ∙ ap (λ (o : Option Perm). (x.0.0 == n) && (ends x.1 (on_link n t) && is_some o)) (same x.1)
-  where
-    same : (y : Beat w) → says_held_under no_liberties k y (on_link n t) ≡ says_held k y (on_link n t)
-    same (beat.A y) = refl
-    same (beat.B y) = refl
-    same (beat.C y) = refl
-    same (beat.D y) = refl
-    same (beat.E y) = refl
-
-    by_flags : (a b : Bool) (o : Option Perm) → is_some (if a && b then o else None) ≡ (a && (b && is_some o))
-    by_flags true true o = refl
-    by_flags true false o = refl
-    by_flags false b o = refl
-
-last-none : {w : ℕ} (n k : ℕ) (t : Trace w) → last_saying_under no_liberties n k t ≡ last_saying n k t
-unfolding last_where
-last-none n k [] = refl
-last-none n k (x ∷ t) =
-    ap₂ (λ (b : Bool) (o : Option Mention). if b then Some (told x t) else o) (saying-none n k x t) (last-none n k t)
-
--- what is kept of a link without liberties, in the words of the profiles
-pub saying_kept-none : {w : ℕ} (h : Held) (n k : ℕ) (t : Trace w) → IsHeld h no_liberties n k t
-    → mention_of h.since ≡ last_saying n k t
-saying_kept-none h n k t is = is.since_is ∙ last-none n k t
-
-pub held_told-none : {w : ℕ} (h : Held) (n k : ℕ) (t : Trace w) → IsHeld h no_liberties n k t
-    → IsHeldSince n k h.perm (mention_of h.since) t
-held_told-none h n k t is =
-    subst (λ (p : Perm). IsHeldSince n k p (mention_of h.since) t)
-    (sym (is.perm_is ∙ held-of profile.One k (on_link n t) ∙ held_left n k t))
-    (subst (λ (o : Option Mention). IsHeldSince n k (left_of (last_saying n k t)) o t)
-    (sym (saying_kept-none h n k t is)) (held_since n k t))

@@ -1,14 +1,14 @@
 -- Which of the messages that are pending is the next to be told.
-use Rattle.std.proofs.Common.{◌≡◌, ◌+◌, ◌-◌, ◌≤◌, ◌<◌, ℕ, suc, Bool, true, false, not, List, [], ◌∷◌, ◌++◌, refl, sym, ◌∙◌}
+use Rattle.std.proofs.Common.{◌≡◌, ◌+◌, ◌<◌, ℕ, suc, Bool, true, false, not, List, [], ◌∷◌, ◌++◌, refl, sym, ◌∙◌}
 use Rattle.std.proofs.Common.{ap, append_assoc, inl, inr, arith, get_or, length, take}
-use Rattle.std.specs.Prelude.{◌&&◌, ◌||◌, ◌==◌, codes, nat_lt, slice_index_or, Option, Some, None}
+use Rattle.std.specs.Prelude.{◌&&◌, codes, slice_index_or, Option, Some, None}
 use Rattle.std.specs.Fmt.{decimal}
 use Rattle.std.specs.List.{AllPass, Contains}
 use Rattle.std.proofs.lemmas.Bool.Decides.{nat_tests}
 use Rattle.std.proofs.lemmas.List.{take_more}
 use Rattle.std.proofs.lemmas.List.Elements.{All-append, All-cons, All-nil, Contains-append_left, Contains-append_right}
 use Rattle.tl_explain.specs.declared.ledger.Pending.{Pending}
-use Rattle.tl_explain.specs.statement.Pending.{IsNext, TellsOldest, TellsOne, is_before, is_behind, pending_heading, rank}
+use Rattle.tl_explain.specs.statement.Pending.{IsNext, TellsOldest, TellsOne, is_before, is_behind, pending_heading}
 
 -- ---- one message more
 

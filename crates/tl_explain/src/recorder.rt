@@ -4,7 +4,7 @@ ghost use Rattle.std.specs.Prelude.{ℕ, ◌≡◌, ◌∷◌, [], OnErr, OnOk};
 ghost use Rattle.tl_params.specs.declared.liberties.Liberties.{Liberties};
 ghost use Rattle.std.specs.Result.{is_err};
 ghost use Rattle.tl_beat.specs.statement.Width.{IsWidth};
-ghost use Rattle.tl_explain.specs.code.Recorded.{IsRecord, IsRecordUnder, is_stray};
+ghost use Rattle.tl_explain.specs.code.Recorded.{IsRecordUnder, is_stray};
 ghost use Rattle.tl_explain.specs.statement.Evidence.{next_line};
 ghost use Rattle.tl_rules.specs.statement.Conformance.{Trace};
 
@@ -37,14 +37,6 @@ pub struct Recorder {
 }
 
 impl Recorder {
-    /// A recorder before any beat, for a link without liberties.
-    pub fn new(subject: Subject) -> Self
-        ensures record { (w : ℕ) → IsRecord {w = w} result [] }
-        ensures subject { result.subject ≡ subject }
-    {
-        Recorder::with_liberties(Liberties::none(), subject)
-    }
-
     /// A recorder before any beat, for a link with these liberties.
     pub fn with_liberties(liberties: Liberties, subject: Subject) -> Self
         ensures record { (w : ℕ) → IsRecordUnder {w = w} liberties result [] }

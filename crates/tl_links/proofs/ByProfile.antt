@@ -6,13 +6,13 @@ use Rattle.tl_beat.specs.declared.beat.Link.{Link}
 use Rattle.tl_engine.specs.declared.fault.Fault.TheVariants.{Rule as Breaks}
 use Rattle.tl_engine.specs.declared.status.Status.{Status}
 use Rattle.tl_engine.specs.statement.Coherent.{JudgedTogether, coherent_text, faults_together}
-use Rattle.tl_engine.specs.statement.Judged.{Faults, FaultsOf, Headers, Judged, JudgedAfter, JudgedBy, clean_text}
+use Rattle.tl_engine.specs.statement.Judged.{Faults, FaultsOf, Judged, JudgedAfter, JudgedBy, clean_text}
 use Rattle.tl_engine.specs.statement.Judged.{faults_of_links}
 use Rattle.tl_engine.specs.statement.Trace.{SpellsHeader}
 use Rattle.tl_engine.specs.statement.Width.{bytes_of}
 use Rattle.tl_engine.proofs.LinksHeaders.{versions_apart}
 use Rattle.tl_engine.specs.statement.LinksHeader.{NamesAllowed}
-use Rattle.tl_engine.specs.statement.JudgedLinks.{JudgedLinks, faults_by, heads_by}
+use Rattle.tl_engine.specs.statement.JudgedLinks.{JudgedLinks, faults_by}
 use Rattle.tl_params.specs.declared.level.Level.{Level}
 use Rattle.tl_params.specs.declared.liberties.Liberties.{Liberties}
 use Rattle.tl_params.specs.declared.profile.Profile.{Profile}
@@ -48,17 +48,13 @@ module _ (faults : FaultsOf Liberties) (of_profile : Faults) (said : ℕ → Lis
   judged_so levels p t (line ∷ lines) text status (inr (fault, inr (link, beat, spells, bad), says, ends)) =
       inr (fault, inr (link, beat, spells, sym (same_faults _ levels p (link, beat) t) ∙ bad), says, ends)
 
-  module _ (heads : Headers Liberties)
-      (names : (line : List ℕ) (width : Width) (may : Liberties) (levels : List Level) → heads line width may levels
-      → NamesAllowed no_liberties line width may levels)
-      (line : List ℕ) (width : Width) (p : Profile) (levels : List Level) (s : SpellsHeader line width p levels)
-      (named : heads line width (liberties_of p) levels) where
+  module _ (line : List ℕ) (width : Width) (p : Profile) (levels : List Level)
+      (s : SpellsHeader line width p levels) where
     judged_by : (lines : List (List ℕ)) (text : List ℕ) (status : Status)
-        → JudgedBy heads faults said (line ∷ lines) text status
+        → JudgedBy (NamesAllowed no_liberties) faults said (line ∷ lines) text status
         → JudgedBy SpellsHeader of_profile said (line ∷ lines) text status
     unfolding JudgedBy
-    judged_by lines text status (inl (wide, may, others, head, judged)) =
-        go (names line wide may others head)
+    judged_by lines text status (inl (wide, may, others, head, judged)) = go head
       where
         go : NamesAllowed no_liberties line wide may others
             → JudgedBy SpellsHeader of_profile said (line ∷ lines) text status
@@ -73,7 +69,7 @@ module _ (faults : FaultsOf Liberties) (of_profile : Faults) (said : ℕ → Lis
                   (same ∙ ap (λ (l : Liberties). united l no_liberties) is ∙ none_added q) judged),
             )
         go (own, inr h, same) = absurd (versions_apart line width wide p own levels others s h)
-    judged_by lines text status (inr (none, says, ends)) = absurd (none width (liberties_of p) levels named)
+    judged_by lines text status (inr (none, says, ends)) = absurd (none width (liberties_of p) levels (liberties_of p, inl (p, s, refl), sym (none_added p)))
 
 alone_same : (w : ℕ) (levels : List Level) (p : Profile) (x : Link × Beat w) (t : Trace w)
     → faults_by false w levels (liberties_of p) x t ≡ faults_of_links w levels p x t
@@ -85,20 +81,12 @@ together_same w levels p x t = refl
 
 module _ (line : List ℕ) (lines : List (List ℕ)) (text : List ℕ) (status : Status) (width : Width) (p : Profile)
     (levels : List Level) (s : SpellsHeader line width p levels) where
-  named_none : NamesAllowed no_liberties line width (liberties_of p) levels
-  named_none = (liberties_of p, inl (p, s, refl), sym (none_added p))
-
   pub by_profile : JudgedLinks false no_liberties (line ∷ lines) text status → Judged (line ∷ lines) text status
   by_profile judged =
-      judged_by (faults_by false) faults_of_links clean_text alone_same (heads_by false no_liberties)
-      (λ _ _ _ _ head. head) line width p levels s named_none lines text status judged
-
-  late_answers : (p : Profile) → (liberties_of p).early ≡ false
-  late_answers Profile.One = refl
-  late_answers Profile.Two = refl
+      judged_by (faults_by false) faults_of_links clean_text alone_same line width p levels s lines text status judged
 
   pub together_by_profile : JudgedLinks true no_liberties (line ∷ lines) text status
       → JudgedTogether (line ∷ lines) text status
   together_by_profile judged =
-      judged_by (faults_by true) faults_together coherent_text together_same (heads_by true no_liberties)
-      (λ _ _ _ _ head. head.0) line width p levels s (named_none, late_answers p) lines text status judged
+      judged_by (faults_by true) faults_together coherent_text together_same line width p levels s lines text status
+      judged

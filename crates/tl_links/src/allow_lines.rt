@@ -98,7 +98,7 @@ impl<const W: usize> Watch<W> {
 fn begin(alloc: Global, allow: Liberties, line: &[u8]) -> Result<Option<Watching>, AllocError>
     ensures { IfOk result (Begins allow line.now) }
 {
-    let Some(header) = read_for(false, allow, line) else {
+    let Some(header) = read_for(allow, line) else {
         return Ok(None);
     };
     let watching = match header.width {

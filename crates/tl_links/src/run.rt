@@ -14,10 +14,9 @@ use tl_params::liberties::Liberties;
 /// Judges a recorded trace, each link by itself or all together. Reads the input to its end or to the first line at
 /// fault, and writes `clean N`, for all together `coherent N`, or `line N X`.
 ///
-/// The header may be of any version; the fourth names liberties. The links have those and the ones in `allow`. With all
-/// links together, `early` isn't possible: a header that names it is at fault, and any header is if `allow` has it. If
-/// `allow` is empty and the header is of the first three versions, the text is that of `run_tool` with
-/// `Command::Monitor` or `Command::Coherent`.
+/// The header may be of any version; the fourth names liberties. The links have those and the ones in `allow`. If `allow`
+/// is empty and the header is of the first three versions, the text is that of `run_tool` with `Command::Monitor` or
+/// `Command::Coherent`.
 ///
 /// The status and the faults are those of `tl_engine::tool::run_tool`.
 pub fn run_links<R: Read, W: Write>(

@@ -15,10 +15,10 @@ use Rattle.tl_engine.specs.statement.Run.{EndsAs}
 use Rattle.tl_engine.specs.declared.fault.Fault.{Fault}
 use Rattle.tl_engine.specs.declared.status.Status.{Status}
 use Rattle.tl_engine.specs.declared.status.Status.TheVariants.{Clean, Broken}
-use Rattle.tl_engine.specs.statement.JudgedLinks.{heads_by}
+use Rattle.tl_engine.specs.statement.LinksHeader.{NamesAllowed}
 use Rattle.tl_engine.specs.statement.Width.{bytes_of}
 use Rattle.tl_engine.proofs.Decoded.{open_fault}
-use Rattle.tl_engine.proofs.LinksHeaders.{open_heads}
+use Rattle.tl_engine.proofs.LinksHeaders.{open_allowed}
 use Rattle.tl_report.proofs.Searched.{found_in, knows_header, opened}
 use Rattle.tl_report.specs.code.LineJudging.{Ways}
 use Rattle.tl_report.specs.code.NarrowJudging.{narrow_ways}
@@ -38,12 +38,12 @@ use Rattle.tl_wide.specs.declared.width.WideWidth.{WideWidth}
 use Rattle.tl_wide.specs.statement.Width.{part_width, wide_bytes_of}
 use Rattle.tl_wide_lines.proofs.JudgedLines.{open-fault}
 use Rattle.tl_wide_lines.proofs.WideHeaders.{open_wide}
-use Rattle.tl_wide_lines.specs.statement.WideHeader.{wide_heads_by}
+use Rattle.tl_wide_lines.specs.statement.WideHeader.{NamesWide}
 
 -- ---- the first line
 
 pub begun_narrow : (line : List ℕ) (width : Width) (may : Liberties) (levels : List Level) (aim : Aim)
-    (s : Search (NarrowLineJudge (bytes_of width))) → heads_by aim.together aim.allow line width may levels
+    (s : Search (NarrowLineJudge (bytes_of width))) → NamesAllowed aim.allow line width may levels
     → StartsSearch (narrow_ways (bytes_of width)) aim (terms_of aim.together may levels) s
     → KnowsSearch (narrow_ways (bytes_of width)) s (line ∷ [])
 unfolding FindsFor
@@ -53,7 +53,7 @@ begun_narrow line width may levels aim s spells is =
 
 pub begun_wide : (line : List ℕ) (width : WideWidth) (may : Liberties) (levels : List Level) (aim : Aim)
     (s : Search (WideLineJudge (wide_bytes_of width) (part_width (wide_bytes_of width))))
-    → wide_heads_by aim.together aim.allow line width may levels
+    → NamesWide aim.allow line width may levels
     → StartsSearch (wide_ways (wide_bytes_of width) (part_width (wide_bytes_of width))) aim (terms_of aim.together may levels) s
     → KnowsSearch (wide_ways (wide_bytes_of width) (part_width (wide_bytes_of width))) s (line ∷ [])
 unfolding FindsFor
@@ -76,7 +76,7 @@ no_header_ends alloc aim line none = λ lines text known more beats cells counte
 pub open_header : (alloc : Global) (aim : Aim) (line : List ℕ) → IsOpen line
     → Ends KnowsLines EndsLines (of.Waiting alloc aim) (of.Waiting alloc aim) line
 open_header alloc aim line is =
-    no_header_ends alloc aim line (open_heads aim.together aim.allow line is, open_wide aim.together aim.allow line is)
+    no_header_ends alloc aim line (open_allowed aim.allow line is, open_wide aim.allow line is)
 
 pub stops : (h : SearchLines) (line was is : List ℕ) (fault : Fault) → Stops KnowsLines TellsLines h line was is fault
 stops h line was is fault = λ lines before known more broken. unclean broken

@@ -10,7 +10,8 @@ use Rattle.tl_rules.specs.statement.Conformance.{Trace}
 use Rattle.tl_engine.specs.statement.JudgedSo.{said_by}
 use Rattle.tl_engine.specs.declared.fault.Fault.{Fault}
 use Rattle.tl_engine.specs.statement.Judged.{IsAtFault as IsAtFaultBy, JudgedAfter, JudgedBy}
-use Rattle.tl_engine.specs.statement.JudgedLinks.{faults_by, heads_by}
+use Rattle.tl_engine.specs.statement.JudgedLinks.{faults_by}
+use Rattle.tl_engine.specs.statement.LinksHeader.{NamesAllowed}
 use Rattle.tl_report.specs.declared.findings.Finding.{Finding}
 use Rattle.tl_report.specs.statement.Form.{Form, IsAtFault, Terms, first_fault_in, narrow, wide}
 use Rattle.tl_report.specs.statement.Found.{FindsAfter, FindsFor, is_open, left_behind, most_of, terms_of}
@@ -21,7 +22,7 @@ use Rattle.tl_wide_lines.proofs.JudgedLines.{begin-more, begin-none}
 use Rattle.tl_wide_lines.proofs.WideHeaders.{versions_apart}
 use Rattle.tl_report.proofs.WideTaken.{newest-last, nothing-found}
 use Rattle.tl_wide_lines.specs.statement.JudgedTrace.{BeginWith, JudgedTrace, JudgedWide}
-use Rattle.tl_wide_lines.specs.statement.WideHeader.{wide_heads_by}
+use Rattle.tl_wide_lines.specs.statement.WideHeader.{NamesWide}
 
 -- ---- narrow beats
 
@@ -88,12 +89,10 @@ judged_wide terms all t n most (line ∷ lines) found beats cells number none be
 -- ---- a trace
 
 -- a header of narrow beats is none of wide ones
-apart : (together : Bool) (allow : Liberties) (line : List ℕ) (width : Width) (may : Liberties) (levels : List Level)
-    → heads_by together allow line width may levels → (wider : WideWidth) (own : Liberties) (others : List Level)
-    → ¬ wide_heads_by together allow line wider own others
-apart true allow line width may levels (names, late) wider own others (wides, later) =
-    versions_apart line width wider names.0 wides.0 levels others names.1 wides.1
-apart false allow line width may levels names wider own others wides =
+apart : (allow : Liberties) (line : List ℕ) (width : Width) (may : Liberties) (levels : List Level)
+    → NamesAllowed allow line width may levels → (wider : WideWidth) (own : Liberties) (others : List Level)
+    → ¬ NamesWide allow line wider own others
+apart allow line width may levels names wider own others wides =
     versions_apart line width wider names.0 wides.0 levels others names.1 wides.1
 
 pub verdict_so : (aim : Aim) (lines : List (List ℕ)) (found : List Finding) (beats : ℕ) (cells : List ℕ)
@@ -112,7 +111,7 @@ verdict_so aim (line ∷ lines) found beats cells (inl (width, may, levels, spel
     )
 verdict_so aim (line ∷ lines) found beats cells (inr (inl (width, may, levels, spells, is))) =
     inr (
-      apart aim.together aim.allow line width may levels spells,
+      apart aim.allow line width may levels spells,
       inl (
         width,
         may,

@@ -1,6 +1,6 @@
 //! Judges lines of narrow beats.
 
-ghost use Rattle.std.specs.Prelude.{◌≡◌, [], IfOk, true, false};
+ghost use Rattle.std.specs.Prelude.{[], IfOk};
 ghost use Rattle.tl_beat.specs.statement.Width.{IsWidth, IsWidth-prop};
 
 use crate::line_judge::{Judged, LineJudge};
@@ -24,8 +24,7 @@ impl<const W: usize> NarrowLineJudge<W> {
 
     /// A judge of the links that a header names, which has taken no beat.
     pub fn new(alloc: Global, together: bool, header: &LinksHeader) -> Result<Self, AllocError>
-        requires width { IsWidth W }
-        requires late { together ≡ true → header.now.may.early ≡ false }
+        requires { IsWidth W }
         ensures { IfOk result (λ judge. KnowsNarrow W judge
             (terms_of together header.now.may header.now.levels.items) []) }
     {

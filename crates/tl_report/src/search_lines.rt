@@ -1,6 +1,6 @@
 //! Searches the lines of an input for those at fault.
 
-ghost use Rattle.std.specs.Prelude.{◌≡◌, [], true, false, IfOk, IfSome};
+ghost use Rattle.std.specs.Prelude.{◌≡◌, [], IfOk};
 ghost use Rattle.tl_beat.specs.statement.Width.{IsWidth};
 ghost use Rattle.tl_engine.specs.declared.status.Status.{Status};
 ghost use Rattle.tl_report.specs.code.Searching.{Begins, EndsLines, HasFound, KnowsLines, StartsSearch, TellsLines, aim_of};
@@ -47,8 +47,7 @@ fn narrow<const W: usize>(
     aim: Aim,
     header: &LinksHeader,
 ) -> Result<Search<NarrowLineJudge<W>>, AllocError>
-    requires width { IsWidth W }
-    requires late { aim.together ≡ true → header.now.may.early ≡ false }
+    requires { IsWidth W }
     ensures { IfOk result (StartsSearch (narrow_ways W) aim (terms_of aim.together header.now.may
         header.now.levels.items)) }
 {
@@ -64,7 +63,6 @@ fn wide<const W: usize, const P: usize>(
 ) -> Result<Search<WideLineJudge<W, P>>, AllocError>
     requires width { IsWideWidth W }
     requires part { P ≡ part_width W }
-    requires late { aim.together ≡ true → links.may.early ≡ false }
     ensures { IfOk result (StartsSearch (wide_ways W P) aim (terms_of aim.together links.may links.levels.items)) }
 {
     let judge = WideLineJudge::new(alloc, aim, links)?;
@@ -75,7 +73,7 @@ fn wide<const W: usize, const P: usize>(
 fn begin_narrow(alloc: Global, aim: Aim, line: &[u8]) -> Result<Option<SearchLines>, AllocError>
     ensures { IfOk result (Begins IsNotNarrow aim line.now) }
 {
-    let Some(header) = read_for(aim.together, aim.allow, line) else {
+    let Some(header) = read_for(aim.allow, line) else {
         return Ok(None);
     };
     let lines = match header.width {
@@ -90,7 +88,7 @@ fn begin_narrow(alloc: Global, aim: Aim, line: &[u8]) -> Result<Option<SearchLin
 fn begin_wide(alloc: Global, aim: Aim, line: &[u8]) -> Result<Option<SearchLines>, AllocError>
     ensures { IfOk result (Begins IsNotWide aim line.now) }
 {
-    let Some(header) = read_wide_for(aim.together, aim.allow, line) else {
+    let Some(header) = read_wide_for(aim.allow, line) else {
         return Ok(None);
     };
     let links = header.links;

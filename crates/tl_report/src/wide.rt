@@ -23,7 +23,6 @@ pub struct Kept<const W: usize> {
     together: bool,
     links: LinksHeader,
     taken: Vec<(Link, WideBeat<W>)>,
-    ghost late: { together ≡ true → links.may.early ≡ false },
 }
 
 /// A judge of lines of wide beats of `W` bytes: 4, 8, 16, 32 or 64. `P` is the smaller of 16 and `W`.
@@ -44,7 +43,6 @@ impl<const W: usize> Kept<W> {
 
     /// No beat, if lines at fault are looked for after the first.
     fn start(alloc: Global, aim: Aim, links: LinksHeader) -> Option<Kept<W>>
-        requires { aim.together ≡ true → links.may.early ≡ false }
         ensures { StartsKept W aim links.may links.levels.items result }
     {
         if aim.behind == 0 {
@@ -82,7 +80,6 @@ impl<const W: usize, const P: usize> WideLineJudge<W, P> {
     pub fn new(alloc: Global, aim: Aim, links: LinksHeader) -> Result<Self, AllocError>
         requires width { IsWideWidth W }
         requires part { P ≡ part_width W }
-        requires late { aim.together ≡ true → links.may.early ≡ false }
         ensures knows { IfOk result (λ judge. KnowsWide W P judge
             (terms_of aim.together links.may links.levels.items) []) }
         ensures goes_on { IfOk result (λ judge. 0 < aim.behind → is_some judge.kept ≡ true) }

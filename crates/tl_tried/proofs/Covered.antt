@@ -17,7 +17,7 @@ use Rattle.tl_cover.specs.statement.Covers.{Covers}
 use Rattle.tl_engine.proofs.Decoded.{open_fault}
 use Rattle.tl_engine.proofs.Judged.{said_at_end}
 use Rattle.tl_engine.proofs.JudgedTraces.{all_judged, bad_line, header_unread, header_unseen}
-use Rattle.tl_engine.proofs.LinksHeaders.{open_heads}
+use Rattle.tl_engine.proofs.LinksHeaders.{open_allowed}
 use Rattle.tl_engine.specs.code.Judging.{Ends, EndsHere, Finishes, Judges, Stops}
 use Rattle.tl_engine.specs.statement.Lines.{IsOpen}
 use Rattle.tl_engine.specs.code.Watching.{KnowsTraceOf, end_by}
@@ -27,7 +27,8 @@ use Rattle.tl_engine.specs.declared.fault.Fault.TheVariants.{Header, Line, Rule 
 use Rattle.tl_engine.specs.declared.status.Status.TheVariants.{Clean, Broken}
 use Rattle.tl_engine.specs.statement.Fault.{fault_text}
 use Rattle.tl_engine.specs.statement.Judged.{IsAtFault, JudgedAfter, JudgedBy}
-use Rattle.tl_engine.specs.statement.JudgedLinks.{JudgedLinks, faults_by, heads_by}
+use Rattle.tl_engine.specs.statement.JudgedLinks.{JudgedLinks, faults_by}
+use Rattle.tl_engine.specs.statement.LinksHeader.{NamesAllowed}
 use Rattle.tl_engine.specs.statement.Width.{bytes_of}
 use Rattle.tl_monitor.proofs.Knowing.{broken_by, unbroken}
 use Rattle.tl_monitor.specs.declared.fault.MonitorFault.TheVariants as monitor
@@ -48,7 +49,7 @@ use Rattle.tl_tried.specs.statement.Covered.{AreCovered, CoveredAfter, Found, fo
 -- what is judged, as it is known of each link by itself
 abbrev judged_in : {w : ℕ} {allow : Liberties} {c : Covering w} {lines : List (List ℕ)} {text : List ℕ}
     → KnowsTrace allow c lines text
-    → KnowsTraceOf (λ levels may t. Covers c levels may t false) (heads_by false allow) (faults_by false)
+    → KnowsTraceOf (λ levels may t. Covers c levels may t false) (NamesAllowed allow) (faults_by false)
     (said_by false)
     lines text
 judged_in k = record {
@@ -140,7 +141,7 @@ module _ {w : ℕ} (allow : Liberties) (wrap : Covering w → Following)
   read_judged old new line was (Err e) reads = tt
   read_judged old new line was (Ok (Some fault)) reads = λ lines before known.
       let k = into old lines (before ++ was) known in
-      bad_line (heads_by false allow) (faults_by false) (said_by false) (KnownTo old) lines before was line fault
+      bad_line (NamesAllowed allow) (faults_by false) (said_by false) (KnownTo old) lines before was line fault
       (judged_in k) (reads k.levels k.may k.trace k.known).0
   read_judged old new line was (Ok None) reads = λ lines before known.
       let k = into old lines (before ++ was) known in
@@ -171,7 +172,7 @@ module _ {w : ℕ} (allow : Liberties) (wrap : Covering w → Following)
 -- ---- the header
 
 pub header_covered : (allow : Liberties) (line : List ℕ) (wide : Width) (may : Liberties) (levels : List Level)
-    (c : Covering (bytes_of wide)) → heads_by false allow line wide may levels → Covers c levels may [] false
+    (c : Covering (bytes_of wide)) → NamesAllowed allow line wide may levels → Covers c levels may [] false
     → KnowsTrace allow c (line ∷ []) []
 unfolding JudgedBy AreCovered
 header_covered allow line wide may levels c names known = record {
@@ -189,11 +190,11 @@ module _ (allow : Liberties) (alloc : Global) where
   waiting = record { allow = allow; following = Waiting alloc }
 
   module _ (line : List ℕ)
-      (none : (width : Width) (may : Liberties) (levels : List Level) → ¬ heads_by false allow line width may levels)
+      (none : (width : Width) (may : Liberties) (levels : List Level) → ¬ NamesAllowed allow line width may levels)
     where
       pub none_named : (was : List ℕ) → Stops KnowsLines (JudgedLinks false allow) waiting line was was Header
       none_named was = λ lines before known more.
-          header_unread (heads_by false allow) (faults_by false) (said_by false) line before was lines none known.0
+          header_unread (NamesAllowed allow) (faults_by false) (said_by false) line before was lines none known.0
           known.1
           more
 
@@ -204,7 +205,7 @@ module _ (allow : Liberties) (alloc : Global) where
   pub none_there : (count : ℕ) (was : List ℕ)
       → Finishes KnowsLines (JudgedLinks false allow) waiting count was was (Some Header)
   none_there count was = λ lines before known counted.
-      header_unseen (heads_by false allow) (faults_by false) (said_by false) before was lines known.0 known.1
+      header_unseen (NamesAllowed allow) (faults_by false) (said_by false) before was lines known.0 known.1
 
 -- ---- a line that has no LF or more than 256 bytes
 
@@ -214,7 +215,7 @@ module _ {w : ℕ} (allow : Liberties) (c : Covering w) where
       → JudgedLinks false allow (lines ++ line ∷ more) (before ++ (said ++ fault_text (length lines + 1) (Line F1)))
       Broken
   opened lines before said line k is =
-      bad_line (heads_by false allow) (faults_by false) (said_by false) (KnownTo c) lines before said line (Line F1)
+      bad_line (NamesAllowed allow) (faults_by false) (said_by false) (KnownTo c) lines before said line (Line F1)
       (judged_in k) (inl (F1, open_fault w line is, refl))
 
   opened_covered : (lines : List (List ℕ)) (text line : List ℕ) → KnowsTrace allow c lines text → IsOpen line
@@ -226,7 +227,7 @@ module _ {w : ℕ} (allow : Liberties) (c : Covering w) where
       → KnowsTrace allow c lines (before ++ was) → count ≡ length lines
       → JudgedLinks false allow lines (before ++ is) Clean
   ended count lines before was is says k counted =
-      all_judged (heads_by false allow) (faults_by false) (said_by false) (KnownTo c) lines count before was is
+      all_judged (NamesAllowed allow) (faults_by false) (said_by false) (KnownTo c) lines count before was is
       (says ∙ ap (λ (x : List ℕ). was ++ x) (said_at_end false (count - 1))) (judged_in k) counted
 
   all_covered : (lines : List (List ℕ)) (text : List ℕ) → KnowsTrace allow c lines text
@@ -255,7 +256,7 @@ open_covered : (allow : Liberties) (f : Following) (line : List ℕ) → IsOpen 
     → (lines : List (List ℕ)) (text : List ℕ)
     → KnowsFollowing allow f lines text → (more : List (List ℕ)) → AreCovered allow (lines ++ line ∷ more) (found_by f)
 unfolding AreCovered
-open_covered allow (Waiting alloc) line is lines text k more = rw k.0 (inr (open_heads false allow line is, refl))
+open_covered allow (Waiting alloc) line is lines text k more = rw k.0 (inr (open_allowed allow line is, refl))
 open_covered allow (Four c) line is lines text k more = opened_covered allow c lines text line k is more
 open_covered allow (Eight c) line is lines text k more = opened_covered allow c lines text line k is more
 open_covered allow (Sixteen c) line is lines text k more = opened_covered allow c lines text line k is more
@@ -266,7 +267,7 @@ open_ends h line is = λ lines text k more. open_covered h.allow h.following lin
 pub open_unheaded : (allow : Liberties) (alloc : Global) (line said : List ℕ) → IsOpen line
     → Stops KnowsLines (JudgedLinks false allow) (record { allow = allow; following = Waiting alloc }) line said said
     Header
-open_unheaded allow alloc line said is = none_named allow alloc line (open_heads false allow line is) said
+open_unheaded allow alloc line said is = none_named allow alloc line (open_allowed allow line is) said
 
 -- ---- the end
 

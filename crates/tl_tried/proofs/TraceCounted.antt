@@ -99,7 +99,7 @@ module _ (allow : Liberties) (lines : List (List ℕ)) (text : List ℕ) where
 -- ---- other beats
 
 -- the situations of lines of which the first is no header of wide beats
-links-covered : (allow : Liberties) (lines : List (List ℕ)) (found : Found) → NoneWide false allow lines
+links-covered : (allow : Liberties) (lines : List (List ℕ)) (found : Found) → NoneWide allow lines
     → AreCovered allow lines found → TraceCovered allow lines found
 links-covered allow [] found none covers = covers
 links-covered allow (line ∷ lines) found none covers = inr (none, covers)
@@ -170,9 +170,9 @@ module _ (old new : CoverTrace) (line : List ℕ) where
 
   module _ (is : old.wide ≡ None) (also : new.wide ≡ None) (none : BeginsHere old line None) where
     none-among : (lines : List (List ℕ)) (text : List ℕ) → KnowsBy old.narrow None lines text
-        → (more : List (List ℕ)) → NoneWide false old.narrow.allow (lines ++ line ∷ more)
+        → (more : List (List ℕ)) → NoneWide old.narrow.allow (lines ++ line ∷ more)
     none-among lines text k more =
-        none-first false old.narrow.allow lines line more k.1 (λ empty. none text (rw empty at k.0))
+        none-first old.narrow.allow lines line more k.1 (λ empty. none text (rw empty at k.0))
 
     -- another line
     pub other-judged : {E : Type 0} (was now : List ℕ) (r : Result (Option Fault) E)
@@ -183,7 +183,7 @@ module _ (old new : CoverTrace) (line : List ℕ) where
         let k : KnowsBy old.narrow None lines (before ++ was) = rw is at known in
         rw also (
           judged lines before k.0,
-          subst (λ (l : Liberties). NoneWide false l (lines ++ line ∷ [])) (sym same)
+          subst (λ (l : Liberties). NoneWide l (lines ++ line ∷ [])) (sym same)
               (none-among lines (before ++ was) k []),
         )
     other-judged was now (Ok (Some fault)) judged same = λ lines before known more.
@@ -198,7 +198,7 @@ module _ (old new : CoverTrace) (line : List ℕ) where
     other-ended (Ok answer) ends same fault found = λ lines text known more.
         let k : KnowsBy old.narrow None lines text = rw is at known in
         rw also (links-covered new.narrow.allow (lines ++ line ∷ more) _
-        (subst (λ (l : Liberties). NoneWide false l (lines ++ line ∷ more)) (sym same) (none-among lines text k more))
+        (subst (λ (l : Liberties). NoneWide l (lines ++ line ∷ more)) (sym same) (none-among lines text k more))
         (ends fault found lines text k.0 more))
 
 -- a line that has no LF, or is too long
@@ -216,10 +216,10 @@ module _ (h : CoverTrace) (line : List ℕ) (is_open : IsOpen line) where
       let k : KnowsBy h.narrow (Some f) lines text = rw is at known in
       rw is (wide-counted-open h.narrow.allow lines text line is_open f k more)
 
-  none-open : (lines : List (List ℕ)) → NoneWide false h.narrow.allow lines → (more : List (List ℕ))
-      → NoneWide false h.narrow.allow (lines ++ line ∷ more)
+  none-open : (lines : List (List ℕ)) → NoneWide h.narrow.allow lines → (more : List (List ℕ))
+      → NoneWide h.narrow.allow (lines ++ line ∷ more)
   none-open lines none more =
-      none-first false h.narrow.allow lines line more none (λ empty. open_wide false h.narrow.allow line is_open)
+      none-first h.narrow.allow lines line more none (λ empty. open_wide h.narrow.allow line is_open)
 
   pub other-open : (said : List ℕ) (fault : Fault) → h.wide ≡ None
       → Stops KnowsLines (JudgedLinks false h.narrow.allow) h.narrow line said said fault

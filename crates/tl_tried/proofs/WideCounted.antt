@@ -42,7 +42,7 @@ use Rattle.tl_wide_lines.proofs.PartsJudged.{all-taken}
 use Rattle.tl_wide_lines.specs.code.FirstFault.{beats_taken, behind}
 use Rattle.tl_wide_lines.specs.statement.JudgedTrace.{JudgedTrace, first_fault_of}
 use Rattle.tl_wide_lines.specs.statement.PartFaults.{parts_taken}
-use Rattle.tl_wide_lines.specs.statement.WideHeader.{wide_heads_by}
+use Rattle.tl_wide_lines.specs.statement.WideHeader.{NamesWide}
 
 -- the line of one more beat
 next-line : (new old many more : ℕ) → more ≡ many + 1 → new ≡ old + 1 → old ≡ many + 1 → new ≡ more + 1
@@ -210,7 +210,7 @@ module _ {wide : WideWidth} (allow : Liberties) (old : WideCovering (part_width 
 
 -- what its header begins
 pub header-counted : (wide : WideWidth) (allow : Liberties) (line : List ℕ) (may : Liberties) (levels : List Level)
-    (c : WideCovering (part_width (wide_bytes_of wide))) → wide_heads_by false allow line wide may levels
+    (c : WideCovering (part_width (wide_bytes_of wide))) → NamesWide allow line wide may levels
     → CoversNone levels may c → KnowsCovering wide allow c (line ∷ []) []
 unfolding header-known behind joined narrowed_from
 header-counted wide allow line may levels c named none = record {

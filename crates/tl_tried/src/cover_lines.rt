@@ -86,7 +86,7 @@ fn read<const W: usize>(
 fn begin(alloc: Global, allow: Liberties, line: &[u8]) -> Result<Option<Following>, AllocError>
     ensures { IfOk result (Begins allow line.now) }
 {
-    let Some(header) = read_for(false, allow, line) else {
+    let Some(header) = read_for(allow, line) else {
         return Ok(None);
     };
     let following = match header.width {

@@ -44,7 +44,7 @@ pub struct CoverTrace {
 fn begin(alloc: Global, allow: Liberties, line: &[u8]) -> Result<Option<WideFollowing>, AllocError>
     ensures { IfOk result (BeginsWide allow line.now) }
 {
-    let Some(header) = read_wide_for(false, allow, line) else {
+    let Some(header) = read_wide_for(allow, line) else {
         return Ok(None);
     };
     let links = &header.links;

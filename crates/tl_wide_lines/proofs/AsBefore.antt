@@ -1,5 +1,5 @@
 -- A trace with a header of another version is judged as before.
-use Rattle.std.proofs.Common.{ℕ, Bool, List, ◌∷◌, inl, inr, true, false}
+use Rattle.std.proofs.Common.{ℕ, Bool, List, ◌∷◌, inl, inr}
 use Rattle.tl_engine.specs.declared.status.Status.{Status}
 use Rattle.tl_engine.specs.statement.JudgedLinks.{JudgedLinks}
 use Rattle.tl_engine.specs.statement.LinksHeader.{NamesLinks}
@@ -13,8 +13,6 @@ pub as-before : (together : Bool) (allow : Liberties) (line : List ℕ) (lines :
     (status : Status) (width : Width) (own : Liberties) (levels : List Level) → NamesLinks line width own levels
     → JudgedTrace together allow (line ∷ lines) text status → JudgedLinks together allow (line ∷ lines) text status
 as-before together allow line lines text status width own levels named (inr (none, judged)) = judged
-as-before false allow line lines text status width own levels named (inl (wide, may, others, (of, h, same), judged)) =
-    absurd (versions_apart line width wide own of levels others named h)
-as-before true allow line lines text status width own levels named
-    (inl (wide, may, others, ((of, h, same), late), judged)) =
+as-before together allow line lines text status width own levels named
+    (inl (wide, may, others, (of, h, same), judged)) =
     absurd (versions_apart line width wide own of levels others named h)

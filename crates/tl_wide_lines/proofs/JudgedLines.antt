@@ -41,7 +41,7 @@ use Rattle.tl_wide_lines.specs.code.WideJudging.{JudgesWideBeat, JudgesWideLine}
 use Rattle.tl_wide_lines.specs.code.WideWatching.{KnowsWide}
 use Rattle.tl_wide_lines.specs.declared.judge.WideJudge.{WideJudge}
 use Rattle.tl_wide_lines.specs.statement.JudgedTrace.{BeginWith, JudgedTrace, JudgedWide, first_fault_of}
-use Rattle.tl_wide_lines.specs.statement.WideHeader.{wide_heads_by}
+use Rattle.tl_wide_lines.specs.statement.WideHeader.{NamesWide}
 
 -- ---- lines of wide beats
 
@@ -262,7 +262,7 @@ module _ {wide : WideWidth} (together : Bool) (allow : Liberties) (old : WideJud
 -- what its header begins
 unfoldable pub header-known : (wide : WideWidth) (together : Bool) (allow : Liberties) (line : List ℕ) (may : Liberties)
     (levels : List Level) (judge : WideJudge (part_width (wide_bytes_of wide)))
-    → wide_heads_by together allow line wide may levels → ((w : ℕ) → Follows {w = w} judge.narrower [])
+    → NamesWide allow line wide may levels → ((w : ℕ) → Follows {w = w} judge.narrower [])
     → KnowsBeats together judge.judge levels may [] → KnowsWide wide together allow judge (line ∷ []) []
 unfolding behind joined narrowed_from fault_from
 header-known wide together allow line may levels judge named follows known = record {

@@ -101,17 +101,15 @@ wide-width width.SixtyFour = inr (inr (inr (inr refl)))
 
 -- what is said of lines of which the first is no header of wide beats
 pub links-judged : (together : Bool) (allow : Liberties) (lines : List (List ℕ)) (text : List ℕ) (status : Status)
-    → NoneWide together allow lines → JudgedLinks together allow lines text status
+    → NoneWide allow lines → JudgedLinks together allow lines text status
     → JudgedTrace together allow lines text status
 links-judged together allow [] text status none judged = judged
 links-judged together allow (line ∷ lines) text status none judged = inr (none, judged)
 
-pub none-first : (together : Bool) (allow : Liberties) (lines : List (List ℕ)) (line : List ℕ) (more : List (List ℕ))
-    → NoneWide together allow lines
-    → (lines ≡ [] → BeginsWide together allow line None)
-    → NoneWide together allow (lines ++ line ∷ more)
-none-first together allow [] line more none first = first refl
-none-first together allow (l ∷ lines) line more none first = none
+pub none-first : (allow : Liberties) (lines : List (List ℕ)) (line : List ℕ) (more : List (List ℕ))
+    → NoneWide allow lines → (lines ≡ [] → NoneWide allow (line ∷ [])) → NoneWide allow (lines ++ line ∷ more)
+none-first allow [] line more none first = first refl
+none-first allow (l ∷ lines) line more none first = none
 
 -- nothing has been said before the first line
 none-said : (narrow : LinkLines) (text : List ℕ) → KnowsLines narrow [] text → text ≡ []
@@ -185,16 +183,16 @@ module _ (old new : TraceLines) (line was : List ℕ) where
   other-judged (Err e) is also none judged same = tt
   other-judged (Ok None) is also none judged same = λ lines before known.
       let k : KnowsBy old.narrow None lines (before ++ was) = rw is at known in
-      let first = none-first old.narrow.together old.narrow.allow lines line [] k.1
+      let first = none-first old.narrow.allow lines line [] k.1
       (λ empty. none (before ++ was) (rw empty at k.0)) in
       rw also (
         judged lines before k.0,
-        subst (λ (p : Bool × Liberties). NoneWide p.0 p.1 (lines ++ line ∷ [])) (sym same) first,
+        subst (λ (p : Bool × Liberties). NoneWide p.1 (lines ++ line ∷ [])) (sym same) first,
       )
   other-judged (Ok (Some found)) is also none judged same = λ lines before known more.
       let k : KnowsBy old.narrow None lines (before ++ was) = rw is at known in
       links-judged old.narrow.together old.narrow.allow (lines ++ line ∷ more) _ Broken
-      (none-first old.narrow.together old.narrow.allow lines line more k.1
+      (none-first old.narrow.allow lines line more k.1
       (λ empty. none (before ++ was) (rw empty at k.0)))
       (judged lines before k.0 more)
 
@@ -213,8 +211,8 @@ module _ (h : TraceLines) (line said : List ℕ) (open_line : IsOpen line) where
   other-open found is stops = λ lines before known more.
       let k : KnowsBy h.narrow None lines (before ++ said) = rw is at known in
       links-judged h.narrow.together h.narrow.allow (lines ++ line ∷ more) _ Broken
-      (none-first h.narrow.together h.narrow.allow lines line more k.1
-      (λ empty. open_wide h.narrow.together h.narrow.allow line open_line))
+      (none-first h.narrow.allow lines line more k.1
+      (λ empty. open_wide h.narrow.allow line open_line))
       (stops lines before k.0 more)
 
 -- the end of the input
@@ -249,9 +247,9 @@ module _ (h : TraceLines) (count : ℕ) (was is : List ℕ) where
 first-more : (narrow : LinkLines) (text : List ℕ) → KnowsLines narrow [] text → (more : List (List ℕ))
     → (rest : List ℕ) × (status : Status) × JudgedTrace narrow.together narrow.allow more (text ++ rest) status
 first-more narrow text known [] = links_total narrow [] text known []
-first-more narrow text known (line ∷ more) = go (wide_or_none narrow.together narrow.allow line)
+first-more narrow text known (line ∷ more) = go (wide_or_none narrow.allow line)
   where
-    go : WideOrNone narrow.together narrow.allow line → (rest : List ℕ) × (status : Status)
+    go : WideOrNone narrow.allow line → (rest : List ℕ) × (status : Status)
         × JudgedTrace narrow.together narrow.allow (line ∷ more) (text ++ rest) status
     go (inl (wide, may, levels, named)) =
         let (rest, status, judged) =

@@ -1,14 +1,14 @@
 -- Headers of wide beats: what was spelled is read, and what was read was spelled so.
-use Rattle.std.proofs.Common.{◌≡◌, ◌≢◌, Bool, true, true≢false, append_assoc}
+use Rattle.std.proofs.Common.{◌≡◌, ◌≢◌, true, append_assoc}
 use Rattle.std.proofs.Common.{length-append, ℕ, List, [], ◌∷◌, ◌++◌, ◌≤◌, length}
 use Rattle.std.proofs.Common.{refl, ap, sym, subst, ◌∙◌, arith, inl, inr}
 use Rattle.std.specs.Io.BufRead.{ends_with_byte}
-use Rattle.std.specs.Prelude.{◌⊎◌, false, Option, Some, None}
+use Rattle.std.specs.Prelude.{◌⊎◌, Option, Some, None}
 use Rattle.tl_beat.proofs.SpelledLines.{ends_with_byte-line}
 use Rattle.tl_command.proofs.LibertyWords.{word-short}
 use Rattle.tl_engine.proofs.Judged.{levels-short}
 use Rattle.tl_engine.proofs.Headers.{header_again}
-use Rattle.tl_engine.proofs.LinksHeaders.{NamedOrNone, fourth_at, named_or_none, named_so, tail}
+use Rattle.tl_engine.proofs.LinksHeaders.{NamedOrNone, fourth_at, named_or_none, tail}
 use Rattle.tl_engine.specs.code.HeadReading.{front_at}
 use Rattle.tl_engine.specs.statement.Lines.{IsOpen}
 use Rattle.tl_engine.specs.code.TraceReading.{header_at}
@@ -23,9 +23,8 @@ use Rattle.tl_params.specs.declared.width.Width.{Width}
 use Rattle.tl_params.specs.statement.Liberties.{united}
 use Rattle.tl_wide.specs.declared.width.WideWidth.{WideWidth}
 use Rattle.tl_wide.specs.declared.width.WideWidth.TheVariants.{Four, Eight, Sixteen, ThirtyTwo, SixtyFour}
-use Rattle.tl_wide_lines.specs.code.HeadReading.{ReadsWide, at_front, or_front, wide_front_at}
-use Rattle.tl_wide_lines.specs.declared.header.WideHeader.{WideHeader}
-use Rattle.tl_wide_lines.specs.statement.WideHeader.{NamesWide, NamesWideEarly, SpellsFifth, fifth_front, wide_heads_by}
+use Rattle.tl_wide_lines.specs.code.HeadReading.{at_front, or_front, wide_front_at}
+use Rattle.tl_wide_lines.specs.statement.WideHeader.{NamesWide, SpellsFifth, fifth_front}
 
 -- ---- the front
 
@@ -87,13 +86,6 @@ module _ (line : List ℕ) (width : WideWidth) (may : Liberties) (levels : List 
   pub fifth_unread : wide_front_at line ≢ None
   fifth_unread none = let some = fifth_at in cc
 
--- a line names what the links may do once
-named_once : (line : List ℕ) (wide width : WideWidth) (may own : Liberties) (levels others : List Level)
-    → SpellsFifth line wide may levels → SpellsFifth line width own others → may ≡ own
-named_once line wide width may own levels others h g =
-    named_so h.0 may own levels others h.2
-    (fifth_behind line width own others g (wide, h.0) (fifth_at line wide may levels h)).1
-
 -- ---- a line is a header of wide beats, or none
 
 abbrev FifthOrNone : List ℕ → Type 0
@@ -112,69 +104,24 @@ fifth_or_none line = go (wide_front_at line) refl
     go None is = inr (λ width may levels h. absurd (fifth_unread line width may levels h is))
     go (Some x) is = named x is (named_or_none x.1)
 
--- links that are judged together name nothing where their answers may be early
-pub none_early : (allow : Liberties) (line : List ℕ) (wide : WideWidth) (own : Liberties) (levels : List Level)
-    → SpellsFifth line wide own levels → (united own allow).early ≡ true
-    → (width : WideWidth) (may : Liberties) (others : List Level) → ¬ wide_heads_by true allow line width may others
-none_early allow line wide own levels named early width may others ((again, also, same), late) =
-    let one = named_once line wide width own again levels others named also in
-    true≢false (sym early ∙ ap (λ (l : Liberties). (united l allow).early) one
-    ∙ ap (λ (l : Liberties). l.early) (sym same) ∙ late)
+-- a line is the header of a wide trace, with what is allowed besides, or it is none
+abbrev pub WideOrNone : Liberties → List ℕ → Type 0
+WideOrNone allow line =
+    ((width : WideWidth) × (may : Liberties) × (levels : List Level) × NamesWide allow line width may levels)
+    ⊎ ((width : WideWidth) (may : Liberties) (levels : List Level) → ¬ NamesWide allow line width may levels)
 
--- a line is the header of a wide trace that is judged so, or it is none
-abbrev pub WideOrNone : Bool → Liberties → List ℕ → Type 0
-WideOrNone together allow line =
-    ((width : WideWidth) × (may : Liberties) × (levels : List Level) × wide_heads_by together allow line width may
-    levels)
-    ⊎ ((width : WideWidth) (may : Liberties) (levels : List Level)
-    → ¬ wide_heads_by together allow line width may levels)
-
-pub wide_or_none : (together : Bool) (allow : Liberties) (line : List ℕ) → WideOrNone together allow line
-wide_or_none together allow line = go together (fifth_or_none line)
+pub wide_or_none : (allow : Liberties) (line : List ℕ) → WideOrNone allow line
+wide_or_none allow line = go (fifth_or_none line)
   where
-    late : (width : WideWidth) (own : Liberties) (levels : List Level) → SpellsFifth line width own levels
-        → (early : Bool) → (united own allow).early ≡ early → WideOrNone true allow line
-    late width own levels h false is = inl (width, united own allow, levels, ((own, h, refl), is))
-    late width own levels h true is = inr (none_early allow line width own levels h is)
-
-    go : (together : Bool) → FifthOrNone line → WideOrNone together allow line
-    go false (inl (width, own, levels, h)) = inl (width, united own allow, levels, (own, h, refl))
-    go false (inr none) = inr (λ width may levels named. none width named.0 levels named.1)
-    go true (inl (width, own, levels, h)) = late width own levels h (united own allow).early refl
-    go true (inr none) = inr (λ width may levels named. none width named.0.0 levels named.0.1)
-
--- ---- the header of links that are judged so
+    go : FifthOrNone line → WideOrNone allow line
+    go (inl (width, own, levels, h)) = inl (width, united own allow, levels, (own, h, refl))
+    go (inr none) = inr (λ width may levels named. none width named.0 levels named.1)
 
 -- nothing is named by a line that is no header of wide beats
-pub none_for : (together : Bool) (allow : Liberties) (line : List ℕ)
+pub none_for : (allow : Liberties) (line : List ℕ)
     → ((width : WideWidth) (may : Liberties) (levels : List Level) → ¬ SpellsFifth line width may levels)
-    → (width : WideWidth) (may : Liberties) (levels : List Level) → ¬ wide_heads_by together allow line width may levels
-none_for false allow line none width may levels (own, named, same) = none width own levels named
-none_for true allow line none width may levels ((own, named, same), late) = none width own levels named
-
--- links that may answer early, by a header that was read, and those that may not
-pub early_read : (allow : Liberties) (line : List ℕ) (found : Option WideHeader) (header : WideHeader) (soon : Bool)
-    → ReadsWide false allow line found → found ≡ Some header → soon ≡ header.links.may.early → soon ≡ true
-    → NamesWideEarly allow line
-early_read allow line found header soon reads is same early =
-    let names : NamesWide allow line header.width header.links.may header.links.levels.items = rw is at reads in
-    (header.width, header.links.may, header.links.levels.items, names, sym same ∙ early)
-
-pub none_read_early : (allow : Liberties) (line : List ℕ) (found : Option WideHeader)
-    → ReadsWide false allow line found → found ≡ None → ¬ NamesWideEarly allow line
-none_read_early allow line found reads is (width, may, levels, names, early) =
-    let none : (width : WideWidth) (may : Liberties) (levels : List Level) → ¬ NamesWide allow line width may levels =
-    rw is at reads in
-    none width may levels names
-
-pub late_read : (allow : Liberties) (line : List ℕ) (found : Option WideHeader) (header : WideHeader) (soon : Bool)
-    → ReadsWide false allow line found → found ≡ Some header → soon ≡ header.links.may.early → soon ≡ false
-    → ¬ NamesWideEarly allow line
-late_read allow line found header soon reads is same late (width, may, levels, (own, named, of), early) =
-    let names : NamesWide allow line header.width header.links.may header.links.levels.items = rw is at reads in
-    let one = named_once line header.width width names.0 own header.links.levels.items levels names.1 named in
-    let alike : header.links.may ≡ may = names.2 ∙ ap (λ (l : Liberties). united l allow) one ∙ sym of in
-    true≢false (sym early ∙ ap (λ (l : Liberties). l.early) (sym alike) ∙ sym same ∙ late)
+    → (width : WideWidth) (may : Liberties) (levels : List Level) → ¬ NamesWide allow line width may levels
+none_for allow line none width may levels (own, named, same) = none width own levels named
 
 -- ---- a header's line ends in LF, and is short
 
@@ -211,9 +158,9 @@ fifth_open line (inr long) width may levels (rest, is, h) =
     )
 
 -- so a line that is open names none
-pub open_wide : (together : Bool) (allow : Liberties) (line : List ℕ) → IsOpen line → (width : WideWidth)
-    (may : Liberties) (levels : List Level) → ¬ wide_heads_by together allow line width may levels
-open_wide together allow line is = none_for together allow line (fifth_open line is)
+pub open_wide : (allow : Liberties) (line : List ℕ) → IsOpen line → (width : WideWidth)
+    (may : Liberties) (levels : List Level) → ¬ NamesWide allow line width may levels
+open_wide allow line is = none_for allow line (fifth_open line is)
 
 -- ---- headers of other versions
 

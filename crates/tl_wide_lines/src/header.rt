@@ -1,12 +1,12 @@
 //! Reads the header of a trace of wide beats.
 
-ghost use Rattle.std.specs.Prelude.{◌≡◌, Bool, false, true, List, IfSome};
+ghost use Rattle.std.specs.Prelude.{List, IfSome};
 ghost use Rattle.tl_params.specs.code.HeaderReading.{Gives};
 ghost use Rattle.tl_params.specs.declared.level.Level.{Level};
 ghost use Rattle.tl_params.specs.declared.liberties.Liberties.{Liberties};
 ghost use Rattle.tl_wide.specs.declared.width.WideWidth.{WideWidth};
 ghost use Rattle.tl_wide_lines.specs.code.HeadReading.{ReadsWide, wide_front_at};
-ghost use Rattle.tl_wide_lines.specs.statement.WideHeader.{IsWideHeader, NamesWideEarly, SpellsFifth};
+ghost use Rattle.tl_wide_lines.specs.statement.WideHeader.{IsWideHeader, SpellsFifth};
 
 use tl_engine::links_header::{LinksHeader, read_named};
 use tl_params::liberties::Liberties;
@@ -73,19 +73,14 @@ pub fn read_wide(line: &[u8]) -> Option<WideHeader>
     })
 }
 
-/// Reads the header of a trace of wide beats. Its links have the liberties that it names and those of `allow`. If they
-/// are judged together and have `early`, it isn't taken as a header.
-pub fn read_wide_for(together: bool, allow: Liberties, line: &[u8]) -> Option<WideHeader>
-    ensures reads { ReadsWide together allow line.now result }
-    ensures late { IfSome result (λ header. together ≡ true → header.links.may.early ≡ false) }
+/// Reads the header of a trace of wide beats. Its links have the liberties that it names and those of `allow`.
+pub fn read_wide_for(allow: Liberties, line: &[u8]) -> Option<WideHeader>
+    ensures { ReadsWide allow line.now result }
 {
     let Some(header) = read_wide(line) else {
         return None;
     };
     let may = header.links.may.union(allow);
-    if together && may.early {
-        return None;
-    }
     Some(WideHeader {
         width: header.width,
         links: LinksHeader {
@@ -93,16 +88,4 @@ pub fn read_wide_for(together: bool, allow: Liberties, line: &[u8]) -> Option<Wi
             ..header.links
         },
     })
-}
-
-/// Whether a first line is a header of wide beats whose links have `early`. Such a header is at fault if all links are
-/// judged together.
-pub fn wide_names_early(allow: Liberties, line: &[u8]) -> bool
-    ensures early { result ≡ true → NamesWideEarly allow line.now }
-    ensures late { result ≡ false → ¬ NamesWideEarly allow line.now }
-{
-    match read_wide_for(false, allow, line) {
-        None => false,
-        Some(header) => header.links.may.early,
-    }
 }

@@ -1,6 +1,6 @@
 //! Judges the beats of a wide trace in turn, by the narrow beats that they become.
 
-ghost use Rattle.std.specs.Prelude.{◌≡◌, false, true, IfOk};
+ghost use Rattle.std.specs.Prelude.{◌≡◌, IfOk};
 ghost use Rattle.tl_beat.specs.statement.Width.{IsWidth};
 ghost use Rattle.tl_wide.specs.statement.Pieces.{left_of};
 ghost use Rattle.tl_wide.specs.statement.Width.{IsWideWidth, part_width};
@@ -48,8 +48,7 @@ impl<const P: usize> WideJudge<P> {
     /// A judge of the links that a header names, 1 to 16, which has seen no beat. The error means that there is no
     /// memory left.
     pub fn new(alloc: Global, together: bool, links: &LinksHeader) -> Result<Self, AllocError>
-        requires width { IsWidth P }
-        requires late { together ≡ true → links.now.may.early ≡ false }
+        requires { IsWidth P }
         ensures { IfOk result (KnowsNone together links.now.levels.items links.now.may) }
     {
         Ok(WideJudge {

@@ -47,7 +47,7 @@ pub fn begin(
 ) -> Result<Option<WideLinks>, AllocError>
     ensures { IfOk result (BeginsWide together allow line.now) }
 {
-    let Some(header) = read_wide_for(together, allow, line) else {
+    let Some(header) = read_wide_for(allow, line) else {
         return Ok(None);
     };
     let links = &header.links;

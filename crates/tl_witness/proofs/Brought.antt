@@ -1,15 +1,13 @@
 -- What is kept of what a response may bring, and what it may bring by what all links have carried.
-use Rattle.std.proofs.Common.{◌≡◌, ◌≤◌, ◌<◌, ◌+◌, ◌-◌, ◌*◌, ◌/◌, ◌%◌, ℕ, zero, suc, Bool, true, false, List, [], ◌∷◌, ◌++◌}
-use Rattle.std.proofs.Common.{length, refl, sym, ap, subst, ◌∙◌, arith, Option, Some, None}
+use Rattle.std.proofs.Common.{◌≡◌, ◌≤◌, ◌<◌, ◌+◌, ◌-◌, ◌*◌, ◌/◌, ◌%◌, ℕ, zero, suc, Bool, true, false, List, [], ◌∷◌}
+use Rattle.std.proofs.Common.{length, refl, sym, ap, ◌∙◌, arith, Option, Some, None}
 use Rattle.std.specs.Prelude.{find, is_some}
 use Rattle.tl_beat.specs.declared.beat.Beat.{Beat}
 use Rattle.tl_beat.specs.declared.beat.BeatD.{BeatD}
 use Rattle.tl_beat.specs.declared.beat.Link.{Link}
-use Rattle.tl_beat.specs.declared.channel.Channel.{Channel}
 use Rattle.tl_beat.specs.declared.opcode.OpD.{OpD}
 use Rattle.tl_beat.specs.statement.Opcode.{d_carries_data}
 use Rattle.tl_beat.specs.statement.Width.{IsWidth}
-use Rattle.tl_burst.specs.statement.Messages.{unfinished}
 use Rattle.tl_bytes.specs.statement.Bytes.{Access, before_last, found_after, is_of, may_grant}
 use Rattle.tl_bytes.specs.statement.Bytes.{pending_accesses}
 use Rattle.tl_memory.proofs.Judging.{in_block, read_inside}
@@ -20,7 +18,6 @@ use Rattle.tl_memory.specs.code.Lines.{told_by}
 use Rattle.tl_memory.specs.declared.expected.Expected.{Expected}
 use Rattle.tl_memory.specs.statement.Blocks.{state_in}
 use Rattle.tl_memory.specs.statement.Expecting.{ExpectsBeat, ExpectsGrant, ExpectsRead, may_answer}
-use Rattle.tl_memory.specs.statement.Known.{Expects}
 use Rattle.tl_memory.specs.statement.Memory.{KnowsMemory}
 use Rattle.tl_params.specs.declared.level.Level.{Level}
 use Rattle.tl_params.specs.declared.liberties.Liberties.{Liberties}

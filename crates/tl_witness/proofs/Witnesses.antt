@@ -3,6 +3,7 @@ use Rattle.std.proofs.Common.{◌≡◌, ℕ, suc, zero, pred, List, [], ◌∷�
 use Rattle.std.proofs.Common.{length, inl, inr, refl, sym}
 use Rattle.std.proofs.Common.{ap, ◌∙◌, Bool, true, false, Option, Some, None, slice_get, slice_set, arith}
 use Rattle.std.proofs.Common.{append_assoc}
+use Rattle.std.specs.Fmt.{decimal}
 use Rattle.std.specs.Prelude.{codes, if◌then◌else◌, option_map, ◌*◌}
 use Rattle.std.proofs.lemmas.Bool.{eq-eqb, lt-ltb, ne_eqb}
 use Rattle.std.proofs.lemmas.List.{append-nil, length-set}
@@ -13,30 +14,33 @@ use Rattle.tl_beat.specs.statement.Digits.{digits}
 use Rattle.tl_explain.specs.statement.Sentences.{perm_name}
 use Rattle.tl_params.specs.declared.key.Key.TheVariants.{GrantAckOf}
 use Rattle.tl_params.specs.declared.perm.Perm.{Perm}
-use Rattle.tl_params.specs.statement.Liberties.{no_liberties}
+use Rattle.tl_bytes.specs.statement.Free.{all_liberties, may_hold}
+use Rattle.tl_params.specs.declared.liberties.Liberty.TheVariants.{Uncorrupt}
+use Rattle.tl_params.specs.statement.Liberties.{standard_liberties, with_liberty}
 use Rattle.tl_rules.specs.statement.Conformance.{Trace, on_link}
-use Rattle.tl_rules.specs.statement.History.{held, pending}
+use Rattle.tl_rules.specs.statement.History.{pending}
 use Rattle.tl_rules.specs.statement.Windows.{leaves}
 use Rattle.tl_beat.specs.declared.channel.Channel.TheVariants as channel
 use Rattle.tl_explain.specs.code.Recorded.{IsBegun, begun_on}
 use Rattle.tl_explain.specs.declared.bursts.Begun.{Begun}
 use Rattle.tl_monitor.specs.statement.Granting.{coming, coming_on, given_by}
 use Rattle.tl_params.specs.declared.level.Level.{Level}
-use Rattle.tl_explain.specs.code.Recorded.{IsRecord}
+use Rattle.tl_explain.specs.code.Recorded.{IsRecordUnder}
 use Rattle.tl_explain.specs.declared.held.Held.{Held}
 use Rattle.tl_explain.specs.declared.recorder.Recorder.{Recorder}
 use Rattle.tl_explain.specs.declared.told.Mention.{Mention}
+use Rattle.tl_explain.specs.declared.told.Told.{Told}
 use Rattle.tl_explain.specs.declared.turns.Subject.{Subject}
-use Rattle.tl_explain.specs.statement.Evidence.{burst_opening, last_saying, mention_of}
-use Rattle.tl_explain.specs.statement.Since.{IsHeldSince}
+use Rattle.tl_explain.specs.statement.Evidence.{burst_opening, last_saying_under, mention_of}
+use Rattle.tl_explain.specs.statement.Since.{IsHeldSinceUnder}
 use Rattle.tl_explain.proofs.follows.Links.{record_kept}
-use Rattle.tl_explain.proofs.Sayings.{held_told-none, saying_kept-none}
+use Rattle.tl_explain.proofs.Sayings.{held_told}
 use Rattle.tl_rules.specs.declared.past.Request.{Request}
 use Rattle.tl_rules.specs.statement.Windows.{needs}
 use Rattle.tl_together.specs.code.Windows.{asked_at}
 use Rattle.tl_witness.specs.code.Witness.{IsFresh, KnowsWitness, Records}
 use Rattle.tl_witness.specs.declared.witness.Witness.{Witness}
-use Rattle.tl_witness.specs.statement.Grounds.{access_text, asked_line, conflict_by, conflicts_text, holder_text}
+use Rattle.tl_witness.specs.statement.Grounds.{access_text, asked_line, conflict_by, conflicts_text, early_text, holder_text}
 use Rattle.tl_witness.specs.statement.Grounds.{holders_text, permission_line, since_text}
 
 -- ---- elements of lists
@@ -64,6 +68,11 @@ found-append (z ∷ xs) (suc k) y x e = elim (found-append xs k y x e) [
 ]
 
 -- ---- recorders that have seen no beat
+
+-- all liberties are the standard ones and one more
+pub all_named : with_liberty Uncorrupt standard_liberties ≡ all_liberties
+unfolding all_liberties
+all_named = refl
 
 -- each is one of its link
 pub record AreFresh (recorders : List Recorder) (block : ℕ) : Type 0 where
@@ -96,7 +105,7 @@ first-knows h w n block is addressed links count are = record {
 kept : {w : ℕ} (r : Recorder) (link block : ℕ) (x : Link × Beat w) (t : Trace w) → (x.0.0 ≡ link → ⊥)
     → Records r link block t → Records r link block (x ∷ t)
 kept r link block x t apart is = record {
-  recorded = record_kept no_liberties r x t (rw is.link_is (ne_eqb x.0.0 link apart)) is.recorded;
+  recorded = record_kept all_liberties r x t (rw is.link_is (ne_eqb x.0.0 link apart)) is.recorded;
   link_is = is.link_is;
   block_is = is.block_is;
 }
@@ -104,7 +113,7 @@ kept r link block x t apart is = record {
 pub taken : {w : ℕ} (h new : Witness) (old next : Recorder) (n block : ℕ) (link : Link) (x : Beat w) (t : Trace w)
     → new.block ≡ h.block → new.links ≡ h.links → new.recorders.items ≡ slice_set h.recorders.items link.0 next
     → slice_get h.recorders.items link.0 ≡ Some old → next.subject ≡ old.subject
-    → (IsRecord old t → IsRecord next ((link, x) ∷ t)) → KnowsWitness h n block t
+    → (IsRecordUnder all_liberties old t → IsRecordUnder all_liberties next ((link, x) ∷ t)) → KnowsWitness h n block t
     → KnowsWitness new n block ((link, x) ∷ t)
 taken h new old next n block link x t block_is links set there subject records k = record {
   block_is = block_is ∙ k.block_is;
@@ -138,38 +147,38 @@ passed h n block link x t none k = record {
 
 -- ---- what is told of links
 
-perm-held : {w : ℕ} (link block : ℕ) (p : Perm) (m : Option Mention) (t : Trace w) → IsHeldSince link block p m t
-    → p ≡ held block (on_link link t)
+perm-held : {w : ℕ} (link block : ℕ) (p : Perm) (m : Option Mention) (t : Trace w) → IsHeldSinceUnder all_liberties link block p m t
+    → p ≡ may_hold block (on_link link t)
 perm-held link block p None t is = is.0
 perm-held link block p (Some m) t is = is.0
 
 -- what a recorder has of its link
 pub said-is : {w : ℕ} (r : Recorder) (h : Held) (link block : ℕ) (t : Trace w) → h ≡ r.held
-    → Records r link block t → mention_of h.since ≡ last_saying link block t
+    → Records r link block t → mention_of h.since ≡ last_saying_under all_liberties link block t
 said-is r h link block t is rec =
     rw (is, ← rec.link_is, ← rec.block_is)
-    (saying_kept-none r.held r.subject.link.0 r.subject.block t rec.recorded.held_is)
+    rec.recorded.held_is.since_is
 
 pub since-is : {w : ℕ} (r : Recorder) (h : Held) (link block : ℕ) (t : Trace w) → h ≡ r.held
-    → Records r link block t → IsHeldSince link block h.perm (mention_of h.since) t
+    → Records r link block t → IsHeldSinceUnder all_liberties link block h.perm (mention_of h.since) t
 since-is r h link block t is rec =
     rw (is, ← rec.link_is, ← rec.block_is)
-    (held_told-none r.held r.subject.link.0 r.subject.block t rec.recorded.held_is)
+    (held_told r.held all_liberties r.subject.link.0 r.subject.block t rec.recorded.held_is)
 
 -- a link that holds no more than may be held
 pub holder-left : {w : ℕ} (link block : ℕ) (given p : Perm) (m : Option Mention) (left : Bool) (t : Trace w)
-    → IsHeldSince link block p m t → left ≡ leaves given p → left ≡ true → [] ≡ holder_text link given block t
+    → IsHeldSinceUnder all_liberties link block p m t → left ≡ leaves given p → left ≡ true → [] ≡ holder_text link given block t
 holder-left link block given p m left t since is leaving =
-    let test : leaves given (held block (on_link link t)) ≡ true =
+    let test : leaves given (may_hold block (on_link link t)) ≡ true =
     rw (perm-held link block p m t since) at (sym is ∙ leaving) in
     rw test refl
 
 -- one that holds more
 pub holder-told : {w : ℕ} (link block : ℕ) (given p : Perm) (m : Option Mention) (left : Bool) (t : Trace w)
-    → IsHeldSince link block p m t → m ≡ last_saying link block t → left ≡ leaves given p → left ≡ false
+    → IsHeldSinceUnder all_liberties link block p m t → m ≡ last_saying_under all_liberties link block t → left ≡ leaves given p → left ≡ false
     → permission_line link (codes " holds ") block p m ≡ holder_text link given block t
 holder-told link block given p m left t since said is conflicting =
-    let test : leaves given (held block (on_link link t)) ≡ false =
+    let test : leaves given (may_hold block (on_link link t)) ≡ false =
     rw (perm-held link block p m t since) at (sym is ∙ conflicting) in
     rw (test, perm-held link block p m t since, said) refl
 
@@ -272,6 +281,15 @@ access-told n link source asked other block moment given t out mid new same give
     (append_assoc out (asked_line (asked_at link source t + 1)) (holders_text n (needs asked.opcode) block t))
 
 -- ---- the line of a permission, piece by piece
+
+pub since-told : (since : Option Told) (m : Told) (out a b c : List ℕ) → since ≡ Some m
+    → a ≡ out ++ codes " since line " → b ≡ a ++ decimal m.mention.line → c ≡ b ++ early_text m.mention.control
+    → c ≡ out ++ since_text (mention_of since)
+since-told since m out a b c is a_is b_is c_is =
+    rw (c_is, b_is, a_is, is)
+    (ap (λ text. text ++ early_text m.mention.control)
+    (append_assoc out (codes " since line ") (decimal m.mention.line))
+    ∙ append_assoc out (codes " since line " ++ decimal m.mention.line) (early_text m.mention.control))
 
 pub permission-told : (link block times : ℕ) (verb : List ℕ) (perm : Perm) (since : Option Mention)
     (out a b c d e f g h : List ℕ) → times ≡ 64 * block → a ≡ out ++ codes "  link " → b ≡ a ++ digits 2 link

@@ -4,15 +4,17 @@ ghost use Rattle.std.specs.Prelude.{◌+◌, ◌*◌, ◌^◌, ◌<◌, ◌≤�
 ghost use Rattle.std.specs.Fmt.{decimal};
 ghost use Rattle.tl_beat.specs.statement.Digits.{digits};
 ghost use Rattle.tl_explain.specs.statement.Evidence.{mention_of};
-ghost use Rattle.tl_witness.specs.statement.Grounds.{asked_line, permission_line, since_text};
+ghost use Rattle.tl_witness.specs.statement.Grounds.{asked_line, early_text, permission_line, since_text};
 
 use arrayvec::ArrayVec;
 use itoa::Buffer;
 use std::alloc::AllocError;
+use tl_beat::control::Control;
 use tl_beat::text::append_digits;
 use tl_explain::held::Held;
 use tl_explain::told::Told;
 use tl_explain::words::perm_name;
+use tl_rules::kind::is_release_ack;
 
 /// Appends the lowest hexadecimal digits of a number, this many of them, the highest first.
 pub(crate) fn append_hex(number: u32, count: u8, out: &mut Vec<u8>) -> Result<(), AllocError>
@@ -32,6 +34,19 @@ pub(crate) fn append_number(number: u128, out: &mut Vec<u8>) -> Result<(), Alloc
     out.extend_from_slice(digits.format(number).as_bytes())
 }
 
+/// The words for an answer that set a permission: it came before the last beat of the message that it answers.
+fn early(control: &Control) -> &'static str
+    ensures { result.now ≡ early_text control.now }
+{
+    match control {
+        Control::D(x) if is_release_ack(x.opcode) => {
+            " (a ReleaseAck before the last beat of its Release)"
+        }
+        Control::E(_) => " (a GrantAck before the last beat of its Grant)",
+        _ => "",
+    }
+}
+
 /// Appends the line since which a block is held, if a message is cited.
 fn append_since(since: &Option<Told>, out: &mut Vec<u8>) -> Result<(), AllocError>
     ensures { OnOk result (out.new.items ≡ out.old.items ++ since_text (mention_of since.now)) }
@@ -40,7 +55,9 @@ fn append_since(since: &Option<Told>, out: &mut Vec<u8>) -> Result<(), AllocErro
         None => Ok(()),
         Some(told) => {
             out.extend_from_slice(b" since line ")?;
-            append_number(u128::from(told.mention.line), out)
+            append_number(u128::from(told.mention.line), out)?;
+            out.extend_from_slice(early(&told.mention.control).as_bytes())?;
+            Ok(())
         }
     }
 }

@@ -4,8 +4,9 @@ ghost use Rattle.std.specs.Prelude.{ℕ, List, [], ◌∷◌, ◌^◌, ◌<◌, 
 ghost use Rattle.std.specs.Prelude.{option_copied, slice_get};
 ghost use Rattle.tl_beat.specs.declared.channel.Channel.TheVariants as channel;
 ghost use Rattle.tl_beat.specs.statement.Width.{IsWidth};
-ghost use Rattle.tl_explain.specs.statement.Evidence.{burst_opening, last_saying, mention_of, next_line};
-ghost use Rattle.tl_explain.specs.statement.Since.{IsHeldSince};
+ghost use Rattle.tl_bytes.specs.statement.Free.{all_liberties};
+ghost use Rattle.tl_explain.specs.statement.Evidence.{burst_opening, last_saying_under, mention_of, next_line};
+ghost use Rattle.tl_explain.specs.statement.Since.{IsHeldSinceUnder};
 ghost use Rattle.tl_monitor.specs.statement.Granting;
 ghost use Rattle.tl_monitor.specs.statement.Granting.{coming};
 ghost use Rattle.tl_params.specs.declared.level.Level.{Level};
@@ -23,6 +24,7 @@ use tl_explain::held::Held;
 use tl_explain::recorder::{Recorder, Unrecorded};
 use tl_explain::told::Told;
 use tl_explain::turns::Subject;
+use tl_params::liberties::{Liberties, Liberty};
 use tl_params::perm::Perm;
 use tl_together::free::leaves;
 use tl_together::judge::Judge;
@@ -35,16 +37,18 @@ pub struct Witness {
     recorders: Vec<Recorder>,
 }
 
-/// A recorder of the permission that a link holds of a block.
+/// A recorder of the permission that a link holds of a block, whatever liberties it has.
 fn recorder_of(link: u8, block: u32) -> Recorder
     ensures { IsFresh result link block }
 {
-    Recorder::new(Subject {
+    let all = Liberties::standard().with(Liberty::Uncorrupt);
+    let subject = Subject {
         link: Link(link),
         block,
         source: 0,
         sink: 0,
-    })
+    };
+    Recorder::with_liberties(all, subject)
 }
 
 impl Witness {
@@ -93,9 +97,9 @@ impl Witness {
     /// The permission that a link holds of the block, and the message that left it.
     pub fn held(&self, link: u8) -> Held
         ensures said { (w n block : ℕ) (t : Trace w) → KnowsWitness self.now n block t → link < n →
-            mention_of result.since ≡ last_saying link block t }
+            mention_of result.since ≡ last_saying_under all_liberties link block t }
         ensures since { (w n block : ℕ) (t : Trace w) → KnowsWitness self.now n block t → link < n →
-            IsHeldSince link block result.perm (mention_of result.since) t }
+            IsHeldSinceUnder all_liberties link block result.perm (mention_of result.since) t }
     {
         match self.recorder(link) {
             None => Held {

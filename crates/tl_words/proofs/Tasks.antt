@@ -1,7 +1,7 @@
 -- What the words of a subcommand ask for.
 use denote.Ref.{Bor}
-use Rattle.std.proofs.Common.{◌≡◌, ◌||◌, ◌&&◌, ◌∙◌, ℕ, ap, Bool, true, false, true≢false}
-use Rattle.std.proofs.Common.{List, [], refl, sym, subst, codes, inr, Result, Ok, Err}
+use Rattle.std.proofs.Common.{◌≡◌, ◌||◌, ◌&&◌, ◌∙◌, ℕ, ap, Bool, true, false}
+use Rattle.std.proofs.Common.{List, refl, sym, subst, codes, inr, Result, Ok, Err}
 use Rattle.std.specs.Prelude.{IfErr, IfOk, Option, Some, None, is_some, option_map}
 use Rattle.std.specs.Str.{bytes_eq}
 use Rattle.std.proofs.lemmas.Slice.Eq.{bytes_eq-Decides}
@@ -13,19 +13,17 @@ use Rattle.tl_command.specs.declared.chart.Range.{Range}
 use Rattle.tl_command.specs.declared.search.Aim.{Aim}
 use Rattle.tl_command.specs.declared.search.Inquiry.{Inquiry}
 use Rattle.tl_command.specs.statement.ChartWords.{IsRange}
-use Rattle.tl_command.specs.statement.LibertyWords.{AreAllowed, LacksComma}
+use Rattle.tl_command.specs.statement.LibertyWords.{AreAllowed}
 use Rattle.tl_command.specs.statement.RandomWords.{IsWrong, Words}
 use Rattle.tl_command.specs.statement.SearchWords.{IsInquiry}
 use Rattle.tl_command.specs.statement.Words.{wide_width_named}
-use Rattle.tl_command.proofs.LibertyWords.{liberties_again}
 use Rattle.tl_command.proofs.RandomOptions.{wrong_for_all}
-use Rattle.tl_params.proofs.Options.{some_pair}
 use Rattle.tl_words.specs.declared.words.WordsFault.{WordsFault}
 use Rattle.tl_words.specs.declared.words.WordsFault.TheVariants as fault
 use Rattle.tl_words.specs.Refused.{AsksNothing, IsFaultOf, IsRefusal}
-use Rattle.tl_words.specs.Tool.{AreAllowedIn, AreTaken, IsAim, IsInquiryOf}
+use Rattle.tl_words.specs.Tool.{AreAllowedIn, IsAim, IsInquiryOf}
 use Rattle.tl_words.specs.Tool.{IsTaskOf, command_in, command_named, flag_named, form_in, form_of, is_reported, is_wide}
-use Rattle.tl_words.specs.Tool.{judges_together, together_named, tool_of, words_in}
+use Rattle.tl_words.specs.Tool.{together_named, tool_of, words_in}
 use Rattle.tl_params.specs.declared.liberties.Liberties.{Liberties}
 
 -- the same words name the same command
@@ -81,7 +79,7 @@ range_alike range {a} {b} {x} {y} p q is =
 -- words that name no lines, or no block, or no liberties ask for nothing
 pub no_chart : (rows : List Row) → ((range : Range) (allow : Liberties)
     → IsRange (first_of (codes "lines") rows) (first_of (codes "block") rows) range
-    → ¬ AreAllowed (first_of (codes "allow") rows) allow) → (task : Task) → ¬ IsTaskOf (codes "chart") rows task
+    → ¬ AreAllowedIn rows allow) → (task : Task) → ¬ IsTaskOf (codes "chart") rows task
 no_chart rows wrong (Read command allow file) is = let none = is.0 in absurd cc
 no_chart rows wrong (DecodeWide width file) is = let none = is.0 in absurd cc
 no_chart rows wrong (Search aim file) is = no_search (codes "chart") (first_of (codes "all") rows) aim refl is.0
@@ -143,7 +141,7 @@ no_report name word rows none said other another apart plain reported (Cover for
 no_report name word rows none said other another apart plain reported (Draw options) is = let same = is.0 in absurd cc
 
 -- a word of `--allow` that names no liberties asks for nothing
-pub no_liberties_named : (name : Text) (rows : List Row) → ((allow : Liberties) → ¬ AreAllowedIn name rows allow)
+pub no_liberties_named : (name : Text) (rows : List Row) → ((allow : Liberties) → ¬ AreAllowedIn rows allow)
     → bytes_eq name (codes "random") ≡ false → bytes_eq name (codes "chart") ≡ false
     → bytes_eq name (codes "cover") ≡ false → is_wide name rows ≡ false → (task : Task)
     → ¬ IsTaskOf name rows task
@@ -195,37 +193,13 @@ wide_so name rows is = go (bytes_eq name (codes "decode")) refl is
     go false other flagged = absurd cc
 
 -- the entries have this word of `--allow`
-pub allowed_in : (name : Text) (rows : List Row) (together : Bool) (coherent word : Option Text)
-    → together ≡ judges_together name coherent → coherent ≡ first_of (codes "coherent") rows
-    → word ≡ first_of (codes "allow") rows → (allow : Liberties) → AreTaken together word allow
-    → AreAllowedIn name rows allow
-allowed_in name rows together coherent word so flag is allow are =
-    subst (λ (o : Option Text). AreTaken (judges_together name (first_of (codes "coherent") rows)) o allow) is
-    (subst (λ (b : Bool). AreTaken b word allow) (so ∙ ap (judges_together name) flag) are)
+pub allowed_in : (rows : List Row) (word : Option Text) → word ≡ first_of (codes "allow") rows → (allow : Liberties)
+    → AreAllowed word allow → AreAllowedIn rows allow
+allowed_in rows word is allow are = subst (λ (o : Option Text). AreAllowed o allow) is are
 
-pub none_allowed_in : (name : Text) (rows : List Row) (together : Bool) (coherent word : Option Text)
-    → together ≡ judges_together name coherent → coherent ≡ first_of (codes "coherent") rows
-    → word ≡ first_of (codes "allow") rows → ((allow : Liberties) → ¬ AreTaken together word allow)
-    → (allow : Liberties) → ¬ AreAllowedIn name rows allow
-none_allowed_in name rows together coherent word so flag is none allow are =
-    none allow (subst (λ (b : Bool). AreTaken b word allow) (sym (so ∙ ap (judges_together name) flag))
-    (subst (λ (o : Option Text). AreTaken (judges_together name (first_of (codes "coherent") rows)) o allow) (sym is)
-    are))
-
--- a word of `--allow` names one set of liberties
-allowed_once : (word : Option Text) (l m : Liberties) → AreAllowed word l → AreAllowed word m → l ≡ m
-allowed_once None l m are also = are ∙ sym also
-allowed_once (Some word) l m are also =
-    let lacks : LacksComma [] = λ rest e. absurd cc in
-    (some_pair (l, []) (m, []) (sym (liberties_again word [] l are lacks) ∙ liberties_again word [] m also lacks)).0
-
--- none where links are judged together, whose answers would be early
-pub none_early : (together : Bool) (word : Option Text) (allow : Liberties) → AreAllowed word allow
-    → together ≡ true → allow.early ≡ true → (other : Liberties) → ¬ AreTaken together word other
-none_early together word allow are all early other (also, late) =
-    let same = allowed_once word allow other are also in
-    let soon : other.early ≡ true = ap (λ (l : Liberties). l.early) (sym same) ∙ early in
-    true≢false (rw (all, soon) at late)
+pub none_allowed_in : (rows : List Row) (word : Option Text) → word ≡ first_of (codes "allow") rows
+    → ((allow : Liberties) → ¬ AreAllowed word allow) → (allow : Liberties) → ¬ AreAllowedIn rows allow
+none_allowed_in rows word is none allow are = none allow (subst (λ (o : Option Text). AreAllowed o allow) (sym is) are)
 
 module _ (texts : List Text) (name : Text) (rows : List Row) (is : subcommand_of tool_of texts ≡ Some (name, rows))
   where

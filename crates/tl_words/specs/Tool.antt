@@ -206,41 +206,32 @@ is_reported rows = is_some (first_of (codes "report") rows) || is_some (first_of
 abbrev pub is_wide : Text → List Row → Bool
 is_wide name rows = bytes_eq name (codes "decode") && flag_named (first_of (codes "wide") rows)
 
--- the command of this name judges all links together: `coherent`, and `explain` if its flag is given
-abbrev pub judges_together : Text → Option Text → Bool
-judges_together name coherent = bytes_eq name (codes "coherent") || flag_named coherent
-
--- the word of `--allow` names these: early answers are none of them if links are judged together
-abbrev pub AreTaken : Bool → Option Text → Liberties → Type 0
-AreTaken together word allow = AreAllowed word allow × (together && allow.early ≡ false)
-
 -- the liberties in addition to those of the header
-abbrev pub AreAllowedIn : Text → List Row → Liberties → Type 0
-AreAllowedIn name rows =
-    AreTaken (judges_together name (first_of (codes "coherent") rows)) (first_of (codes "allow") rows)
+abbrev pub AreAllowedIn : List Row → Liberties → Type 0
+AreAllowedIn rows = AreAllowed (first_of (codes "allow") rows)
 
 -- The task of a subcommand's name and entries: a command over FILE, its wide beats in words, a search of it, a
 -- judgement of it that is reported, a chart of it, the situations of FILEs, or a random schedule.
 abbrev pub IsTaskOf : Text → List Row → Task → Type 0
 IsTaskOf name rows (Read command allow file) =
     (command_in name rows ≡ Some command) × (first_of (codes "all") rows ≡ None)
-    × (option_map string_bytes file ≡ file_in rows) × (is_reported rows ≡ false) × AreAllowedIn name rows allow
+    × (option_map string_bytes file ≡ file_in rows) × (is_reported rows ≡ false) × AreAllowedIn rows allow
     × (is_wide name rows ≡ false)
 IsTaskOf name rows (DecodeWide width file) =
     (is_wide name rows ≡ true) × (wide_width_named (first_of (codes "width") rows) ≡ Some width)
     × (option_map string_bytes file ≡ file_in rows)
 IsTaskOf name rows (Search aim file) =
     IsAim name (first_of (codes "all") rows) aim × (option_map string_bytes file ≡ file_in rows)
-    × (is_reported rows ≡ false) × AreAllowedIn name rows aim.allow
+    × (is_reported rows ≡ false) × AreAllowedIn rows aim.allow
 IsTaskOf name rows (Report inquiry file report junit) =
     IsInquiryOf name (first_of (codes "all") rows) inquiry × (is_reported rows ≡ true)
     × (option_map string_bytes file ≡ file_in rows)
     × (option_map string_bytes report ≡ first_of (codes "report") rows)
-    × (option_map string_bytes junit ≡ first_of (codes "junit") rows) × AreAllowedIn name rows inquiry.aim.allow
+    × (option_map string_bytes junit ≡ first_of (codes "junit") rows) × AreAllowedIn rows inquiry.aim.allow
 IsTaskOf name rows (Chart range allow file) =
     (bytes_eq name (codes "chart") ≡ true)
     × IsRange (first_of (codes "lines") rows) (first_of (codes "block") rows) range
-    × AreAllowed (first_of (codes "allow") rows) allow × (option_map string_bytes file ≡ file_in rows)
+    × AreAllowedIn rows allow × (option_map string_bytes file ≡ file_in rows)
 IsTaskOf name rows (Cover form files) =
     (bytes_eq name (codes "cover") ≡ true) × (form_in rows ≡ Some form)
     × (map string_bytes files.items ≡ files_in rows)

@@ -50,7 +50,7 @@ pub(crate) fn draw_chart(alloc: Global, found: &ArgMatches) -> Result<Task, Word
     let word = found.get_str("allow");
     let name_of_file = found.get_str("FILE");
     let Some(allow) = allowed_named(word) else {
-        let error = wrong_liberties(alloc, "chart", false, word)?;
+        let error = wrong_liberties(alloc, "chart", word)?;
         return Err(WordsFault::Usage(error));
     };
     match range_named(lines, block) {

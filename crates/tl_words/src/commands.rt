@@ -128,7 +128,7 @@ pub fn coherent<'a>(alloc: Global) -> Result<clap::Command<'a>, AllocError>
         help::TOGETHER,
     );
     with_argument(
-        with_reports(alloc, coherent, help::ALLOW_TOGETHER)?,
+        with_reports(alloc, coherent, help::ALLOW)?,
         file(alloc, FILE_HELP),
     )
 }
@@ -139,7 +139,7 @@ pub fn explain<'a>(alloc: Global) -> Result<clap::Command<'a>, AllocError>
     ensures local { IfOk result (λ c. (out-Command c).has_globals ≡ false) }
 {
     let coherent = flag(alloc, "coherent", help::COHERENT);
-    let allow = valued(alloc, "allow", "LIBERTIES", help::ALLOW_EXPLAINED);
+    let allow = valued(alloc, "allow", "LIBERTIES", help::ALLOW);
     let explain = named(
         alloc,
         "explain",

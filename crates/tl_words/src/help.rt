@@ -202,18 +202,6 @@ pub const TOGETHER: &str = outcomes_of_all_links!(
 pub const ALLOW: &str =
     "Liberties to allow in addition to the header's: none, standard, or names of ids, sinks, writer, early, drops, reports, denied and uncorrupt, in this order, with a comma between them";
 
-/// The form of the word of `--allow` if links are judged together, for which answers aren't early.
-pub const WANTED_TOGETHER: &str =
-    "none, or names of ids, sinks, writer, drops, reports, denied and uncorrupt, in this order, with a comma between them";
-
-/// The help on `--allow` if links are judged together.
-pub const ALLOW_TOGETHER: &str =
-    "Liberties to allow in addition to the header's: none, or names of ids, sinks, writer, drops, reports, denied and uncorrupt, in this order, with a comma between them";
-
-/// The help on `--allow` for `explain`.
-pub const ALLOW_EXPLAINED: &str =
-    "Liberties to allow in addition to the header's: none, standard, or names of ids, sinks, writer, early, drops, reports, denied and uncorrupt, in this order, with a comma between them; with --coherent neither early nor standard";
-
 /// The help on `--all`.
 pub const ALL: &str =
     "Continue after a line at fault without its beat, and stop at the Nth such line; `faults M` counts them";

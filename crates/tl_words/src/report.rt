@@ -38,7 +38,7 @@ fn reported(
     words: &ReportWords,
 ) -> Result<Task, WordsFault>
     ensures read { IfOk result (λ task. (rows : List Row) → AreGiven rows words.now → is_reported rows ≡ true →
-        AreAllowedIn name.now rows allow → IsTaskOf name.now rows task) }
+        AreAllowedIn rows allow → IsTaskOf name.now rows task) }
     ensures wrong { IfErr result (λ fault. (rows : List Row) → AreGiven rows words.now → is_reported rows ≡ true →
         bytes_eq name.now (codes "random") ≡ false → bytes_eq name.now (codes "chart") ≡ false →
         bytes_eq name.now (codes "cover") ≡ false → is_wide name.now rows ≡ false →
@@ -74,7 +74,7 @@ pub(crate) fn report(
     requires cover { bytes_eq name.now (codes "cover") ≡ false }
     requires plain { is_wide name.now (rows_of (found_of found.now)) ≡ false }
     requires reported { is_reported (rows_of (found_of found.now)) ≡ true }
-    requires allowed { AreAllowedIn name.now (rows_of (found_of found.now)) allow }
+    requires allowed { AreAllowedIn (rows_of (found_of found.now)) allow }
     ensures read { IfOk result (IsTaskOf name.now (rows_of (found_of found.now))) }
     ensures wrong { IfErr result (IsFaultOf name.now (rows_of (found_of found.now))) }
 {

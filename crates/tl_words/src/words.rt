@@ -4,16 +4,15 @@
 //! [FILE]`, `tltool cover [--tables] [--json] [FILE..]`, `tltool run [--trace] [FILE]`, `tltool random --seed N` with its options,
 //! and those that ask for help or the version.
 
-ghost use Rattle.std.specs.Prelude.{◌≡◌, IfOk, IfErr, MatchOption, true, false};
+ghost use Rattle.std.specs.Prelude.{◌≡◌, IfOk, IfErr, true, false};
 ghost use Rattle.std.specs.Prelude.{List, Some, bytes_eq, codes, map, option_map};
 ghost use Rattle.std.specs.String.{string_bytes};
 ghost use Rattle.clap.specs.Words.{Row, Text, first_of, found_of, is_simple_and_free};
 ghost use Rattle.clap.specs.Words.{kind_of, rows_of, subcommand_of};
 ghost use Rattle.tl_words.specs.Refused.{IsFaultOf, IsRefusal, status_of_usage, usage_status, words_fault};
 ghost use Rattle.tl_command.specs.statement.RandomWords.{words_of};
-ghost use Rattle.tl_words.specs.Tool.{AreAllowedIn, AreTaken, IsTaskOf, command_named, flag_named, is_reported, is_wide};
-ghost use Rattle.tl_words.specs.Tool.{judges_together, together_named, tool_of};
-ghost use Rattle.tl_words.specs.Tool.{words_in};
+ghost use Rattle.tl_words.specs.Tool.{AreAllowedIn, IsTaskOf, command_named, flag_named, is_reported, is_wide};
+ghost use Rattle.tl_words.specs.Tool.{together_named, tool_of, words_in};
 
 use crate::chart_words::draw_chart;
 use crate::commands::{chart, coherent, decode, explain, monitor, random, tool};
@@ -247,17 +246,12 @@ fn allowing<'a>(alloc: Global, name: &str) -> Result<clap::Command<'a>, AllocErr
 pub(crate) fn wrong_liberties(
     alloc: Global,
     name: &str,
-    together: bool,
     word: Option<&str>,
 ) -> Result<clap::Error, AllocError>
     ensures { IfOk result (λ error. status_of_usage error ≡ 2) }
 {
     let word = word.unwrap_or("");
-    let wanted = if together {
-        help::WANTED_TOGETHER
-    } else {
-        LIBERTIES_WANTED
-    };
+    let wanted = LIBERTIES_WANTED;
     let message = format!(in alloc; "invalid value '{word}' for '--allow <LIBERTIES>': {wanted}")?;
     let mut command = allowing(alloc, name)?;
     command.error(ErrorKind::InvalidValue, message.as_str())
@@ -284,7 +278,7 @@ fn search(
 ) -> Result<Task, WordsFault>
     ensures read { IfOk result (λ task. (rows : List Row) → first_of (codes "all") rows ≡ Some word.now →
         first_of (codes "FILE") rows ≡ option_map (λ s. s.now) name_of_file.entry → is_reported rows ≡ false →
-        AreAllowedIn name.now rows allow → IsTaskOf name.now rows task) }
+        AreAllowedIn rows allow → IsTaskOf name.now rows task) }
     ensures wrong { IfErr result (λ fault. (rows : List Row) → first_of (codes "all") rows ≡ Some word.now →
         bytes_eq name.now (codes "random") ≡ false → bytes_eq name.now (codes "chart") ≡ false →
         bytes_eq name.now (codes "cover") ≡ false → is_wide name.now rows ≡ false →
@@ -315,7 +309,7 @@ fn read(alloc: Global, name: &str, allow: Liberties, found: &ArgMatches) -> Resu
     requires cover { bytes_eq name.now (codes "cover") ≡ false }
     requires plain { is_wide name.now (rows_of (found_of found.now)) ≡ false }
     requires unreported { is_reported (rows_of (found_of found.now)) ≡ false }
-    requires allowed { AreAllowedIn name.now (rows_of (found_of found.now)) allow }
+    requires allowed { AreAllowedIn (rows_of (found_of found.now)) allow }
     ensures read { IfOk result (IsTaskOf name.now (rows_of (found_of found.now))) }
     ensures wrong { IfErr result (IsFaultOf name.now (rows_of (found_of found.now))) }
 {
@@ -337,26 +331,6 @@ fn read(alloc: Global, name: &str, allow: Liberties, found: &ArgMatches) -> Resu
     })
 }
 
-/// Whether the command of this name judges all links together: `coherent` does, and `explain` with its flag.
-fn judges_together(name: &str, coherent: Option<&str>) -> bool
-    ensures { result ≡ judges_together name.now (option_map (λ s. s.now) coherent.entry) }
-{
-    name == "coherent" || flag_named(coherent)
-}
-
-/// The liberties that the word of `--allow` names; none without it. If links are judged together, `early` isn't one.
-fn allowed_for(together: bool, word: Option<&str>) -> Option<Liberties>
-    ensures { MatchOption result
-        ((allow : Liberties) → ¬ AreTaken together (option_map (λ s. s.now) word.entry) allow)
-        (AreTaken together (option_map (λ s. s.now) word.entry)) }
-{
-    let allow = allowed_named(word)?;
-    if together && allow.early {
-        return None;
-    }
-    Some(allow)
-}
-
 /// The task of the entries of a command that reads.
 fn asked(alloc: Global, name: &str, found: &ArgMatches) -> Result<Task, WordsFault>
     requires random { bytes_eq name.now (codes "random") ≡ false }
@@ -367,10 +341,8 @@ fn asked(alloc: Global, name: &str, found: &ArgMatches) -> Result<Task, WordsFau
     ensures wrong { IfErr result (IsFaultOf name.now (rows_of (found_of found.now))) }
 {
     let word = found.get_str("allow");
-    let coherent = found.get_str("coherent");
-    let together = judges_together(name, coherent);
-    let Some(allow) = allowed_for(together, word) else {
-        return Err(WordsFault::Usage(wrong_liberties(alloc, name, together, word)?));
+    let Some(allow) = allowed_named(word) else {
+        return Err(WordsFault::Usage(wrong_liberties(alloc, name, word)?));
     };
     if is_reported(found) {
         report(alloc, name, allow, found)

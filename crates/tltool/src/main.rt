@@ -8,13 +8,11 @@ ghost use Rattle.tltool.specs.Ended.{explain_status};
 
 mod cover;
 mod decode;
-mod early;
 mod report;
 mod unread;
 
 use cover::cover;
 use decode::decode;
-use early::{front_of, tell_early, tell_early_in};
 use report::report;
 use std::fs::File;
 use std::io::{Read, Write};
@@ -39,7 +37,7 @@ use tl_random::schedule::write_schedule;
 use tl_report::find::find_all;
 use tl_wide_lines::run::run_trace;
 use tl_words::words::{WordsFault, invocation, usage_status};
-use unread::{tell_unread, tell_unread_in};
+use unread::{front_of, tell_unread, tell_unread_in};
 
 /// The exit status of a run. Its fault is printed on standard error.
 pub(crate) fn told(rt: &HostRuntime, outcome: Result<Status, ToolFault>) -> u8
@@ -235,25 +233,11 @@ fn explain(rt: &HostRuntime, coherent: bool, allow: Liberties, name: &str) -> u8
 fn read(rt: &HostRuntime, command: Command, allow: Liberties, name: Option<String>) -> u8 {
     let mut output = io::writer(rt);
     match (command, name) {
-        (Command::Coherent, None) => {
-            let mut input = rt.reader();
-            let front = front_of(&mut input);
-            let mut whole = front.as_slice().chain(input);
-            let status = run_over(rt, command, allow, &mut whole, &mut output);
-            tell_early(rt, allow, front.as_slice(), status)
-        }
         (_, None) => run_over(rt, command, allow, &mut rt.reader(), &mut output),
         (Command::Explain { coherent }, Some(name)) => explain(rt, coherent, allow, name.as_str()),
         (_, Some(name)) => {
             let opened = fs::open(rt, name.as_str());
-            let status = run_file(rt, command, allow, name.as_str(), opened, &mut output);
-            tell_early_in(
-                rt,
-                command == Command::Coherent,
-                allow,
-                name.as_str(),
-                status,
-            )
+            run_file(rt, command, allow, name.as_str(), opened, &mut output)
         }
     }
 }
@@ -316,22 +300,9 @@ fn find_over<R: Read, W: Write>(rt: &HostRuntime, aim: Aim, input: &mut R, outpu
 fn find(rt: &HostRuntime, aim: Aim, name: Option<String>) -> u8 {
     let mut output = io::writer(rt);
     match name {
-        None => {
-            let mut input = rt.reader();
-            let front = front_of(&mut input);
-            let mut whole = front.as_slice().chain(input);
-            let status = find_over(rt, aim, &mut whole, &mut output);
-            if aim.together {
-                tell_early(rt, aim.allow, front.as_slice(), status)
-            } else {
-                status
-            }
-        }
+        None => find_over(rt, aim, &mut rt.reader(), &mut output),
         Some(name) => match fs::open(rt, name.as_str()) {
-            Ok(mut file) => {
-                let status = find_over(rt, aim, &mut file, &mut output);
-                tell_early_in(rt, aim.together, aim.allow, name.as_str(), status)
-            }
+            Ok(mut file) => find_over(rt, aim, &mut file, &mut output),
             Err(_) => unopened(rt, name.as_str()),
         },
     }

@@ -3,7 +3,6 @@
 ghost use Rattle.std.specs.Prelude.{◌≡◌, ℕ, IfOk, List, OnErr, Option, false};
 ghost use Rattle.tltool.specs.Reported.{EndsJudged, EndsReported, status_reported};
 
-use crate::early::{front_of, tell_early, tell_early_in};
 use crate::{told, unopened};
 use std::io::{Read, Write};
 use std::{fs, io};
@@ -89,38 +88,16 @@ fn judge_file(rt: &HostRuntime, inquiry: Inquiry, name: &str) -> Result<Account,
     let Ok(mut input) = fs::open(rt, name) else {
         return Err(unopened(rt, name));
     };
-    match judge_over(rt, inquiry, &mut input, &mut io::writer(rt)) {
-        Ok(account) => {
-            let aim = inquiry.aim;
-            let status = status_reported(&account.findings, true);
-            tell_early_in(rt, aim.together, aim.allow, name, status);
-            Ok(account)
-        }
-        Err(fault) => Err(told(rt, Err(fault))),
-    }
-}
-
-/// Judges the trace on standard input. The error is the exit status.
-fn judge_input(rt: &HostRuntime, inquiry: Inquiry) -> Result<Account, u8> {
-    let mut input = rt.reader();
-    let front = front_of(&mut input);
-    let mut whole = front.as_slice().chain(input);
-    match judge_over(rt, inquiry, &mut whole, &mut io::writer(rt)) {
-        Ok(account) => {
-            let status = status_reported(&account.findings, true);
-            if inquiry.aim.together {
-                tell_early(rt, inquiry.aim.allow, front.as_slice(), status);
-            }
-            Ok(account)
-        }
-        Err(fault) => Err(told(rt, Err(fault))),
-    }
+    judge_over(rt, inquiry, &mut input, &mut io::writer(rt)).map_err(|fault| told(rt, Err(fault)))
 }
 
 /// Judges the trace on standard input, or in the file of this name. The error is the exit status.
 fn judge(rt: &HostRuntime, inquiry: Inquiry, file: Option<String>) -> Result<Account, u8> {
     match file {
-        None => judge_input(rt, inquiry),
+        None => {
+            let judged = judge_over(rt, inquiry, &mut rt.reader(), &mut io::writer(rt));
+            judged.map_err(|fault| told(rt, Err(fault)))
+        }
         Some(name) => judge_file(rt, inquiry, name.as_str()),
     }
 }

@@ -12,7 +12,8 @@ use Rattle.tl_engine.specs.declared.link_lines.LinkJudge.{LinkJudge}
 use Rattle.tl_engine.specs.declared.link_lines.LinkJudge.TheVariants.{Waiting, Four, Eight, Sixteen}
 use Rattle.tl_engine.specs.declared.link_lines.LinkLines.{LinkLines}
 use Rattle.tl_engine.specs.declared.trace_judge.TraceJudge.{TraceJudge}
-use Rattle.tl_engine.specs.statement.JudgedLinks.{faults_by, heads_by}
+use Rattle.tl_engine.specs.statement.JudgedLinks.{faults_by}
+use Rattle.tl_engine.specs.statement.LinksHeader.{NamesAllowed}
 use Rattle.tl_params.specs.declared.level.Level.{Level}
 use Rattle.tl_params.specs.declared.liberties.Liberties.{Liberties}
 use Rattle.tl_params.specs.declared.width.Width.{Width}
@@ -33,7 +34,7 @@ Watches {w} together old new line (Some fault) =
 -- these lines, a header and beats that aren't at fault, are judged with this text so far, under these further liberties
 abbrev pub KnowsTrace : {w : ℕ} → Bool → Liberties → TraceJudge w → List (List ℕ) → List ℕ → Type 0
 KnowsTrace together allow judge =
-    KnowsTraceOf (KnowsBeats together judge) (heads_by together allow) (faults_by together) (said_by together)
+    KnowsTraceOf (KnowsBeats together judge) (NamesAllowed allow) (faults_by together) (said_by together)
 
 -- after these lines without a fault, this text has been appended
 abbrev pub KnowsJudge : Bool → Liberties → LinkJudge → List (List ℕ) → List ℕ → Type 0
@@ -52,5 +53,5 @@ KnowsLines h lines text = KnowsJudge h.together h.allow h.judge lines text
 -- what the first line begins: a judge that knows the header, or none if it is no header
 abbrev pub Begins : Bool → Liberties → List ℕ → Option LinkJudge → Type 0
 Begins together allow line None =
-    (width : Width) (may : Liberties) (levels : List Level) → ¬ heads_by together allow line width may levels
+    (width : Width) (may : Liberties) (levels : List Level) → ¬ NamesAllowed allow line width may levels
 Begins together allow line (Some judge) = KnowsJudge together allow judge (line ∷ []) []

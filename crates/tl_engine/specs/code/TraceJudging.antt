@@ -10,7 +10,8 @@ use Rattle.tl_params.specs.declared.liberties.Liberties.{Liberties}
 use Rattle.tl_params.specs.declared.width.Width.{Width}
 use Rattle.tl_engine.specs.declared.trace_judge.TraceJudge.{TraceJudge}
 use Rattle.tl_engine.specs.declared.trace_judge.TraceJudge.TheVariants.{OfAll, OfLinks}
-use Rattle.tl_engine.specs.statement.JudgedLinks.{faults_by, heads_by}
+use Rattle.tl_engine.specs.statement.JudgedLinks.{faults_by}
+use Rattle.tl_engine.specs.statement.LinksHeader.{NamesAllowed}
 use Rattle.tl_rules.specs.statement.Conformance.{Trace}
 use Rattle.tl_together.specs.statement.Knows.{Knows}
 
@@ -30,7 +31,7 @@ JudgesBeat {w} together new levels may t x (Some fault) =
     (faults_by together w levels may x t ≡ Some fault) × KnowsBeats together new levels may t
 
 -- the header of a trace that is judged so, or there is none
-abbrev pub ReadsHeader : Bool → Liberties → List ℕ → Option LinksHeader → Type 0
-ReadsHeader together allow line None = (width : Width) (may : Liberties) (levels : List Level)
-    → ¬ heads_by together allow line width may levels
-ReadsHeader together allow line (Some h) = heads_by together allow line h.width h.may h.levels.items
+abbrev pub ReadsHeader : Liberties → List ℕ → Option LinksHeader → Type 0
+ReadsHeader allow line None = (width : Width) (may : Liberties) (levels : List Level)
+    → ¬ NamesAllowed allow line width may levels
+ReadsHeader allow line (Some h) = NamesAllowed allow line h.width h.may h.levels.items

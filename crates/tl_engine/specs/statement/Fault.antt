@@ -33,7 +33,3 @@ changed_text name = codes "tltool: " ++ name ++ codes " changed while it was rea
 -- the line for standard error if a file can be read only once, such as a pipe
 abbrev pub once_text : List ℕ → List ℕ
 once_text name = codes "tltool: " ++ name ++ codes " can't be read twice, as explain does: write it to a file\n"
-
--- the line for standard error if all links are judged together and the header names early answers
-abbrev pub early_text : List ℕ
-early_text = codes "tltool: the header names early answers, which coherent doesn't take\n"

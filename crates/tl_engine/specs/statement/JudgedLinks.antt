@@ -5,7 +5,7 @@ use Rattle.tl_engine.specs.declared.fault.Fault.TheVariants.{Rule as Breaks}
 use Rattle.tl_engine.specs.declared.status.Status.{Status}
 use Rattle.tl_engine.specs.declared.status.Status.TheVariants.{Clean}
 use Rattle.tl_engine.specs.statement.Coherent.{fault_of_breach}
-use Rattle.tl_engine.specs.statement.Judged.{FaultsOf, Headers, JudgedBy}
+use Rattle.tl_engine.specs.statement.Judged.{FaultsOf, JudgedBy}
 use Rattle.tl_engine.specs.statement.LinksHeader.{NamesAllowed}
 use Rattle.tl_params.specs.declared.liberties.Liberties.{Liberties}
 use Rattle.tl_rules.specs.statement.Liberties.{broken_on_link_under}
@@ -21,16 +21,10 @@ abbrev pub faults_by : Bool → FaultsOf Liberties
 faults_by true w levels may x t = option_map fault_of_breach (broken_together levels may x t)
 faults_by false w levels may x t = faults_under w levels may x t
 
--- The header names liberties, which are united with those that are allowed. With all links together, `early` isn't
--- among them.
-abbrev pub heads_by : Bool → Liberties → Headers Liberties
-heads_by true allow line width may levels = NamesAllowed allow line width may levels × (may.early ≡ false)
-heads_by false allow line width may levels = NamesAllowed allow line width may levels
-
 -- The text and status of a trace that is judged with all links together, or link by link. The links have the liberties
 -- that the header names and those that are allowed.
 abbrev pub JudgedLinks : Bool → Liberties → List (List ℕ) → List ℕ → Status → Type 0
-JudgedLinks together allow = JudgedBy (heads_by together allow) (faults_by together) (said_by together)
+JudgedLinks together allow = JudgedBy (NamesAllowed allow) (faults_by together) (said_by together)
 
 -- the text of these lines, none of which is at fault, before the end of the input
 abbrev pub LinksSoFar : Bool → Liberties → List (List ℕ) → List ℕ → Type 0

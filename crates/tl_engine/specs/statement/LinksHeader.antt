@@ -1,5 +1,5 @@
 -- The header of a trace that names the liberties of its links.
-use Rattle.std.specs.Prelude.{◌≡◌, ◌⊎◌, ◌++◌, ℕ, true, List, length, codes, Option, Some, None}
+use Rattle.std.specs.Prelude.{◌≡◌, ◌⊎◌, ◌++◌, ℕ, List, length, codes, Option, Some, None}
 use Rattle.arrayvec.specs.ArrayVec.{ArrayVec}
 use Rattle.tl_command.specs.statement.LibertyWords.{SpellsLiberties}
 use Rattle.tl_engine.specs.statement.Judged.{Headers}
@@ -46,12 +46,6 @@ NamesLinks line width may levels =
 abbrev pub NamesAllowed : Liberties → Headers Liberties
 NamesAllowed allow line width may levels =
     (own : Liberties) × NamesLinks line width own levels × (may ≡ united own allow)
-
--- the line is a header whose links may answer early, by its own liberties or those that are allowed
-abbrev pub NamesEarly : Liberties → List ℕ → Type 0
-NamesEarly allow line =
-    (width : Width) × (may : Liberties) × (levels : List Level) × NamesAllowed allow line width may levels
-    × (may.early ≡ true)
 
 -- the header has these values
 abbrev pub IsLinks : Option LinksHeader → Width → Liberties → List Level → Type 0

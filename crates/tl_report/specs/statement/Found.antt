@@ -8,14 +8,14 @@ use Rattle.tl_params.specs.declared.liberties.Liberties.{Liberties}
 use Rattle.tl_params.specs.declared.width.Width.{Width}
 use Rattle.tl_engine.specs.declared.fault.Fault.{Fault}
 use Rattle.tl_engine.specs.declared.fault.Fault.TheVariants.{Header}
-use Rattle.tl_engine.specs.statement.JudgedLinks.{heads_by}
+use Rattle.tl_engine.specs.statement.LinksHeader.{NamesAllowed}
 use Rattle.tl_engine.specs.statement.Width.{bytes_of}
 use Rattle.tl_report.specs.declared.findings.Finding.{Finding}
 use Rattle.tl_report.specs.statement.Form.{Form, IsAtFault, Terms, narrow, wide}
 use Rattle.tl_report.specs.statement.Taken.{AreCounted}
 use Rattle.tl_wide.specs.declared.width.WideWidth.{WideWidth}
 use Rattle.tl_wide.specs.statement.Width.{wide_bytes_of}
-use Rattle.tl_wide_lines.specs.statement.WideHeader.{wide_heads_by}
+use Rattle.tl_wide_lines.specs.statement.WideHeader.{NamesWide}
 
 -- the most lines at fault that are looked for
 abbrev pub most_of : Aim → ℕ
@@ -51,25 +51,25 @@ terms_of together may levels = record { together = together; may = may; levels =
 -- the line is a header of narrow beats, and these are the findings after it
 abbrev pub FindsNarrow : Aim → List ℕ → List (List ℕ) → List Finding → ℕ → List ℕ → Type 0
 FindsNarrow aim line lines found beats cells =
-    (width : Width) × (may : Liberties) × (levels : List Level) × heads_by aim.together aim.allow line width may levels
+    (width : Width) × (may : Liberties) × (levels : List Level) × NamesAllowed aim.allow line width may levels
     × FindsAfter (narrow (bytes_of width) (terms_of aim.together may levels)) [] 2 (most_of aim) lines found beats cells
 
 -- the same for a header of wide beats
 abbrev pub FindsWide : Aim → List ℕ → List (List ℕ) → List Finding → ℕ → List ℕ → Type 0
 FindsWide aim line lines found beats cells =
     (width : WideWidth) × (may : Liberties) × (levels : List Level)
-    × wide_heads_by aim.together aim.allow line width may levels
+    × NamesWide aim.allow line width may levels
     × FindsAfter (wide (wide_bytes_of width) (terms_of aim.together may levels)) [] 2 (most_of aim) lines found beats cells
 
 -- the line is no header of narrow beats
 abbrev pub IsNotNarrow : Aim → List ℕ → Type 0
 IsNotNarrow aim line = (width : Width) (may : Liberties) (levels : List Level)
-    → ¬ heads_by aim.together aim.allow line width may levels
+    → ¬ NamesAllowed aim.allow line width may levels
 
 -- the line is no header of wide beats
 abbrev pub IsNotWide : Aim → List ℕ → Type 0
 IsNotWide aim line = (width : WideWidth) (may : Liberties) (levels : List Level)
-    → ¬ wide_heads_by aim.together aim.allow line width may levels
+    → ¬ NamesWide aim.allow line width may levels
 
 -- the line is no header
 abbrev pub IsHeadless : Aim → List ℕ → Type 0

@@ -9,7 +9,8 @@ use Rattle.tl_engine.specs.statement.JudgedSo.{said_by}
 use Rattle.tl_engine.specs.declared.fault.Fault.{Fault}
 use Rattle.tl_engine.specs.declared.status.Status.{Status}
 use Rattle.tl_engine.specs.statement.Judged.{IsAtFault, JudgedAfter}
-use Rattle.tl_engine.specs.statement.JudgedLinks.{JudgedLinks, faults_by, heads_by}
+use Rattle.tl_engine.specs.statement.JudgedLinks.{JudgedLinks, faults_by}
+use Rattle.tl_engine.specs.statement.LinksHeader.{NamesAllowed}
 use Rattle.tl_params.specs.declared.level.Level.{Level}
 use Rattle.tl_params.specs.declared.liberties.Liberties.{Liberties}
 use Rattle.tl_params.specs.declared.width.Width.{Width}
@@ -84,5 +85,5 @@ EndsLines h lines = AreCovered h.allow lines (found_of_lines h)
 -- what the first line begins: a covering that knows the header, or none if it is no header
 abbrev pub Begins : Liberties → List ℕ → Option Following → Type 0
 Begins allow line None = (width : Width) (may : Liberties) (levels : List Level)
-    → ¬ heads_by false allow line width may levels
+    → ¬ NamesAllowed allow line width may levels
 Begins allow line (Some following) = KnowsFollowing allow following (line ∷ []) []

@@ -23,7 +23,7 @@ use Rattle.tl_wide.specs.statement.Width.{part_width, wide_bytes_of}
 use Rattle.tl_wide_lines.specs.code.FirstFault.{beats_taken}
 use Rattle.tl_wide_lines.specs.code.WideWatching.{KnowsWide, NoneWide}
 use Rattle.tl_wide_lines.specs.declared.judge.WideJudge.{WideJudge}
-use Rattle.tl_wide_lines.specs.statement.WideHeader.{wide_heads_by}
+use Rattle.tl_wide_lines.specs.statement.WideHeader.{NamesWide}
 
 -- the judge in a covering of a wide trace
 abbrev pub judge_in : {p : ℕ} → WideCovering p → WideJudge p
@@ -65,12 +65,12 @@ TakesLine _ _ line answer = ⊥
 -- what the first line begins: a covering that knows the header, or none if it is no header of wide beats
 abbrev pub BeginsWide : Liberties → List ℕ → Option WideFollowing → Type 0
 BeginsWide allow line None =
-    (wide : WideWidth) (may : Liberties) (levels : List Level) → ¬ wide_heads_by false allow line wide may levels
+    (wide : WideWidth) (may : Liberties) (levels : List Level) → ¬ NamesWide allow line wide may levels
 BeginsWide allow line (Some following) = KnowsWideFollowing allow following (line ∷ []) []
 
 -- after these lines without a fault, this text has been appended
 abbrev pub KnowsBy : CoverLines → Option WideFollowing → List (List ℕ) → List ℕ → Type 0
-KnowsBy narrow None lines text = KnowsLines narrow lines text × NoneWide false narrow.allow lines
+KnowsBy narrow None lines text = KnowsLines narrow lines text × NoneWide narrow.allow lines
 KnowsBy narrow (Some following) lines text = KnowsWideFollowing narrow.allow following lines text
 
 abbrev pub KnowsCover : CoverTrace → List (List ℕ) → List ℕ → Type 0

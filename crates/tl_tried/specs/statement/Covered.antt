@@ -7,7 +7,8 @@ use Rattle.tl_cover.specs.declared.row.Row.{Row}
 use Rattle.tl_cover.specs.statement.Covered.{cells, covered}
 use Rattle.tl_engine.specs.declared.fault.Fault.{Fault}
 use Rattle.tl_engine.specs.statement.Judged.{IsAtFault}
-use Rattle.tl_engine.specs.statement.JudgedLinks.{faults_by, heads_by}
+use Rattle.tl_engine.specs.statement.JudgedLinks.{faults_by}
+use Rattle.tl_engine.specs.statement.LinksHeader.{NamesAllowed}
 use Rattle.tl_engine.specs.statement.Width.{bytes_of}
 use Rattle.tl_params.specs.declared.level.Level.{Level}
 use Rattle.tl_params.specs.declared.liberties.Liberties.{Liberties}
@@ -35,7 +36,7 @@ CoveredAfter {w} levels may t (line ∷ lines) found =
 unfoldable pub AreCovered : Liberties → List (List ℕ) → Found → Type 0
 AreCovered allow [] found = found ≡ ([], [])
 AreCovered allow (line ∷ lines) found =
-    ((width : Width) × (may : Liberties) × (levels : List Level) × heads_by false allow line width may levels
+    ((width : Width) × (may : Liberties) × (levels : List Level) × NamesAllowed allow line width may levels
     × CoveredAfter {w = bytes_of width} levels may [] lines found)
-    ⊎ (((width : Width) (may : Liberties) (levels : List Level) → ¬ heads_by false allow line width may levels)
+    ⊎ (((width : Width) (may : Liberties) (levels : List Level) → ¬ NamesAllowed allow line width may levels)
     × (found ≡ ([], [])))

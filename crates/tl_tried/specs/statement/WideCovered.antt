@@ -16,7 +16,7 @@ use Rattle.tl_wide.specs.statement.Verdict.{joined, owner}
 use Rattle.tl_wide.specs.statement.Width.{wide_bytes_of}
 use Rattle.tl_wide_lines.specs.statement.JudgedTrace.{BeginWith, first_fault_of}
 use Rattle.tl_wide_lines.specs.statement.PartFaults.{unless_fault}
-use Rattle.tl_wide_lines.specs.statement.WideHeader.{wide_heads_by}
+use Rattle.tl_wide_lines.specs.statement.WideHeader.{NamesWide}
 
 -- ---- a wide trace
 
@@ -72,8 +72,8 @@ pub record CoveredWide (w : ℕ) (may : Liberties) (levels : List Level) (lines 
 abbrev pub TraceCovered : Liberties → List (List ℕ) → Found → Type 0
 TraceCovered allow [] found = AreCovered allow [] found
 TraceCovered allow (line ∷ lines) found =
-    ((width : WideWidth) × (may : Liberties) × (levels : List Level) × wide_heads_by false allow line width may levels
+    ((width : WideWidth) × (may : Liberties) × (levels : List Level) × NamesWide allow line width may levels
     × CoveredWide (wide_bytes_of width) may levels lines found)
     ⊎ (((width : WideWidth) (may : Liberties) (levels : List Level)
-    → ¬ wide_heads_by false allow line width may levels)
+    → ¬ NamesWide allow line width may levels)
     × AreCovered allow (line ∷ lines) found)

@@ -1,12 +1,12 @@
 -- The front of a header of wide beats read from left to right, as the code goes; only private clauses cite this.
-use Rattle.std.specs.Prelude.{ℕ, Bool, List, Option, Some, None}
+use Rattle.std.specs.Prelude.{ℕ, List, Option, Some, None}
 use Rattle.tl_params.specs.code.HeaderReading.{after_word}
 use Rattle.tl_params.specs.declared.level.Level.{Level}
 use Rattle.tl_params.specs.declared.liberties.Liberties.{Liberties}
 use Rattle.tl_wide.specs.declared.width.WideWidth.{WideWidth}
 use Rattle.tl_wide.specs.declared.width.WideWidth.TheVariants.{Four, Eight, Sixteen, ThirtyTwo, SixtyFour}
 use Rattle.tl_wide_lines.specs.declared.header.WideHeader.{WideHeader}
-use Rattle.tl_wide_lines.specs.statement.WideHeader.{fifth_front, wide_heads_by}
+use Rattle.tl_wide_lines.specs.statement.WideHeader.{NamesWide, fifth_front}
 
 -- this width with the text after its front, if the front is there, or else the other result
 abbrev pub or_front : WideWidth → Option (List ℕ) → Option (WideWidth × List ℕ) → Option (WideWidth × List ℕ)
@@ -23,8 +23,8 @@ wide_front_at line =
     (at_front Eight line (at_front Sixteen line (at_front ThirtyTwo line (at_front SixtyFour line None))))
 
 -- the header of a wide trace that is judged so, or there is none
-abbrev pub ReadsWide : Bool → Liberties → List ℕ → Option WideHeader → Type 0
-ReadsWide together allow line None =
-    (width : WideWidth) (may : Liberties) (levels : List Level) → ¬ wide_heads_by together allow line width may levels
-ReadsWide together allow line (Some h) =
-    wide_heads_by together allow line h.width h.links.may h.links.levels.items
+abbrev pub ReadsWide : Liberties → List ℕ → Option WideHeader → Type 0
+ReadsWide allow line None =
+    (width : WideWidth) (may : Liberties) (levels : List Level) → ¬ NamesWide allow line width may levels
+ReadsWide allow line (Some h) =
+    NamesWide allow line h.width h.links.may h.links.levels.items

@@ -20,7 +20,7 @@ use Rattle.tl_wide_lines.specs.declared.lines.TraceLines.{TraceLines}
 use Rattle.tl_wide_lines.specs.declared.lines.WideLinks.{WideLinks}
 use Rattle.tl_wide_lines.specs.declared.lines.WideLinks.TheVariants.{Four, Eight, Sixteen, ThirtyTwo, SixtyFour}
 use Rattle.tl_wide_lines.specs.statement.JudgedTrace.{BeginWith}
-use Rattle.tl_wide_lines.specs.statement.WideHeader.{wide_heads_by}
+use Rattle.tl_wide_lines.specs.statement.WideHeader.{NamesWide}
 
 -- These lines are a header and those of wide beats that aren't at fault, and the judge knows the beats. Nothing has
 -- been
@@ -33,7 +33,7 @@ pub record KnowsWide (wide : WideWidth) (together : Bool) (allow : Liberties)
   pub levels : List Level
   pub trace : WideTrace (wide_bytes_of wide)
   pub are_lines : lines ≡ header ∷ spelled
-  pub named : wide_heads_by together allow header wide may levels
+  pub named : NamesWide allow header wide may levels
   pub begins : (more : List (List ℕ)) → BeginWith trace (spelled ++ more) more
   pub counted : length spelled ≡ length trace
   pub follows : Follows judge.narrower (behind trace [])
@@ -57,21 +57,20 @@ JudgesLine (ThirtyTwo old) (ThirtyTwo new) line answer = JudgesWideLine 32 old n
 JudgesLine (SixtyFour old) (SixtyFour new) line answer = JudgesWideLine 64 old new line answer
 JudgesLine _ _ line answer = ⊥
 
+-- the first of these lines, if there is one, is no header of wide beats
+abbrev pub NoneWide : Liberties → List (List ℕ) → Type 0
+NoneWide allow [] = ⊤
+NoneWide allow (line ∷ lines) =
+    (wide : WideWidth) (may : Liberties) (levels : List Level) → ¬ NamesWide allow line wide may levels
+
 -- what the first line begins: a judge that knows the header, or none if it is no header of wide beats
 abbrev pub BeginsWide : Bool → Liberties → List ℕ → Option WideLinks → Type 0
-BeginsWide together allow line None =
-    (wide : WideWidth) (may : Liberties) (levels : List Level) → ¬ wide_heads_by together allow line wide may levels
+BeginsWide together allow line None = NoneWide allow (line ∷ [])
 BeginsWide together allow line (Some links) = KnowsWideLinks together allow links (line ∷ []) []
-
--- the first of these lines, if there is one, is no header of wide beats
-abbrev pub NoneWide : Bool → Liberties → List (List ℕ) → Type 0
-NoneWide together allow [] = ⊤
-NoneWide together allow (line ∷ lines) =
-    (wide : WideWidth) (may : Liberties) (levels : List Level) → ¬ wide_heads_by together allow line wide may levels
 
 -- after these lines without a fault, this text has been appended
 abbrev pub KnowsBy : LinkLines → Option WideLinks → List (List ℕ) → List ℕ → Type 0
-KnowsBy narrow None lines text = KnowsLines narrow lines text × NoneWide narrow.together narrow.allow lines
+KnowsBy narrow None lines text = KnowsLines narrow lines text × NoneWide narrow.allow lines
 KnowsBy narrow (Some links) lines text = KnowsWideLinks narrow.together narrow.allow links lines text
 
 abbrev pub KnowsTraceLines : TraceLines → List (List ℕ) → List ℕ → Type 0

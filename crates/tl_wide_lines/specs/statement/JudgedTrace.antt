@@ -20,7 +20,7 @@ use Rattle.tl_wide.specs.statement.Naming.{WideTrace}
 use Rattle.tl_wide.specs.statement.Narrowed.{narrowed}
 use Rattle.tl_wide.specs.statement.Verdict.{Beyond, Breaks, WideFault, fault_of_parts, first_wide_fault, joined}
 use Rattle.tl_wide.specs.statement.Width.{wide_bytes_of}
-use Rattle.tl_wide_lines.specs.statement.WideHeader.{wide_heads_by}
+use Rattle.tl_wide_lines.specs.statement.WideHeader.{NamesWide}
 
 -- ---- the first fault of a wide trace
 
@@ -78,11 +78,11 @@ pub record JudgedWide (w : ℕ) (together : Bool) (may : Liberties) (levels : Li
 abbrev pub JudgedTrace : Bool → Liberties → List (List ℕ) → List ℕ → Status → Type 0
 JudgedTrace together allow [] text status = JudgedLinks together allow [] text status
 JudgedTrace together allow (line ∷ lines) text status =
-    ((width : WideWidth) × (may : Liberties) × (levels : List Level) × wide_heads_by together allow line width may
+    ((width : WideWidth) × (may : Liberties) × (levels : List Level) × NamesWide allow line width may
     levels
     × JudgedWide (wide_bytes_of width) together may levels lines text status)
     ⊎ (((width : WideWidth) (may : Liberties) (levels : List Level)
-    → ¬ wide_heads_by together allow line width may levels)
+    → ¬ NamesWide allow line width may levels)
     × JudgedLinks together allow (line ∷ lines) text status)
 
 -- the text for these lines before the end of the input, if none is at fault

@@ -1,5 +1,5 @@
 -- The header of a trace of wide beats.
-use Rattle.std.specs.Prelude.{◌≡◌, ◌++◌, ℕ, Bool, true, false, List, codes, Option, Some, None}
+use Rattle.std.specs.Prelude.{◌≡◌, ◌++◌, ℕ, List, codes, Option, Some, None}
 use Rattle.tl_engine.specs.statement.LinksHeader.{SpellsNamed}
 use Rattle.tl_params.specs.declared.level.Level.{Level}
 use Rattle.tl_params.specs.declared.liberties.Liberties.{Liberties}
@@ -29,17 +29,6 @@ SpellsFifth line width may levels =
 abbrev pub NamesWide : Liberties → List ℕ → WideWidth → Liberties → List Level → Type 0
 NamesWide allow line width may levels =
     (own : Liberties) × SpellsFifth line width own levels × (may ≡ united own allow)
-
--- the same for links that are judged together, which may not have `early`, or each by itself
-abbrev pub wide_heads_by : Bool → Liberties → List ℕ → WideWidth → Liberties → List Level → Type 0
-wide_heads_by true allow line width may levels = NamesWide allow line width may levels × (may.early ≡ false)
-wide_heads_by false allow line width may levels = NamesWide allow line width may levels
-
--- the line is such a header, and its links have `early`, named or allowed
-abbrev pub NamesWideEarly : Liberties → List ℕ → Type 0
-NamesWideEarly allow line =
-    (width : WideWidth) × (may : Liberties) × (levels : List Level) × NamesWide allow line width may levels
-    × (may.early ≡ true)
 
 -- there is a header, with this width, these liberties and these levels
 abbrev pub IsWideHeader : Option WideHeader → WideWidth → Liberties → List Level → Type 0

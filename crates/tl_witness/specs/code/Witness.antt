@@ -1,13 +1,14 @@
 -- What a witness keeps of the beats of all links.
 use Rattle.std.specs.Prelude.{ℕ, [], ◌^◌, ◌<◌, ◌≡◌, length, slice_get, Some}
+use Rattle.tl_bytes.specs.statement.Free.{all_liberties}
 use Rattle.tl_rules.specs.statement.Conformance.{Trace}
-use Rattle.tl_explain.specs.code.Recorded.{IsRecord}
+use Rattle.tl_explain.specs.code.Recorded.{IsRecordUnder}
 use Rattle.tl_explain.specs.declared.recorder.Recorder.{Recorder}
 use Rattle.tl_witness.specs.declared.witness.Witness.{Witness}
 
--- it records what the link holds of the block
+-- it records what the link holds of the block, under any liberties
 pub record Records {w : ℕ} (r : Recorder) (link block : ℕ) (t : Trace w) : Type 0 where
-  pub recorded : IsRecord r t
+  pub recorded : IsRecordUnder all_liberties r t
   pub link_is : r.subject.link.0 ≡ link
   pub block_is : r.subject.block ≡ block
 

@@ -3,26 +3,36 @@ use Rattle.std.specs.Prelude.{ℕ, zero, suc, [], ◌++◌, ◌+◌, ◌*◌, �
 use Rattle.std.specs.Fmt.{decimal}
 use Rattle.tl_beat.specs.declared.beat.BeatD.{BeatD}
 use Rattle.tl_beat.specs.declared.channel.Channel.TheVariants as channel
+use Rattle.tl_beat.specs.declared.control.Control.{Control}
+use Rattle.tl_beat.specs.declared.control.Control.TheVariants as control
 use Rattle.tl_beat.specs.statement.Digits.{digits}
 use Rattle.tl_params.specs.declared.perm.Perm.{Perm}
 use Rattle.tl_rules.specs.statement.OpenMessages.{open_request}
 use Rattle.tl_rules.specs.declared.past.Request.{Request}
 use Rattle.tl_rules.specs.statement.Conformance.{Trace, on_link}
-use Rattle.tl_rules.specs.statement.History.{capped, held}
+use Rattle.tl_rules.specs.statement.History.{capped, is_release_ack}
 use Rattle.tl_rules.specs.statement.Windows.{leaves, needs}
+use Rattle.tl_bytes.specs.statement.Free.{all_liberties, may_hold}
 use Rattle.tl_monitor.specs.statement.Granting.{coming}
 use Rattle.tl_explain.specs.declared.told.Mention.{Mention}
-use Rattle.tl_explain.specs.statement.Evidence.{burst_opening, last_saying}
+use Rattle.tl_explain.specs.statement.Evidence.{burst_opening, last_saying_under}
 use Rattle.tl_explain.specs.statement.Sentences.{perm_name}
 use Rattle.tl_together.specs.code.Windows.{asked_at}
 use Rattle.tl_params.specs.declared.memory_rule.MemoryRule.{MemoryRule}
 use Rattle.tl_params.specs.declared.memory_rule.MemoryRule.TheVariants.{M1, M4}
 use Rattle.tl_witness.specs.statement.Strays.{bytes_text}
 
+-- the words for an answer that set a permission: it came before the last beat of the message that it answers
+abbrev pub early_text : Control → List ℕ
+early_text (control.D x) =
+    if is_release_ack x.opcode then codes " (a ReleaseAck before the last beat of its Release)" else []
+early_text (control.E x) = codes " (a GrantAck before the last beat of its Grant)"
+early_text _ = []
+
 -- the line since which this is so, if a message is cited
 abbrev pub since_text : Option Mention → List ℕ
 since_text None = []
-since_text (Some m) = codes " since line " ++ decimal m.line
+since_text (Some m) = codes " since line " ++ decimal m.line ++ early_text m.control
 
 -- a link holds, or is being granted, this permission of the block, since the cited message
 unfoldable pub permission_line : ℕ → List ℕ → ℕ → Perm → Option Mention → List ℕ
@@ -33,11 +43,13 @@ permission_line link verb block perm since =
 -- the line for a link, if it holds a permission of the block that conflicts with `given`
 abbrev pub holder_text : {w : ℕ} → ℕ → Perm → ℕ → Trace w → List ℕ
 holder_text link given block t =
-    if leaves given (held block (on_link link t)) then [] else
-    permission_line link (codes " holds ") block (held block (on_link link t)) (last_saying link block t)
+    if leaves given (may_hold block (on_link link t)) then [] else
+    permission_line link (codes " holds ") block (may_hold block (on_link link t))
+    (last_saying_under all_liberties link block t)
 
--- a line for each of the first n links that holds such a permission: the permission that the last message on that link
--- left, and the line of that message
+-- A line for each of the first n links that holds such a permission: the permission that the last message on that link
+-- left, and the line since which it is held. That is the line of the message's last beat or, if that came first, of the
+-- last beat of its answer.
 unfoldable pub holders_text : {w : ℕ} → ℕ → Perm → ℕ → Trace w → List ℕ
 holders_text zero given block t = []
 holders_text (suc n) given block t = holders_text n given block t ++ holder_text n given block t

@@ -8,12 +8,12 @@ use Rattle.tl_engine.proofs.charting.begin.Goals.{in-Sixteen+in_ok-new-in-Sixtee
 pub returns : goal.returns
 returns c = elim c.match-header.branch [
   | in-Four+in_ok-new-in-Four w ↦
-      rw w.judge-is (begun c.args.allow c.args.line.now Four _ _ _ (rw w.in-Four.is at c.in-Some.ensures.reads)
+      rw w.judge-is (begun c.args.allow c.args.line.now Four _ _ _ (rw w.in-Four.is at c.in-Some.ensures)
       w.in_ok-new-in-Four.ensures)
   | in-Eight+in_ok-new-in-Eight w ↦
-      rw w.judge-is (begun c.args.allow c.args.line.now Eight _ _ _ (rw w.in-Eight.is at c.in-Some.ensures.reads)
+      rw w.judge-is (begun c.args.allow c.args.line.now Eight _ _ _ (rw w.in-Eight.is at c.in-Some.ensures)
       w.in_ok-new-in-Eight.ensures)
   | in-Sixteen+in_ok-new-in-Sixteen w ↦
-      rw w.judge-is (begun c.args.allow c.args.line.now Sixteen _ _ _ (rw w.in-Sixteen.is at c.in-Some.ensures.reads)
+      rw w.judge-is (begun c.args.allow c.args.line.now Sixteen _ _ _ (rw w.in-Sixteen.is at c.in-Some.ensures)
       w.in_ok-new-in-Sixteen.ensures)
 ]

@@ -9,11 +9,11 @@ pub returns : goal.returns
 returns c = elim c.match-header.branch [
   | in-Four+in_ok-new-in-Four w ↦
       rw w.watching-is (header_watched c.args.allow c.args.line.now Four _ _ _
-      (rw w.in-Four.is at c.in-Some.ensures.reads) w.in_ok-new-in-Four.ensures)
+      (rw w.in-Four.is at c.in-Some.ensures) w.in_ok-new-in-Four.ensures)
   | in-Eight+in_ok-new-in-Eight w ↦
       rw w.watching-is (header_watched c.args.allow c.args.line.now Eight _ _ _
-      (rw w.in-Eight.is at c.in-Some.ensures.reads) w.in_ok-new-in-Eight.ensures)
+      (rw w.in-Eight.is at c.in-Some.ensures) w.in_ok-new-in-Eight.ensures)
   | in-Sixteen+in_ok-new-in-Sixteen w ↦
       rw w.watching-is (header_watched c.args.allow c.args.line.now Sixteen _ _ _
-      (rw w.in-Sixteen.is at c.in-Some.ensures.reads) w.in_ok-new-in-Sixteen.ensures)
+      (rw w.in-Sixteen.is at c.in-Some.ensures) w.in_ok-new-in-Sixteen.ensures)
 ]

@@ -9,17 +9,17 @@ pub returns : goal.returns
 returns c = elim c.match-header.branch [
   | in-Four+in_ok-narrow-in-Four w ↦
       rw w.lines-is (
-        begun_narrow c.args.line.now Four _ _ c.args.aim _ (rw w.in-Four.is at c.in-Some.ensures.reads) w.in_ok-narrow-in-Four.ensures,
+        begun_narrow c.args.line.now Four _ _ c.args.aim _ (rw w.in-Four.is at c.in-Some.ensures) w.in_ok-narrow-in-Four.ensures,
         w.in_ok-narrow-in-Four.ensures.begun.aim_is,
       )
   | in-Eight+in_ok-narrow-in-Eight w ↦
       rw w.lines-is (
-        begun_narrow c.args.line.now Eight _ _ c.args.aim _ (rw w.in-Eight.is at c.in-Some.ensures.reads) w.in_ok-narrow-in-Eight.ensures,
+        begun_narrow c.args.line.now Eight _ _ c.args.aim _ (rw w.in-Eight.is at c.in-Some.ensures) w.in_ok-narrow-in-Eight.ensures,
         w.in_ok-narrow-in-Eight.ensures.begun.aim_is,
       )
   | in-Sixteen+in_ok-narrow-in-Sixteen w ↦
       rw w.lines-is (
-        begun_narrow c.args.line.now Sixteen _ _ c.args.aim _ (rw w.in-Sixteen.is at c.in-Some.ensures.reads) w.in_ok-narrow-in-Sixteen.ensures,
+        begun_narrow c.args.line.now Sixteen _ _ c.args.aim _ (rw w.in-Sixteen.is at c.in-Some.ensures) w.in_ok-narrow-in-Sixteen.ensures,
         w.in_ok-narrow-in-Sixteen.ensures.begun.aim_is,
       )
 ]

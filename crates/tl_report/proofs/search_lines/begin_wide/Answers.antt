@@ -11,27 +11,27 @@ pub returns : goal.returns
 returns c = elim c.match-header.branch [
   | in-Four+in_ok-wide-in-Four w ↦
       rw w.lines-is (
-        begun_wide c.args.line.now Four _ _ c.args.aim _ (rw w.in-Four.is at c.in-Some.ensures.reads) w.in_ok-wide-in-Four.ensures,
+        begun_wide c.args.line.now Four _ _ c.args.aim _ (rw w.in-Four.is at c.in-Some.ensures) w.in_ok-wide-in-Four.ensures,
         w.in_ok-wide-in-Four.ensures.begun.aim_is,
       )
   | in-Eight+in_ok-wide-in-Eight w ↦
       rw w.lines-is (
-        begun_wide c.args.line.now Eight _ _ c.args.aim _ (rw w.in-Eight.is at c.in-Some.ensures.reads) w.in_ok-wide-in-Eight.ensures,
+        begun_wide c.args.line.now Eight _ _ c.args.aim _ (rw w.in-Eight.is at c.in-Some.ensures) w.in_ok-wide-in-Eight.ensures,
         w.in_ok-wide-in-Eight.ensures.begun.aim_is,
       )
   | in-Sixteen+in_ok-wide-in-Sixteen w ↦
       rw w.lines-is (
-        begun_wide c.args.line.now Sixteen _ _ c.args.aim _ (rw w.in-Sixteen.is at c.in-Some.ensures.reads) w.in_ok-wide-in-Sixteen.ensures,
+        begun_wide c.args.line.now Sixteen _ _ c.args.aim _ (rw w.in-Sixteen.is at c.in-Some.ensures) w.in_ok-wide-in-Sixteen.ensures,
         w.in_ok-wide-in-Sixteen.ensures.begun.aim_is,
       )
   | in-ThirtyTwo+in_ok-wide-in-ThirtyTwo w ↦
       rw w.lines-is (
-        begun_wide c.args.line.now ThirtyTwo _ _ c.args.aim _ (rw w.in-ThirtyTwo.is at c.in-Some.ensures.reads) w.in_ok-wide-in-ThirtyTwo.ensures,
+        begun_wide c.args.line.now ThirtyTwo _ _ c.args.aim _ (rw w.in-ThirtyTwo.is at c.in-Some.ensures) w.in_ok-wide-in-ThirtyTwo.ensures,
         w.in_ok-wide-in-ThirtyTwo.ensures.begun.aim_is,
       )
   | in-SixtyFour+in_ok-wide-in-SixtyFour w ↦
       rw w.lines-is (
-        begun_wide c.args.line.now SixtyFour _ _ c.args.aim _ (rw w.in-SixtyFour.is at c.in-Some.ensures.reads) w.in_ok-wide-in-SixtyFour.ensures,
+        begun_wide c.args.line.now SixtyFour _ _ c.args.aim _ (rw w.in-SixtyFour.is at c.in-Some.ensures) w.in_ok-wide-in-SixtyFour.ensures,
         w.in_ok-wide-in-SixtyFour.ensures.begun.aim_is,
       )
 ]

@@ -9,11 +9,11 @@ pub returns : goal.returns
 returns c = elim c.match-header.branch [
   | in-Four+in_ok-follow-in-Four w ↦
       rw w.following-is (header_covered c.args.allow c.args.line.now Four _ _ _
-      (rw w.in-Four.is at c.in-Some.ensures.reads) w.in_ok-follow-in-Four.ensures)
+      (rw w.in-Four.is at c.in-Some.ensures) w.in_ok-follow-in-Four.ensures)
   | in-Eight+in_ok-follow-in-Eight w ↦
       rw w.following-is (header_covered c.args.allow c.args.line.now Eight _ _ _
-      (rw w.in-Eight.is at c.in-Some.ensures.reads) w.in_ok-follow-in-Eight.ensures)
+      (rw w.in-Eight.is at c.in-Some.ensures) w.in_ok-follow-in-Eight.ensures)
   | in-Sixteen+in_ok-follow-in-Sixteen w ↦
       rw w.following-is (header_covered c.args.allow c.args.line.now Sixteen _ _ _
-      (rw w.in-Sixteen.is at c.in-Some.ensures.reads) w.in_ok-follow-in-Sixteen.ensures)
+      (rw w.in-Sixteen.is at c.in-Some.ensures) w.in_ok-follow-in-Sixteen.ensures)
 ]

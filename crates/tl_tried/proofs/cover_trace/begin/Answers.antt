@@ -11,17 +11,17 @@ pub returns : goal.returns
 returns c = elim c.match-header.branch [
   | in-Four+in_ok-new-in-Four w ↦
       rw w.following-is (header-counted Four c.args.allow c.args.line.now _ _ _
-      (rw w.in-Four.is at c.in-Some.ensures.reads) w.in_ok-new-in-Four.ensures)
+      (rw w.in-Four.is at c.in-Some.ensures) w.in_ok-new-in-Four.ensures)
   | in-Eight+in_ok-new-in-Eight w ↦
       rw w.following-is (header-counted Eight c.args.allow c.args.line.now _ _ _
-      (rw w.in-Eight.is at c.in-Some.ensures.reads) w.in_ok-new-in-Eight.ensures)
+      (rw w.in-Eight.is at c.in-Some.ensures) w.in_ok-new-in-Eight.ensures)
   | in-Sixteen+in_ok-new-in-Sixteen w ↦
       rw w.following-is (header-counted Sixteen c.args.allow c.args.line.now _ _ _
-      (rw w.in-Sixteen.is at c.in-Some.ensures.reads) w.in_ok-new-in-Sixteen.ensures)
+      (rw w.in-Sixteen.is at c.in-Some.ensures) w.in_ok-new-in-Sixteen.ensures)
   | in-ThirtyTwo+in_ok-new-in-ThirtyTwo w ↦
       rw w.following-is (header-counted ThirtyTwo c.args.allow c.args.line.now _ _ _
-      (rw w.in-ThirtyTwo.is at c.in-Some.ensures.reads) w.in_ok-new-in-ThirtyTwo.ensures)
+      (rw w.in-ThirtyTwo.is at c.in-Some.ensures) w.in_ok-new-in-ThirtyTwo.ensures)
   | in-SixtyFour+in_ok-new-in-SixtyFour w ↦
       rw w.following-is (header-counted SixtyFour c.args.allow c.args.line.now _ _ _
-      (rw w.in-SixtyFour.is at c.in-Some.ensures.reads) w.in_ok-new-in-SixtyFour.ensures)
+      (rw w.in-SixtyFour.is at c.in-Some.ensures) w.in_ok-new-in-SixtyFour.ensures)
 ]

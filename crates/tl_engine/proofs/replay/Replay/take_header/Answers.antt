@@ -12,7 +12,7 @@ returns g c = λ _. record {
   names = subst (λ (l : Liberties). NamesAllowed c.args.self.now.allow c.args.line.now c.in-Some.header.width l
       c.in-Some.header.levels.items)
       (same_liberties c.in-Some.header.may c.args.self.now.may c.ne.result c.ne.ensures c.if-ne.false)
-      c.in-Some.ensures.reads;
+      c.in-Some.ensures;
   of_width = search rules;
   level_is = search rules;
   count_is = refl;

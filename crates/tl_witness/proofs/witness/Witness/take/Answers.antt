@@ -3,7 +3,7 @@ use Rattle.std.proofs.Common.{false, inl, inr, ◌≤◌}
 use Rattle.std.proofs.lemmas.Bool.{cases_lt}
 use Rattle.std.proofs.lemmas.Option.{slice_get_past, slice_get_read}
 use Rattle.std.proofs.lemmas.Result.{on_ok_weaker}
-use Rattle.tl_params.specs.statement.Liberties.{no_liberties}
+use Rattle.tl_bytes.specs.statement.Free.{all_liberties}
 use Rattle.tl_witness.proofs.Witnesses.{passed, taken}
 use Rattle.tl_witness.proofs.witness.Witness.take.Goals as goal
 
@@ -19,7 +19,7 @@ returns-in-Some g c =
     on_ok_weaker c.take.result (λ records n block t k number.
     taken c.args.self.now _ old c.take.new.self n block c.args.link c.args.beat.now t refl refl
     (ap (λ i. slice_set items i c.take.new.self) c.from.ensures) there c.take.ensures.subject
-    (λ is. records no_liberties t number is) k)
+    (λ is. records all_liberties t number is) k)
     c.take.ensures.record
 
 pub returns-in-None : goal.returns-in-None

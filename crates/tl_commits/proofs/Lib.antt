@@ -1,0 +1,4 @@
+pub mod CommitFaults
+pub mod CommitLines
+pub mod CommitSpelled
+pub mod Pieces

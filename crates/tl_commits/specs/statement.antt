@@ -1,0 +1,6 @@
+pub mod CommitLine
+pub mod Commits
+pub mod Copies
+pub mod Events
+pub mod Seen
+pub mod True

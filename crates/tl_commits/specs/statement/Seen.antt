@@ -1,0 +1,139 @@
+-- The possible values of the bytes of memory and of the copies, by the beats of all links and the commits of their cores.
+use Rattle.std.specs.Prelude.{ℕ, Bool, true, false, not, [], ◌∷◌, ◌==◌, ◌&&◌, ◌||◌, ◌-◌, ◌%◌, if◌then◌else◌, List, length}
+use Rattle.std.specs.Prelude.{Option, Some, None, is_some, unwrap_or}
+use Rattle.tl_beat.specs.declared.beat.Beat.{Beat}
+use Rattle.tl_beat.specs.declared.beat.Beat.TheVariants as beat
+use Rattle.tl_beat.specs.declared.beat.Link.{Link}
+use Rattle.tl_beat.specs.declared.opcode.OpC.{OpC}
+use Rattle.tl_beat.specs.declared.opcode.OpC.TheVariants as c
+use Rattle.tl_burst.specs.statement.Burst.{reaches}
+use Rattle.tl_burst.specs.statement.Messages.{History}
+use Rattle.tl_params.specs.declared.perm.Perm.TheVariants as perm
+use Rattle.tl_rules.specs.code.Open.{open_probe}
+use Rattle.tl_rules.specs.declared.past.Probe.{Probe}
+use Rattle.tl_rules.specs.statement.Conformance.{is_probe_block, on_link, same_perm}
+use Rattle.tl_rules.specs.statement.Effect.{byte_of}
+use Rattle.tl_rules.specs.statement.History.{block_at, is_grant, request_of, reported}
+use Rattle.tl_bytes.specs.declared.telling.Telling.{Telling}
+use Rattle.tl_bytes.specs.statement.Bytes.{after_beat, after_settling, asks_unread, carried_byte, tells}
+use Rattle.tl_bytes.specs.statement.Early.{telling_beats}
+use Rattle.tl_commits.specs.declared.commit.Commit.{Commit}
+use Rattle.tl_commits.specs.declared.commit.Commit.TheVariants as commit
+use Rattle.tl_commits.specs.declared.commit.Event.{Event}
+use Rattle.tl_commits.specs.declared.commit.Event.TheVariants as event
+use Rattle.tl_commits.specs.declared.commit.Piece.{Piece}
+use Rattle.tl_commits.specs.statement.Copies.{brought, holds_trunk, is_known, link_beats}
+use Rattle.tl_commits.specs.statement.Events.{Events, beats_of, is_loading}
+
+-- The possible values of a byte, the newest first. `base`: if the byte was stored since a message last set it, the
+-- values that were possible before the first of these stores.
+pub record Seen : Type 0 where
+  pub values : List Telling
+  pub base : Option (List Telling)
+
+-- any value, before the trace
+abbrev pub unseen : Seen
+unseen = record { values = record { value = None; moment = 0 } ∷ []; base = None }
+
+-- the values that were possible before the first store
+abbrev pub base_of : Seen → List Telling
+base_of before = unwrap_or before.base before.values
+
+-- ---- commits
+
+-- the byte at an address that this piece of a value has
+abbrev pub byte_in : Piece → ℕ → ℕ → ℕ
+byte_in piece value address = byte_of value (address - piece.address)
+
+-- the byte has this value at this moment
+abbrev pub told_now : Piece → ℕ → ℕ → ℕ → List Telling
+told_now piece value address moment = record { value = Some (byte_in piece value address); moment = moment } ∷ []
+
+-- A load of this piece says the byte at an address of its link's copy, as it is now: it didn't begin earlier, no Grant
+-- under way has brought the byte, and the bytes of the copy are known.
+abbrev pub says_byte : {w : ℕ} → List Bool → ℕ → Piece → ℕ → Events w → Bool
+says_byte complete link piece address e =
+    not (is_loading link piece e)
+    && (not (is_some (brought address (link_beats link e)))
+    && is_known complete link (block_at address) (link_beats link e))
+
+-- a byte with one more commit
+abbrev pub after_commit : {w : ℕ} → List Bool → ℕ → ℕ → Commit → Events w → Seen → Seen
+after_commit complete address link (commit.Store piece value) e before =
+    if reaches piece.address piece.size address
+    then record {
+      values = told_now piece value address (length (beats_of e));
+      base = Some (base_of before);
+    }
+    else before
+after_commit complete address link (commit.Load piece value) e before =
+    if reaches piece.address piece.size address && says_byte complete link piece address e
+    then record {
+      values = told_now piece value address (length (beats_of e));
+      base = before.base;
+    }
+    else before
+after_commit complete address link (commit.Begin piece) e before = before
+
+-- ---- beats
+
+-- the beat is a Grant that answers an AcquirePerm: its client may write the block before it gives it back
+abbrev pub grants_unread : {w : ℕ} → Beat w → History w → Bool
+grants_unread (beat.D x) past = is_grant x.opcode && asks_unread (request_of x.source past)
+grants_unread _ past = false
+
+-- a byte after a beat that sets it
+abbrev pub after_telling : {w : ℕ} → ℕ → Beat w → History w → ℕ → Seen → Seen
+after_telling address x past moment before = record {
+  values = record { value = carried_byte (telling_beats x past) (address % 64); moment = moment } ∷ [];
+  base = if grants_unread x past then Some (base_of before) else None;
+}
+
+-- there is a Probe, and it asks for no data
+abbrev pub asks_nothing : Option Probe → Bool
+asks_nothing None = false
+asks_nothing (Some probe) = not (is_probe_block probe.opcode)
+
+-- the opcode is ProbeAck
+abbrev pub is_plain_ack : OpC → Bool
+is_plain_ack c.ProbeAck = true
+is_plain_ack _ = false
+
+-- The beat answers a ProbePerm of the block and takes Trunk away: what was stored to the copy is lost, as the manager
+-- wants it.
+abbrev pub loses_stores : {w : ℕ} → ℕ → Beat w → History w → Bool
+loses_stores block (beat.C x) past =
+    (is_plain_ack x.opcode && (block_at x.address == block))
+    && (asks_nothing (open_probe block past)
+    && (holds_trunk block past && not (same_perm (reported x.param) perm.Trunk)))
+loses_stores block _ past = false
+
+-- a byte with one more beat
+abbrev pub after_seen_beat : {w : ℕ} → ℕ → ℕ → Link × Beat w → Events w → Seen → Seen
+after_seen_beat n address x e before =
+    if tells (block_at address) x.1 (link_beats x.0.0 e)
+    then after_telling address x.1 (link_beats x.0.0 e) (length (beats_of e)) before
+    else if loses_stores (block_at address) x.1 (link_beats x.0.0 e)
+    then record { values = base_of before; base = None }
+    else record {
+      values =
+          after_settling address x (beats_of e)
+          (after_beat n address x.0.0 x.1 (beats_of e) before.values);
+      base = before.base;
+    }
+
+-- ---- all events
+
+-- a byte with one more event
+abbrev pub after_event : {w : ℕ} → List Bool → ℕ → ℕ → Link → Event w → Events w → Seen → Seen
+after_event complete n address link (event.Beat x) e before = after_seen_beat n address (link, x) e before
+after_event complete n address link (event.Commit x) e before = after_commit complete address link.0 x e before
+
+-- the byte at an address after beats and commits of n links
+unfoldable pub seen : {w : ℕ} → List Bool → ℕ → ℕ → Events w → Seen
+seen complete n address [] = unseen
+seen complete n address (x ∷ e) = after_event complete n address x.0 x.1 e (seen complete n address e)
+
+-- the possible values of the byte
+abbrev pub values_seen : {w : ℕ} → List Bool → ℕ → ℕ → Events w → List Telling
+values_seen complete n address e = (seen complete n address e).values

@@ -2,3 +2,5 @@ pub mod CommitFaults
 pub mod CommitLines
 pub mod CommitSpelled
 pub mod Pieces
+pub mod WorkedCommits
+pub mod WorkedEvents

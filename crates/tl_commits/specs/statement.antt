@@ -1,3 +1,4 @@
+pub mod Breaches
 pub mod CommitLine
 pub mod Commits
 pub mod Copies

@@ -1,5 +1,7 @@
 //! The rules that stores and loads, and the beats beside them, may break.
 
+use tl_together::breach::Breach;
+
 /// A rule for the stores and loads of cores.
 #[derive(Clone, Copy, Debug, PartialEq, Eq)]
 pub enum CommitRule {
@@ -9,4 +11,11 @@ pub enum CommitRule {
     M6,
     /// A report gives back a byte that the copy can't have, or gives Trunk up without the bytes that were stored.
     M7,
+}
+
+/// The first rule that an event breaks: one that beats alone break, or else one of stores and loads.
+#[derive(Clone, Copy, Debug, PartialEq, Eq)]
+pub enum CommitBreach {
+    OfBeats(Breach),
+    OfCommits(CommitRule),
 }

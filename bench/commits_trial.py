@@ -7,7 +7,7 @@ import argparse, collections
 import early_trial
 from early_trial import BEATS, BRANCH, CACHES, NONE, TRUNK, Judge, Message, Thunk, World, could_be
 
-PARTS = ["probe_perm", "unrecorded", "under_way", "late_loads", "sets_judged", "granted_base", "base"]
+PARTS = ["probe_perm", "unrecorded", "under_way", "late_loads", "sets_judged"]
 REPORTS = ("ProbeAck", "Release")
 
 
@@ -16,7 +16,8 @@ class CommitJudge(Judge):
     def __init__(self, links, blocks, left_out, complete):
         super().__init__(links, blocks, left_out)
         self.complete = complete
-        self.base = [[None] * BEATS for _ in range(blocks)]   # what a byte could be before its first store
+        self.stored = [[False] * BEATS for _ in range(blocks)]
+        self.memory = [[[(None, 0)] for _ in range(BEATS)] for _ in range(blocks)]  # what memory may have, if no copy is given back
         self.loads = {}                                       # (link, block, byte): what a load may bring since its I line
         self.perm_only = {}                                   # (link, block): the last Probe is a ProbePerm
 
@@ -50,8 +51,7 @@ class CommitJudge(Judge):
     def store(self, link, block, i, v):
         if self.held[link][block] != TRUNK or self.under_way(link, block) or self.gives_back(link, block):
             return "M5"
-        if self.base[block][i] is None or "base" in self.out:
-            self.base[block][i] = [u for u, _ in self.may[block][i]]
+        self.stored[block][i] = True
         self.may[block][i] = [(v, self.moment)]
         self.note_loads()
 
@@ -83,7 +83,7 @@ class CommitJudge(Judge):
         if m.channel != "C" or m.op not in REPORTS or self.answered.get(m) is not None:
             return None
         if m.data:
-            if self.is_judged(m.link, m.block) and b.value is not None:
+            if (self.complete[m.link] or "unrecorded" in self.out) and b.value is not None:
                 if not any(could_be(b.value, u) for u, _ in self.may[m.block][b.index]):
                     return "M7"
             return None
@@ -95,17 +95,22 @@ class CommitJudge(Judge):
         if not self.complete[m.link] or self.held[m.link][m.block] != TRUNK or left == TRUNK:
             return None
         for i in range(BEATS):
-            base = self.base[m.block][i]
-            if base is not None and not any(could_be(v, u) for v, _ in self.may[m.block][i] for u in base):
+            both = [(v, u) for v, _ in self.may[m.block][i] for u, _ in self.memory[m.block][i]]
+            if self.stored[m.block][i] and not any(v is None or could_be(v, u) for v, u in both):
                 return "M7"
         return None
 
     def tell(self, block, values, moment):
-        before = [[u for u, _ in self.may[block][i]] for i in range(BEATS)]
         super().tell(block, values, moment)
-        self.base[block] = [None] * BEATS
-        if values == [None] * BEATS and "granted_base" not in self.out:
-            self.base[block] = before
+        self.stored[block] = [False] * BEATS
+        if not self.unread:
+            self.memory[block] = [list(x) for x in self.may[block]]
+
+    def answer(self, x, answer):
+        super().answer(x, answer)
+        self.may, self.memory = self.memory, self.may
+        super().answer(x, answer)
+        self.may, self.memory = self.memory, self.may
 
     def take(self, b):
         m = b.m
@@ -114,11 +119,12 @@ class CommitJudge(Judge):
             self.held[m.link][m.block] = NONE
         if m.channel == "B":
             self.perm_only[m.link, m.block] = getattr(m, "perm_only", False)
+        self.unread = m.op == "Grant"                         # an AcquirePerm's Grant sets nothing in memory
         super().take(b)
         if was == TRUNK and not m.data and m.param != TRUNK and self.perm_only.get((m.link, m.block)):
             for i in range(BEATS):
-                if self.base[m.block][i] is not None and "probe_perm" not in self.out:
-                    self.may[m.block][i] = [(u, self.moment - 1) for u in self.base[m.block][i]]
+                if self.stored[m.block][i] and "probe_perm" not in self.out:
+                    self.may[m.block][i], self.stored[m.block][i] = list(self.memory[m.block][i]), False
         self.note_loads()
 
 

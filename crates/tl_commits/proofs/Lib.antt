@@ -4,3 +4,5 @@ pub mod CommitSpelled
 pub mod Pieces
 pub mod WorkedCommits
 pub mod WorkedEvents
+pub mod BeatsAlone
+pub mod JudgedAlone

@@ -1,3 +1,4 @@
+pub mod Alone
 pub mod Breaches
 pub mod CommitLine
 pub mod Commits

@@ -3,5 +3,6 @@
 #![tactic(auto)]
 
 pub mod commit;
+pub mod law;
 pub mod read;
 pub mod rule;

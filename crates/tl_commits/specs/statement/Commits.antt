@@ -24,8 +24,8 @@ use Rattle.tl_commits.specs.declared.rule.CommitRule.{CommitRule}
 use Rattle.tl_commits.specs.declared.rule.CommitRule.TheVariants.{M5, M6, M7}
 use Rattle.tl_commits.specs.statement.Copies.{brought, holds, holds_trunk, is_complete, is_known, link_beats, may_load}
 use Rattle.tl_commits.specs.statement.Copies.{may_store}
-use Rattle.tl_commits.specs.statement.Events.{Events, at_some}
-use Rattle.tl_commits.specs.statement.Seen.{Seen, asks_nothing, byte_in, is_plain_ack, seen, values_seen}
+use Rattle.tl_commits.specs.statement.Events.{Events, at_some, beats_of}
+use Rattle.tl_commits.specs.statement.Seen.{asks_nothing, byte_in, is_plain_ack, memory_may, seen, values_seen}
 
 -- ---- M5 and M6
 
@@ -80,22 +80,21 @@ agree (Some u) v = could_be u v
 abbrev pub have_common : List Telling → List Telling → Bool
 have_common these those = is_some (find (λ x. is_some (find (λ y. agree x.value y.value) those)) these)
 
--- the byte may be what it was before it was stored, if it was stored
-abbrev pub may_be_base : Option (List Telling) → List Telling → Bool
-may_be_base None values = true
-may_be_base (Some base) values = have_common values base
+-- the byte at an address may be what memory has, if it was stored
+abbrev pub is_kept : {w : ℕ} → List Bool → ℕ → ℕ → Events w → Bool
+is_kept complete n address e =
+    not (seen complete n address e).stored
+    || have_common (values_seen complete n address e) (memory_may n address (beats_of e))
 
--- each byte of the block may be what it was before it was stored
+-- each byte of the block that was stored may be what memory has
 abbrev pub is_clean : {w : ℕ} → List Bool → ℕ → ℕ → Events w → Bool
-is_clean complete n block e =
-    each_below 64 (λ place. may_be_base (seen complete n (64 * block + place) e).base
-    (values_seen complete n (64 * block + place) e))
+is_clean complete n block e = each_below 64 (λ place. is_kept complete n (64 * block + place) e)
 
--- the bytes of a beat of a report are possible; those that aren't known, and those of a report that is answered, aren't
--- judged
+-- the bytes of a beat of a report are possible; those of a report that is answered aren't judged, nor where the trace
+-- doesn't have all stores of the link
 abbrev pub gives_truly : {w : ℕ} → List Bool → ℕ → ℕ → BeatC w → Events w → Bool
 gives_truly {w} complete n link x e =
-    not (is_known complete link (block_at x.address) (link_beats link e))
+    not (is_complete complete link)
     || (is_released (block_at x.address) (beat.C x) (link_beats link e)
     || (is_spoiled (beat.C x)
     || each_from (λ address v. told_as v (values_seen complete n address e))

@@ -30,9 +30,9 @@ holds_trunk block past = same_perm (may_hold block past) perm.Trunk
 abbrev pub holds : {w : ℕ} → ℕ → History w → Bool
 holds block past = not (same_perm (may_hold block past) perm.None)
 
--- these beats, the newest first, are those of a Grant of the block that isn't denied
+-- these beats, the newest first, are those of a Grant of the block
 abbrev pub is_filled_by : {w : ℕ} → ℕ → List (Beat w) → History w → Bool
-is_filled_by block (beat.D x ∷ burst) past = grants block x past && not x.denied
+is_filled_by block (beat.D x ∷ burst) past = grants block x past
 is_filled_by block _ past = false
 
 -- a GrantData of the block is under way

@@ -1,6 +1,6 @@
 -- The possible values of the bytes of memory and of the copies, by the beats of all links and the commits of their cores.
 use Rattle.std.specs.Prelude.{ℕ, Bool, true, false, not, [], ◌∷◌, ◌==◌, ◌&&◌, ◌||◌, ◌-◌, ◌%◌, if◌then◌else◌, List, length}
-use Rattle.std.specs.Prelude.{Option, Some, None, is_some, unwrap_or}
+use Rattle.std.specs.Prelude.{Option, Some, None, is_some}
 use Rattle.tl_beat.specs.declared.beat.Beat.{Beat}
 use Rattle.tl_beat.specs.declared.beat.Beat.TheVariants as beat
 use Rattle.tl_beat.specs.declared.beat.Link.{Link}
@@ -11,7 +11,7 @@ use Rattle.tl_burst.specs.statement.Messages.{History}
 use Rattle.tl_params.specs.declared.perm.Perm.TheVariants as perm
 use Rattle.tl_rules.specs.code.Open.{open_probe}
 use Rattle.tl_rules.specs.declared.past.Probe.{Probe}
-use Rattle.tl_rules.specs.statement.Conformance.{is_probe_block, on_link, same_perm}
+use Rattle.tl_rules.specs.statement.Conformance.{Trace, is_probe_block, on_link, same_perm}
 use Rattle.tl_rules.specs.statement.Effect.{byte_of}
 use Rattle.tl_rules.specs.statement.History.{block_at, is_grant, request_of, reported}
 use Rattle.tl_bytes.specs.declared.telling.Telling.{Telling}
@@ -25,21 +25,36 @@ use Rattle.tl_commits.specs.declared.commit.Piece.{Piece}
 use Rattle.tl_commits.specs.statement.Copies.{brought, holds_trunk, is_known, link_beats}
 use Rattle.tl_commits.specs.statement.Events.{Events, beats_of, is_loading}
 
--- The possible values of a byte, the newest first. `base`: if the byte was stored since a message last set it, the
--- values that were possible before the first of these stores.
-pub record Seen : Type 0 where
-  pub values : List Telling
-  pub base : Option (List Telling)
+-- ---- memory
 
--- any value, before the trace
-abbrev pub unseen : Seen
-unseen = record { values = record { value = None; moment = 0 } ∷ []; base = None }
+-- the beat is a Grant that answers an AcquirePerm
+abbrev pub grants_unread : {w : ℕ} → Beat w → History w → Bool
+grants_unread (beat.D x) past = is_grant x.opcode && asks_unread (request_of x.source past)
+grants_unread _ past = false
 
--- the values that were possible before the first store
-abbrev pub base_of : Seen → List Telling
-base_of before = unwrap_or before.base before.values
+-- the byte that a message says with this beat
+abbrev pub told_by : {w : ℕ} → ℕ → Beat w → History w → ℕ → List Telling
+told_by address x past moment = record { value = carried_byte (telling_beats x past) (address % 64); moment = moment } ∷ []
+
+-- The values that memory may have at an address if no copy is given back: as `may_be` of `tl_bytes`, but a Grant that
+-- answers an AcquirePerm changes nothing there.
+unfoldable pub memory_may : {w : ℕ} → ℕ → ℕ → Trace w → List Telling
+memory_may n address [] = record { value = None; moment = 0 } ∷ []
+memory_may n address (x ∷ t) =
+    if tells (block_at address) x.1 (on_link x.0.0 t) && not (grants_unread x.1 (on_link x.0.0 t))
+    then told_by address x.1 (on_link x.0.0 t) (length t)
+    else after_settling address x t (after_beat n address x.0.0 x.1 t (memory_may n address t))
 
 -- ---- commits
+
+-- The possible values of a byte, the newest first, and whether it was stored since a message last set it.
+pub record Seen : Type 0 where
+  pub values : List Telling
+  pub stored : Bool
+
+-- before the trace: any value
+abbrev pub unseen : Seen
+unseen = record { values = record { value = None; moment = 0 } ∷ []; stored = false }
 
 -- the byte at an address that this piece of a value has
 abbrev pub byte_in : Piece → ℕ → ℕ → ℕ
@@ -63,31 +78,19 @@ after_commit complete address link (commit.Store piece value) e before =
     if reaches piece.address piece.size address
     then record {
       values = told_now piece value address (length (beats_of e));
-      base = Some (base_of before);
+      stored = true;
     }
     else before
 after_commit complete address link (commit.Load piece value) e before =
     if reaches piece.address piece.size address && says_byte complete link piece address e
     then record {
       values = told_now piece value address (length (beats_of e));
-      base = before.base;
+      stored = before.stored;
     }
     else before
 after_commit complete address link (commit.Begin piece) e before = before
 
 -- ---- beats
-
--- the beat is a Grant that answers an AcquirePerm: its client may write the block before it gives it back
-abbrev pub grants_unread : {w : ℕ} → Beat w → History w → Bool
-grants_unread (beat.D x) past = is_grant x.opcode && asks_unread (request_of x.source past)
-grants_unread _ past = false
-
--- a byte after a beat that sets it
-abbrev pub after_telling : {w : ℕ} → ℕ → Beat w → History w → ℕ → Seen → Seen
-after_telling address x past moment before = record {
-  values = record { value = carried_byte (telling_beats x past) (address % 64); moment = moment } ∷ [];
-  base = if grants_unread x past then Some (base_of before) else None;
-}
 
 -- there is a Probe, and it asks for no data
 abbrev pub asks_nothing : Option Probe → Bool
@@ -108,18 +111,19 @@ loses_stores block (beat.C x) past =
     && (holds_trunk block past && not (same_perm (reported x.param) perm.Trunk)))
 loses_stores block _ past = false
 
--- a byte with one more beat
+-- A byte with one more beat. A message sets it, or stores are lost and it is what memory has, or the answer to an access
+-- changes it as `may_be` of `tl_bytes` does.
 abbrev pub after_seen_beat : {w : ℕ} → ℕ → ℕ → Link × Beat w → Events w → Seen → Seen
 after_seen_beat n address x e before =
     if tells (block_at address) x.1 (link_beats x.0.0 e)
-    then after_telling address x.1 (link_beats x.0.0 e) (length (beats_of e)) before
-    else if loses_stores (block_at address) x.1 (link_beats x.0.0 e)
-    then record { values = base_of before; base = None }
+    then record { values = told_by address x.1 (link_beats x.0.0 e) (length (beats_of e)); stored = false }
+    else if before.stored && loses_stores (block_at address) x.1 (link_beats x.0.0 e)
+    then record { values = memory_may n address (beats_of e); stored = false }
     else record {
       values =
           after_settling address x (beats_of e)
           (after_beat n address x.0.0 x.1 (beats_of e) before.values);
-      base = before.base;
+      stored = before.stored;
     }
 
 -- ---- all events

@@ -77,8 +77,12 @@ may_read-alone : {w : ℕ} (complete : List Bool) (n : ℕ) (access : Access w) 
 unfolding may_read_seen may_read
 may_read-alone complete n access [] address v = refl
 may_read-alone complete n access (x ∷ t) address v =
-    rw (may_read-alone complete n access t address v, may_find-alone complete n access (x ∷ t) address v,
-    beats-alone (x ∷ t), beats-alone t) refl
+    rw (
+      may_read-alone complete n access t address v,
+      may_find-alone complete n access (x ∷ t) address v,
+      beats-alone (x ∷ t),
+      beats-alone t,
+    ) refl
 
 -- two tests that say the same of each byte
 each-same : (test other : ℕ → ℕ → Bool) (address : ℕ) (bytes : List ℕ)

@@ -6,3 +6,6 @@ pub mod WorkedCommits
 pub mod WorkedEvents
 pub mod BeatsAlone
 pub mod JudgedAlone
+pub mod Filling
+pub mod Giving
+pub mod AtOnce

@@ -1,2 +1,3 @@
 pub mod CommitReading
 pub mod FromLeft
+pub mod Giving

@@ -3,6 +3,8 @@
 #![tactic(auto)]
 
 pub mod commit;
+pub mod commits;
+mod copies;
 pub mod law;
 pub mod read;
 pub mod rule;

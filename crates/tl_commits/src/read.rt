@@ -121,11 +121,7 @@ fn begin(bytes: &[u8]) -> Result<(Link, Commit), LineFault>
 }
 
 /// Reads the line with this letter, which has this many spaces.
-fn line_with(
-    letter: Option<u8>,
-    spaces: usize,
-    bytes: &[u8],
-) -> Result<(Link, Commit), LineFault>
+fn line_with(letter: Option<u8>, spaces: usize, bytes: &[u8]) -> Result<(Link, Commit), LineFault>
     ensures { result ≡ line_with letter spaces bytes.now }
 {
     match letter {

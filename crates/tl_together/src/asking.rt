@@ -21,11 +21,13 @@ ghost use Rattle.tl_rules.specs.code.Open.{open_request};
 ghost use Rattle.tl_rules.specs.statement.Conformance.{Trace, on_link};
 ghost use Rattle.tl_monitor.specs.statement.Granting.{coming_on};
 ghost use Rattle.tl_monitor.specs.statement.Knows.{begins_on, request_on};
+ghost use Rattle.tl_monitor.specs.statement.Reporting.{report_on};
 ghost use Rattle.tl_together.specs.code.Windows.{asked_at};
 
 use crate::fault::JudgeFault;
 use crate::judge::{Judge, answered, asked_in};
 use tl_beat::beat::{Beat, Link};
+use tl_beat::control::ControlC;
 use tl_memory::expected::Expected;
 use tl_memory::link::LinkMessages;
 use tl_memory::memory::Change;
@@ -66,6 +68,15 @@ impl<const W: usize> Judge<W> {
             link.0 < length levels → result ≡ may_hold block (on_link link.0 t) }
     {
         self.monitor.held_under(link, block)
+    }
+
+    /// The control fields of the unfinished message on channel C of a link, if there is one. None on a link without a
+    /// level.
+    pub fn report(&self, link: Link) -> Option<ControlC>
+        ensures { (levels : List Level) (l : Liberties) (t : Trace W) → Knows self.now levels l t false →
+            result ≡ report_on levels link t }
+    {
+        self.monitor.report(link)
     }
 
     /// The unfinished messages on channels A, C and D of a link. None if there is no such link.

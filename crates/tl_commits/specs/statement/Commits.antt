@@ -8,7 +8,7 @@ use Rattle.tl_beat.specs.declared.channel.Channel.TheVariants as channel
 use Rattle.tl_beat.specs.statement.Opcode.{c_carries_data}
 use Rattle.tl_burst.specs.statement.Messages.{History, unfinished}
 use Rattle.tl_params.specs.declared.perm.Perm.TheVariants as perm
-use Rattle.tl_rules.specs.code.Open.{open_probe}
+use Rattle.tl_rules.specs.statement.OpenMessages.{open_probe}
 use Rattle.tl_rules.specs.statement.Admission.{is_spoiled, lanes_of}
 use Rattle.tl_rules.specs.statement.Conformance.{same_perm}
 use Rattle.tl_rules.specs.statement.History.{block_at, is_acquire, reported}
@@ -56,10 +56,14 @@ may_bring complete n link address v e = brings (brought address (link_beats link
 abbrev pub broken_store : {w : ℕ} → ℕ → Piece → Events w → Option CommitRule
 broken_store link piece e = if may_store (block_at piece.address) (link_beats link e) then None else Some M5
 
+-- a byte of the piece could be loaded at no moment of the load
+abbrev pub lacks_copy : {w : ℕ} → ℕ → Piece → Events w → Bool
+lacks_copy link piece e = not (each_byte piece (λ address. at_some (is_loadable link address) link piece e))
+
 -- the rule that a load breaks: at no moment could a byte be loaded, or at no moment could it be this byte
 abbrev pub broken_load : {w : ℕ} → List Bool → ℕ → ℕ → Piece → ℕ → Events w → Option CommitRule
 broken_load complete n link piece value e =
-    if not (each_byte piece (λ address. at_some (is_loadable link address) link piece e)) then Some M5 else
+    if lacks_copy link piece e then Some M5 else
     if not (each_byte piece (λ address. at_some (may_bring complete n link address (byte_in piece value address)) link
     piece e)) then Some M6 else None
 

@@ -10,7 +10,7 @@ use Rattle.tl_beat.specs.declared.opcode.OpD.{OpD}
 use Rattle.tl_beat.specs.declared.opcode.OpD.TheVariants as d
 use Rattle.tl_burst.specs.statement.Burst.{reaches}
 use Rattle.tl_burst.specs.statement.Messages.{on, unfinished}
-use Rattle.tl_rules.specs.code.Open.{open_request}
+use Rattle.tl_rules.specs.statement.OpenMessages.{open_request}
 use Rattle.tl_rules.specs.declared.past.Request.{Request}
 use Rattle.tl_rules.specs.statement.Admission.{is_spoiled, lanes_of}
 use Rattle.tl_rules.specs.statement.History.{block_at}

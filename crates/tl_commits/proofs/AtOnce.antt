@@ -1,11 +1,11 @@
 -- A load that didn't begin earlier is judged by the copy that its cache holds now.
-use Rattle.std.proofs.Common.{◌≡◌, ℕ, Bool, true, false, not, ◌&&◌, ◌||◌, ◌+◌, ◌^◌, refl, ap, ◌∙◌}
+use Rattle.std.proofs.Common.{◌≡◌, ℕ, Bool, true, false, not, ◌||◌, ◌+◌, ◌^◌, refl, ◌∙◌}
 use Rattle.std.specs.Prelude.{if◌then◌else◌, Option, Some, None}
 use Rattle.tl_commits.specs.declared.commit.Piece.{Piece}
 use Rattle.tl_commits.specs.declared.rule.CommitRule.{CommitRule}
 use Rattle.tl_commits.specs.declared.rule.CommitRule.TheVariants.{M5}
 use Rattle.tl_commits.specs.statement.Commits.{each_byte, is_loadable, lacks_copy}
-use Rattle.tl_commits.specs.statement.Events.{Events, at_some, is_loading, since_begun}
+use Rattle.tl_commits.specs.statement.Events.{Events, at_some, is_loading}
 use Rattle.tl_commits.proofs.Pieces.{each-below-same}
 
 now-only : {w : ℕ} (test : Events w → Bool) (link : ℕ) (piece : Piece) (e : Events w) → is_loading link piece e ≡ false

@@ -1,35 +1,33 @@
 -- What a trace without commits says of bytes is what its beats say.
-use Rattle.std.proofs.Common.{◌≡◌, ℕ, zero, suc, ◌+◌, ◌*◌, ◌/◌, Bool, true, false, not, ◌&&◌, ◌||◌, List, [], ◌∷◌, length}
-use Rattle.std.proofs.Common.{refl, sym, ap, ap₂, ◌∙◌}
-use Rattle.std.specs.Prelude.{if◌then◌else◌, filter, find, nat_le, nat_lt, Option, Some, None, ◌==◌}
-use Rattle.tl_beat.specs.declared.beat.Beat.{Beat}
+use Rattle.std.proofs.Common.{◌≡◌, ℕ, zero, suc, ◌+◌, ◌*◌, ◌/◌, Bool, true}
+use Rattle.std.proofs.Common.{false, not, ◌&&◌, ◌||◌, List, [], ◌∷◌, length}
+use Rattle.std.proofs.Common.{refl, ap, ap₂}
+use Rattle.std.specs.Prelude.{if◌then◌else◌, find, Option, Some, None, ◌==◌}
 use Rattle.tl_beat.specs.declared.beat.Beat.TheVariants as beat
 use Rattle.tl_beat.specs.declared.beat.BeatD.{BeatD}
-use Rattle.tl_beat.specs.declared.beat.Link.{Link}
 use Rattle.tl_beat.specs.declared.channel.Channel.TheVariants as channel
 use Rattle.tl_beat.specs.declared.opcode.OpD.{OpD}
 use Rattle.tl_beat.specs.declared.opcode.OpD.TheVariants as d
 use Rattle.tl_burst.specs.statement.Burst.{reaches}
 use Rattle.tl_burst.specs.statement.Messages.{on, unfinished}
 use Rattle.tl_bytes.specs.declared.telling.Telling.{Telling}
-use Rattle.tl_bytes.specs.statement.Bytes.{Access, after_beat, after_settling, before_last, each_from, found_after, grants_truly}
-use Rattle.tl_bytes.specs.statement.Bytes.{is_get, is_of, is_true, is_true_grant, is_true_read, may_be, may_find, may_grant}
+use Rattle.tl_bytes.specs.statement.Bytes.{Access, after_beat, after_settling, before_last}
+use Rattle.tl_bytes.specs.statement.Bytes.{each_from, found_after, grants_truly}
+use Rattle.tl_bytes.specs.statement.Bytes.{is_get, is_of, is_true, is_true_grant}
+use Rattle.tl_bytes.specs.statement.Bytes.{is_true_read, may_be, may_find, may_grant}
 use Rattle.tl_bytes.specs.statement.Bytes.{may_read, pending_accesses, reads_truly, tells}
 use Rattle.tl_bytes.specs.statement.Early.{is_overtaken}
-use Rattle.tl_bytes.specs.statement.Shown.{is_window}
 use Rattle.tl_rules.specs.code.Open.{open_request}
 use Rattle.tl_rules.specs.declared.past.Request.{Request}
 use Rattle.tl_rules.specs.statement.Admission.{is_spoiled, lanes_of}
 use Rattle.tl_rules.specs.statement.Conformance.{Trace, on_link}
 use Rattle.tl_rules.specs.statement.History.{block_at}
-use Rattle.tl_rules.specs.statement.Windows.{needs}
-use Rattle.tl_commits.specs.declared.commit.Event.TheVariants as event
 use Rattle.tl_commits.specs.statement.Alone.{alone}
-use Rattle.tl_commits.specs.statement.Copies.{link_beats}
 use Rattle.tl_commits.specs.statement.Events.{Events, beats_of}
-use Rattle.tl_commits.specs.statement.Seen.{Seen, loses_stores, memory_may, seen, told_by, values_seen}
+use Rattle.tl_commits.specs.statement.Seen.{Seen, seen, told_by, values_seen}
 use Rattle.tl_commits.specs.statement.True.{before_last_seen, found_after_seen, grants_truly_seen, is_true_grant_seen}
-use Rattle.tl_commits.specs.statement.True.{is_true_read_seen, is_true_seen, may_find_seen, may_grant_seen, may_read_seen}
+use Rattle.tl_commits.specs.statement.True.{is_true_read_seen, is_true_seen}
+use Rattle.tl_commits.specs.statement.True.{may_find_seen, may_grant_seen, may_read_seen}
 use Rattle.tl_commits.specs.statement.True.{reads_truly_seen}
 
 pub beats-alone : {w : ℕ} (t : Trace w) → beats_of (alone t) ≡ t

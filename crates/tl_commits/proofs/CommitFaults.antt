@@ -1,20 +1,19 @@
 -- The first fault of a commit's line is the one that reading gives.
-use Rattle.std.proofs.Common.{◌≡◌, ℕ, Bool, true, false, not, cond, List, [], ◌∷◌, ◌++◌, length, refl, sym, ◌∙◌, arith}
+use Rattle.std.proofs.Common.{◌≡◌, ℕ, Bool, true, false, not, cond, List, [], ◌∷◌, length, refl, sym, ◌∙◌, arith}
 use Rattle.std.specs.Io.BufRead.{ends_with_byte}
 use Rattle.std.specs.Prelude.{Result, Err, Ok, Option, Some, None, ◌||◌, ◌&&◌, nat_lt}
 use Rattle.std.specs.Result.{result_err}
 use Rattle.tl_beat.proofs.Faults.{checked, unless_equal}
-use Rattle.tl_beat.specs.code.Reading.{◌>>=◌, number_in}
+use Rattle.tl_beat.specs.code.Reading.{◌>>=◌}
 use Rattle.tl_beat.specs.declared.beat.Link.{Link}
 use Rattle.tl_beat.specs.declared.fault.LineFault.{LineFault}
 use Rattle.tl_beat.specs.declared.fault.LineFault.TheVariants.{F1, F3}
 use Rattle.tl_beat.specs.statement.Digits.{is_digits, value_of}
 use Rattle.tl_beat.specs.statement.First.{first_if}
 use Rattle.tl_beat.specs.statement.Line.{field, pieces, without_last}
-use Rattle.tl_commits.specs.code.CommitReading.{loaded, made_by, reading_begin, reading_commit, reading_fields}
-use Rattle.tl_commits.specs.code.CommitReading.{reading_on, reading_valued, stored, valued}
+use Rattle.tl_commits.specs.code.CommitReading.{loaded, reading_begin, reading_commit, reading_fields}
+use Rattle.tl_commits.specs.code.CommitReading.{reading_on, reading_valued, stored}
 use Rattle.tl_commits.specs.declared.commit.Commit.{Commit}
-use Rattle.tl_commits.specs.declared.commit.Commit.TheVariants as commit
 use Rattle.tl_commits.specs.declared.commit.Piece.{Piece}
 use Rattle.tl_commits.specs.declared.read.ValuedPiece.{ValuedPiece}
 use Rattle.tl_commits.specs.statement.CommitLine.{L, I, S, Letter, commit_fault, commit_fields_fault, is_piece}
@@ -24,7 +23,8 @@ abbrev Read : Type 0
 Read = Result (Link × Commit) LineFault
 
 -- what is made of what was read has no fault of its own
-made-fault : (r : Result ValuedPiece LineFault) (make : ValuedPiece → Read) → ((x : ValuedPiece) → result_err (make x) ≡ None)
+made-fault : (r : Result ValuedPiece LineFault) (make : ValuedPiece → Read)
+    → ((x : ValuedPiece) → result_err (make x) ≡ None)
     → result_err (r >>= make) ≡ result_err r
 made-fault (Ok x) make none = none x
 made-fault (Err fault) make none = refl
@@ -79,7 +79,8 @@ begin-fault (link ∷ letter ∷ size ∷ address ∷ f ∷ fs) =
     sym (unless_equal (length (link ∷ letter ∷ size ∷ address ∷ f ∷ fs)) 4 _ _ (λ e. omega arith))
 begin-fault fs = refl
 
-reading_on-fault : (letter : Option Letter) (fs : List (List ℕ)) → result_err (reading_on letter fs) ≡ letter_fault letter fs
+reading_on-fault : (letter : Option Letter) (fs : List (List ℕ)) → result_err (reading_on letter fs) ≡ letter_fault
+    letter fs
 reading_on-fault None fs = refl
 reading_on-fault (Some S) fs = made-fault (reading_valued fs) stored (λ x. refl) ∙ valued-fault fs
 reading_on-fault (Some L) fs = made-fault (reading_valued fs) loaded (λ x. refl) ∙ valued-fault fs

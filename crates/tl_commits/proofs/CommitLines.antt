@@ -1,19 +1,19 @@
 -- A commit's line read from left to right is what its pieces are read as.
-use Rattle.std.proofs.Common.{◌≡◌, ◌≤◌, ◌<◌, ℕ, zero, suc, ◌+◌, ◌*◌, ◌^◌, Bool, true, false, cond, List, [], ◌∷◌, ◌++◌}
-use Rattle.std.proofs.Common.{length, refl, sym, ap, subst, ◌∙◌, arith}
+use Rattle.std.proofs.Common.{◌≡◌, ℕ, ◌+◌, Bool, true, false, cond, List, [], ◌∷◌}
+use Rattle.std.proofs.Common.{length, refl, ap, subst, ◌∙◌, arith}
 use Rattle.std.proofs.lemmas.Bool.{ne_eqb, le-ltb}
 use Rattle.std.specs.List.{after_first}
-use Rattle.std.specs.Prelude.{Result, Ok, Err, Some, None, ◌==◌, nat_lt}
+use Rattle.std.specs.Prelude.{Result, Err, Some, None, ◌==◌, nat_lt}
 use Rattle.tl_beat.proofs.FieldsAt.{then_number, digits_at-end}
-use Rattle.tl_beat.proofs.LineAt.{bind-assoc, behind, unless_equal}
+use Rattle.tl_beat.proofs.LineAt.{behind, unless_equal}
 use Rattle.tl_beat.proofs.Pieces.{NoSpace, NoSpaces, NoSpaces-pieces, length-pieces, spaced-pieces}
 use Rattle.tl_beat.specs.code.FromLeft.{letter_in, spaces_in}
-use Rattle.tl_beat.specs.code.Reading.{◌>>=◌, number_in}
+use Rattle.tl_beat.specs.code.Reading.{◌>>=◌}
 use Rattle.tl_beat.specs.declared.beat.Link.{Link}
 use Rattle.tl_beat.specs.declared.fault.LineFault.{LineFault}
 use Rattle.tl_beat.specs.declared.fault.LineFault.TheVariants.{F1, F2}
 use Rattle.tl_beat.specs.statement.Line.{pieces, spaced, without_last}
-use Rattle.tl_commits.specs.code.CommitReading.{loaded, piece_of, reading_begin, reading_commit, reading_fields}
+use Rattle.tl_commits.specs.code.CommitReading.{loaded, reading_begin, reading_commit, reading_fields}
 use Rattle.tl_commits.specs.code.CommitReading.{reading_on, reading_valued, stored}
 use Rattle.tl_commits.specs.code.FromLeft.{begin_at, body_at, line_at, line_with, valued_at}
 use Rattle.tl_commits.specs.declared.commit.Commit.{Commit}

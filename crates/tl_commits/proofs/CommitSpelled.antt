@@ -1,5 +1,6 @@
 -- What a commit's line spells is read, and what is read is spelled.
-use Rattle.std.proofs.Common.{◌≡◌, ◌≤◌, ◌<◌, ℕ, zero, suc, ◌+◌, ◌*◌, ◌/◌, ◌^◌, Bool, true, false, not, cond, List, [], ◌∷◌}
+use Rattle.std.proofs.Common.{◌≡◌, ◌≤◌, ◌<◌, ℕ, zero, suc, ◌+◌, ◌*◌, ◌/◌, ◌^◌}
+use Rattle.std.proofs.Common.{Bool, true, false, not, cond, List, [], ◌∷◌}
 use Rattle.std.proofs.Common.{◌++◌, length, refl, sym, ap, subst, ◌∙◌, arith, length-append, lit<}
 use Rattle.std.proofs.lemmas.Bool.{eqb-true, le-ltb, le-leb, leb-true}
 use Rattle.std.proofs.Math.Nat.{div-eq_of_lt, lt-div-mul-add, pow-le-pow_right}
@@ -17,13 +18,13 @@ use Rattle.tl_beat.specs.declared.fault.LineFault.TheVariants.{F1, F3}
 use Rattle.tl_beat.specs.statement.Digits.{digits}
 use Rattle.tl_beat.specs.statement.Line.{field, pieces, spaced, without_last}
 use Rattle.tl_rules.specs.statement.Legality.{is_aligned}
-use Rattle.tl_commits.specs.code.CommitReading.{loaded, made_by, piece_of, reading_begin, reading_commit, reading_fields}
+use Rattle.tl_commits.specs.code.CommitReading.{loaded, piece_of, reading_begin, reading_commit, reading_fields}
 use Rattle.tl_commits.specs.code.CommitReading.{reading_on, reading_valued, stored, valued}
 use Rattle.tl_commits.specs.declared.commit.Commit.{Commit}
 use Rattle.tl_commits.specs.declared.commit.Commit.TheVariants as commit
 use Rattle.tl_commits.specs.declared.commit.Piece.{Piece}
 use Rattle.tl_commits.specs.declared.read.ValuedPiece.{ValuedPiece}
-use Rattle.tl_commits.specs.statement.CommitLine.{IsCommit, IsPiece, L, I, Letter, S, SpellsCommit, commit_fields, is_piece}
+use Rattle.tl_commits.specs.statement.CommitLine.{IsCommit, IsPiece, L, I, Letter, S, SpellsCommit, commit_fields}
 use Rattle.tl_commits.specs.statement.CommitLine.{letter_named, value_digits}
 
 -- ---- pieces
@@ -45,7 +46,8 @@ piece-is size address piece e = go (nat_le size 3) (is_aligned address size) ref
     numbers : Piece
     numbers = record { size = size; address = address }
 
-    go : (b c : Bool) → nat_le size 3 ≡ b → is_aligned address size ≡ c → cond (b && c) (Ok numbers) (Err F3) ≡ ok_of piece
+    go : (b c : Bool) → nat_le size 3 ≡ b → is_aligned address size ≡ c
+        → cond (b && c) (Ok numbers) (Err F3) ≡ ok_of piece
         → IsRead size address piece
     go true true small aligned f =
         let same : numbers ≡ piece = ok_is f in

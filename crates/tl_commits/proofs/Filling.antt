@@ -1,16 +1,15 @@
 -- The Grant that is under way on a link.
-use Rattle.std.proofs.Common.{◌≡◌, ℕ, Bool, true, false, ◌&&◌, List, [], ◌∷◌, length, refl, sym, ap, ◌∙◌}
+use Rattle.std.proofs.Common.{◌≡◌, ℕ, Bool, true, false, ◌&&◌, List, [], ◌∷◌, refl, sym, ap}
 use Rattle.std.proofs.lemmas.Bool.{eqb-true}
-use Rattle.std.specs.Prelude.{if◌then◌else◌, ◌==◌, nat_lt, Option, Some, None, is_some}
+use Rattle.std.specs.Prelude.{if◌then◌else◌, ◌==◌, Option, Some, None, is_some}
 use Rattle.tl_beat.specs.declared.beat.Beat.{Beat}
 use Rattle.tl_beat.specs.declared.beat.Beat.TheVariants as beat
 use Rattle.tl_beat.specs.declared.beat.BeatA.{BeatA}
-use Rattle.tl_beat.specs.declared.beat.BeatD.{BeatD}
 use Rattle.tl_beat.specs.declared.channel.Channel.TheVariants as channel
 use Rattle.tl_burst.specs.statement.Messages.{History, unfinished}
 use Rattle.tl_memory.specs.declared.early.Granting.{Granting}
 use Rattle.tl_memory.specs.statement.Links.{KnowsGranting}
-use Rattle.tl_rules.specs.statement.History.{asks_for, block_at, is_grant, request_of}
+use Rattle.tl_rules.specs.statement.History.{asks_for, block_at, request_of}
 use Rattle.tl_commits.specs.statement.Copies.{is_filled_by, is_filling}
 
 -- the block of the Grant, if there is one

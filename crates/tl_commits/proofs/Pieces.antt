@@ -1,5 +1,5 @@
 -- Pieces: their sizes and their digits.
-use Rattle.std.proofs.Common.{◌≡◌, ◌≤◌, ◌<◌, ◌+◌, ◌*◌, ◌%◌, ◌^◌, ◌&&◌, ℕ, zero, suc, Bool, true, arith, refl, ap₂, ◌∙◌}
+use Rattle.std.proofs.Common.{◌≡◌, ◌≤◌, ◌<◌, ◌+◌, ◌%◌, ◌^◌, ◌&&◌, ℕ, zero, suc, Bool, true, arith, refl, ap₂, ◌∙◌}
 use Rattle.std.proofs.Math.Numerals.{add-one}
 use Rattle.tl_rules.specs.statement.Legality.{each_below}
 

@@ -1,11 +1,12 @@
 -- Events of worked traces: beats of 16 bytes of block 0, and what cores store and load there.
 use Rattle.std.proofs.Common.{ℕ, Bool, refl, true, false, List, [], ◌∷◌, ◌++◌}
-use Rattle.std.specs.Prelude.{map, Option, Some, None}
+use Rattle.std.specs.Prelude.{map, None}
 use Rattle.tl_beat.specs.declared.beat.Beat.{Beat}
 use Rattle.tl_beat.specs.declared.beat.Beat.TheVariants as beat
 use Rattle.tl_beat.specs.declared.beat.Link.{Link}
 use Rattle.tl_beat.specs.declared.opcode.OpB.TheVariants as b
-use Rattle.tl_bytes.proofs.WorkedBeats.{acquire, acquire_unread, four, given_up, grant_ack, grant_beat, grant_unread, wide}
+use Rattle.tl_bytes.proofs.WorkedBeats.{acquire, acquire_unread, four, given_up}
+use Rattle.tl_bytes.proofs.WorkedBeats.{grant_ack, grant_beat, grant_unread, wide}
 use Rattle.tl_params.specs.declared.level.Level.{Level}
 use Rattle.tl_params.specs.declared.level.Level.TheVariants as level
 use Rattle.tl_rules.specs.statement.Conformance.{Trace}

@@ -1,4 +1,4 @@
-//! What a core did with its cache's copy of a block.
+//! Stores and loads of a core, to and from its cache's copy of a block.
 
 use tl_beat::beat::Beat;
 
@@ -20,7 +20,7 @@ pub enum Commit {
     Begin { piece: Piece },
 }
 
-/// What a trace with commits has of a link: a beat, or a commit of its core.
+/// An event of a link: a beat, or a commit of its core.
 #[derive(Clone, Copy, Debug, PartialEq, Eq)]
 pub enum Event<const W: usize> {
     Beat(Beat<W>),

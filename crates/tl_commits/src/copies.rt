@@ -1,4 +1,4 @@
-//! What a link's cache may do with its copy of a block, by the unfinished messages of the link.
+//! Whether a cache's copy of a block is coming or leaving, by the unfinished messages of its link.
 
 ghost use Rattle.std.specs.Prelude.{ℕ, ◌≡◌, ◌%◌, ◌/◌, is_some};
 ghost use Rattle.tl_beat.specs.declared.channel.Channel.TheVariants as channel;
@@ -42,16 +42,16 @@ pub(crate) fn has_brought<const W: usize>(messages: &LinkMessages, address: u32)
     is_filling(messages, block_at(address)) && beat_of::<W>(address) < beats
 }
 
-/// Whether a message with these control fields is a report of this block that has no answer yet. `released` says whether
-/// it is a Release that was answered.
+/// Whether a message with these control fields is a report of this block that has no answer yet. `released` says
+/// whether it is a Release that was answered.
 fn is_given(x: &ControlC, released: bool, block: u32) -> bool
     ensures { result ≡ is_given x.now released block }
 {
     block_at(x.address) == block && (!is_release(x.opcode) || !released)
 }
 
-/// Whether the unfinished message on channel C, which has these control fields if there is one, is a report of this block
-/// that has no answer yet.
+/// Whether the unfinished message on channel C, which has these control fields if there is one, is a report of this
+/// block that has no answer yet.
 pub(crate) fn is_giving(messages: &LinkMessages, report: Option<ControlC>, block: u32) -> bool
     ensures { (w : ℕ) (t : History w) → KnowsMessages messages.now t →
         report ≡ report_of (unfinished channel.C t) → result ≡ Copies.is_giving block t }

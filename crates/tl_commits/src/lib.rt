@@ -1,5 +1,4 @@
-//! Stores and loads of the caches on a manager's links, in the order in which they and the beats were seen: their lines,
-//! and the rules M5 to M7, which judge them.
+//! Stores and loads of the cores on a manager's links, in one trace with the beats: their lines, and the rules M5 to M7.
 #![tactic(auto)]
 
 pub mod commit;

@@ -164,7 +164,8 @@ fn whole_line(line: &[u8]) -> Result<(Link, Commit), LineFault>
 }
 
 /// Reads a line of text, with its line feed, as a link and a commit. The error for a line that spells no commit is its
-/// first fault. It takes any bytes and allocates no memory. A line of more than 256 bytes is refused by its length alone.
+/// first fault. It takes any bytes and allocates no memory. A line of more than 256 bytes is refused by its length
+/// alone.
 pub fn read_commit(line: &[u8]) -> Result<(Link, Commit), LineFault>
     // What is read is spelled by the line, whatever the line spells is read, and the fault of a line that spells none
     // is the first of the table.

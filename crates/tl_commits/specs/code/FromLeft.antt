@@ -1,5 +1,5 @@
 -- A commit's line read from left to right, as the code goes; only private clauses cite this.
-use Rattle.std.specs.Prelude.{ℕ, ◌-◌, not, ◌||◌, ◌==◌, List, length, take, drop, Option, Some, None, Result, Ok, Err}
+use Rattle.std.specs.Prelude.{ℕ, ◌-◌, not, ◌||◌, ◌==◌, List, length, take, drop, Option, Some, None, Result, Err}
 use Rattle.std.specs.Prelude.{nat_lt, if◌then◌else◌}
 use Rattle.std.specs.List.{after_first}
 use Rattle.std.specs.Io.BufRead.{ends_with_byte}

@@ -1,5 +1,5 @@
 -- The first rule that an event of a trace with commits breaks.
-use Rattle.std.specs.Prelude.{ℕ, Bool, true, false, not, [], ◌∷◌, if◌then◌else◌, List, length, Option, Some, None, slice_get}
+use Rattle.std.specs.Prelude.{ℕ, Bool, false, [], ◌∷◌, if◌then◌else◌, List, length, Option, Some, None, slice_get}
 use Rattle.tl_beat.specs.declared.beat.Beat.{Beat}
 use Rattle.tl_beat.specs.declared.beat.Beat.TheVariants as beat
 use Rattle.tl_beat.specs.declared.beat.BeatD.{BeatD}
@@ -20,7 +20,6 @@ use Rattle.tl_commits.specs.declared.rule.CommitBreach.{CommitBreach}
 use Rattle.tl_commits.specs.declared.rule.CommitBreach.TheVariants.{OfBeats, OfCommits}
 use Rattle.tl_commits.specs.declared.rule.CommitRule.{CommitRule}
 use Rattle.tl_commits.specs.statement.Commits.{broken_commit, broken_report}
-use Rattle.tl_commits.specs.statement.Copies.{link_beats}
 use Rattle.tl_commits.specs.statement.Events.{Events, beats_of}
 use Rattle.tl_commits.specs.statement.True.{is_true_seen}
 

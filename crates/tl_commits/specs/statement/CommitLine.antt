@@ -1,6 +1,6 @@
 -- The one line of text that spells a commit, and the fault of a line that spells none.
-use Rattle.std.specs.Prelude.{◌≡◌, ◌<◌, ◌≤◌, ℕ, ◌*◌, ◌^◌, Bool, true, false, not, ◌&&◌, ◌||◌, ◌==◌, List, [], ◌∷◌, ◌++◌}
-use Rattle.std.specs.Prelude.{length, Option, Some, None, nat_le, nat_lt, if◌then◌else◌, ⊤}
+use Rattle.std.specs.Prelude.{◌≡◌, ◌<◌, ◌≤◌, ℕ, ◌*◌, ◌^◌, Bool, true, not, ◌&&◌, ◌||◌, ◌==◌, List, [], ◌∷◌, ◌++◌}
+use Rattle.std.specs.Prelude.{length, Option, Some, None, nat_le, nat_lt, if◌then◌else◌}
 use Rattle.std.specs.Io.BufRead.{ends_with_byte}
 use Rattle.tl_beat.specs.declared.beat.Link.{Link}
 use Rattle.tl_beat.specs.declared.fault.LineFault.{LineFault}
@@ -28,7 +28,8 @@ commit_fields link (commit.Store piece value) =
 commit_fields link (commit.Load piece value) =
     digits 2 link.0 ∷ (76 ∷ []) ∷ digits 1 piece.size ∷ digits 8 piece.address
     ∷ digits (value_digits piece.size) value ∷ []
-commit_fields link (commit.Begin piece) = digits 2 link.0 ∷ (73 ∷ []) ∷ digits 1 piece.size ∷ digits 8 piece.address ∷ []
+commit_fields link (commit.Begin piece) = digits 2 link.0 ∷ (73 ∷ []) ∷ digits 1 piece.size ∷ digits 8
+    piece.address ∷ []
 
 -- the line of a commit: its fields, and a line feed
 abbrev pub commit_line : Link → Commit → List ℕ
@@ -90,7 +91,8 @@ letter_fault (Some letter) fields =
 
 -- the first fault of a line with these fields
 abbrev pub commit_fields_fault : List (List ℕ) → Option LineFault
-commit_fields_fault fields = first_if (nat_lt (length fields) 2) F1 (letter_fault (letter_named (field fields 1)) fields)
+commit_fields_fault fields =
+    first_if (nat_lt (length fields) 2) F1 (letter_fault (letter_named (field fields 1)) fields)
 
 -- the first fault of a line; None if it spells a commit
 abbrev pub commit_fault : List ℕ → Option LineFault

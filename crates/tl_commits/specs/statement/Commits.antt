@@ -1,5 +1,5 @@
--- The rules M5 to M7: commits that a cache can't have made, and reports that lose or change what was stored.
-use Rattle.std.specs.Prelude.{ℕ, Bool, true, false, not, ◌∷◌, ◌==◌, ◌&&◌, ◌||◌, ◌+◌, ◌*◌, ◌^◌, if◌then◌else◌, List, find}
+-- The rules M5 to M7: commits that a cache can't have made, and reports that lose or change stored bytes.
+use Rattle.std.specs.Prelude.{ℕ, Bool, true, not, ◌&&◌, ◌||◌, ◌+◌, ◌*◌, ◌^◌, if◌then◌else◌, List, find}
 use Rattle.std.specs.Prelude.{length, Option, Some, None, is_some}
 use Rattle.tl_beat.specs.declared.beat.Beat.{Beat}
 use Rattle.tl_beat.specs.declared.beat.Beat.TheVariants as beat
@@ -41,9 +41,10 @@ is_loadable link address e = may_load address (link_beats link e)
 abbrev pub may_have : {w : ℕ} → List Bool → ℕ → ℕ → ℕ → ℕ → Events w → Bool
 may_have complete n link address v e =
     holds (block_at address) (link_beats link e)
-    && (not (is_known complete link (block_at address) (link_beats link e)) || told_as v (values_seen complete n address e))
+    && (not (is_known complete link (block_at address) (link_beats link e)) || told_as v
+    (values_seen complete n address e))
 
--- a load may bring the byte v, given what a Grant under way has brought
+-- a load may bring the byte v, given the byte that a Grant under way has brought
 abbrev pub brings : {w : ℕ} → Option (Option ℕ) → List Bool → ℕ → ℕ → ℕ → ℕ → Events w → Bool
 brings None complete n link address v e = may_have complete n link address v e
 brings (Some value) complete n link address v e = could_be v value
@@ -84,18 +85,18 @@ agree (Some u) v = could_be u v
 abbrev pub have_common : List Telling → List Telling → Bool
 have_common these those = is_some (find (λ x. is_some (find (λ y. agree x.value y.value) those)) these)
 
--- the byte at an address may be what memory has, if it was stored
+-- the byte at an address may have a value that memory may have, if it was stored
 abbrev pub is_kept : {w : ℕ} → List Bool → ℕ → ℕ → Events w → Bool
 is_kept complete n address e =
     not (seen complete n address e).stored
     || have_common (values_seen complete n address e) (memory_may n address (beats_of e))
 
--- each byte of the block that was stored may be what memory has
+-- so may each byte of the block that was stored
 abbrev pub is_clean : {w : ℕ} → List Bool → ℕ → ℕ → Events w → Bool
 is_clean complete n block e = each_below 64 (λ place. is_kept complete n (64 * block + place) e)
 
--- the bytes of a beat of a report are possible; those of a report that is answered aren't judged, nor where the trace
--- doesn't have all stores of the link
+-- the bytes of a beat of a report are possible; those of a report that is answered aren't judged, nor
+-- those of a link of which the trace doesn't have all stores
 abbrev pub gives_truly : {w : ℕ} → List Bool → ℕ → ℕ → BeatC w → Events w → Bool
 gives_truly {w} complete n link x e =
     not (is_complete complete link)
@@ -121,7 +122,7 @@ abbrev pub keeps_stores : {w : ℕ} → List Bool → ℕ → ℕ → Option ℕ
 keeps_stores complete n link None e = true
 keeps_stores complete n link (Some block) e = not (is_complete complete link) || is_clean complete n block e
 
--- the beat gives back what the copy may have
+-- the beat gives back bytes that the copy may have
 abbrev pub gives_back : {w : ℕ} → List Bool → ℕ → ℕ → Beat w → Events w → Bool
 gives_back complete n link (beat.C x) e =
     if c_carries_data x.opcode then gives_truly complete n link x e else

@@ -1,12 +1,11 @@
--- What a link holds of a block, what a Grant under way has brought, and what is being given back.
-use Rattle.std.specs.Prelude.{ℕ, Bool, true, false, not, ◌∷◌, ◌==◌, ◌&&◌, ◌||◌, ◌/◌, ◌%◌, if◌then◌else◌, List, length}
+-- The permission that a link holds of a block, the bytes that a Grant under way has brought, and reports under way.
+use Rattle.std.specs.Prelude.{ℕ, Bool, false, not, ◌∷◌, ◌==◌, ◌&&◌, ◌||◌, ◌/◌, ◌%◌, if◌then◌else◌, List, length}
 use Rattle.std.specs.Prelude.{nat_lt, Option, Some, None, is_some, slice_index_or}
 use Rattle.tl_beat.specs.declared.beat.Beat.{Beat}
 use Rattle.tl_beat.specs.declared.beat.Beat.TheVariants as beat
 use Rattle.tl_beat.specs.declared.channel.Channel.TheVariants as channel
 use Rattle.tl_burst.specs.statement.Messages.{History, unfinished}
 use Rattle.tl_params.specs.declared.key.Key.TheVariants.{ReleaseOf}
-use Rattle.tl_params.specs.declared.perm.Perm.{Perm}
 use Rattle.tl_params.specs.declared.perm.Perm.TheVariants as perm
 use Rattle.tl_rules.specs.statement.Conformance.{on_link, same_perm}
 use Rattle.tl_rules.specs.statement.History.{block_at, grants, is_release, pending}
@@ -39,7 +38,8 @@ is_filled_by block _ past = false
 abbrev pub is_filling : {w : ℕ} → ℕ → History w → Bool
 is_filling block past = is_filled_by block (unfinished channel.D past) past
 
--- the byte at an address that the beats of an unfinished GrantData of its block have brought; none if its beat is to come
+-- the byte at an address that the beats of an unfinished GrantData of its block have brought; none if its beat is to
+-- come
 abbrev pub brought : {w : ℕ} → ℕ → History w → Option (Option ℕ)
 brought {w} address past =
     if is_filling (block_at address) past && nat_lt (address % 64 / w) (length (unfinished channel.D past))

@@ -1,8 +1,7 @@
 -- Traces with the commits of cores: the beats of all links of a manager, and the stores and loads, in one order.
-use Rattle.std.specs.Prelude.{ℕ, Bool, true, false, not, [], ◌∷◌, ◌==◌, ◌&&◌, ◌||◌, List}
+use Rattle.std.specs.Prelude.{ℕ, Bool, false, not, [], ◌∷◌, ◌==◌, ◌&&◌, ◌||◌, List}
 use Rattle.tl_beat.specs.declared.beat.Link.{Link}
 use Rattle.tl_rules.specs.statement.Conformance.{Trace}
-use Rattle.tl_commits.specs.declared.commit.Commit.{Commit}
 use Rattle.tl_commits.specs.declared.commit.Commit.TheVariants as commit
 use Rattle.tl_commits.specs.declared.commit.Event.{Event}
 use Rattle.tl_commits.specs.declared.commit.Event.TheVariants as event

@@ -1,5 +1,6 @@
--- The possible values of the bytes of memory and of the copies, by the beats of all links and the commits of their cores.
-use Rattle.std.specs.Prelude.{ℕ, Bool, true, false, not, [], ◌∷◌, ◌==◌, ◌&&◌, ◌||◌, ◌-◌, ◌%◌, if◌then◌else◌, List, length}
+-- The possible values of the bytes of memory and of the copies, by the beats of all links and the commits of their
+-- cores.
+use Rattle.std.specs.Prelude.{ℕ, Bool, true, false, not, [], ◌∷◌, ◌==◌, ◌&&◌, ◌-◌, ◌%◌, if◌then◌else◌, List, length}
 use Rattle.std.specs.Prelude.{Option, Some, None, is_some}
 use Rattle.tl_beat.specs.declared.beat.Beat.{Beat}
 use Rattle.tl_beat.specs.declared.beat.Beat.TheVariants as beat
@@ -34,7 +35,11 @@ grants_unread _ past = false
 
 -- the byte that a message says with this beat
 abbrev pub told_by : {w : ℕ} → ℕ → Beat w → History w → ℕ → List Telling
-told_by address x past moment = record { value = carried_byte (telling_beats x past) (address % 64); moment = moment } ∷ []
+told_by address x past moment = record {
+  value = carried_byte (telling_beats x past) (address % 64);
+  moment =
+      moment;
+} ∷ []
 
 -- The values that memory may have at an address if no copy is given back: as `may_be` of `tl_bytes`, but a Grant that
 -- answers an AcquirePerm changes nothing there.
@@ -102,8 +107,8 @@ abbrev pub is_plain_ack : OpC → Bool
 is_plain_ack c.ProbeAck = true
 is_plain_ack _ = false
 
--- The beat answers a ProbePerm of the block and takes Trunk away: what was stored to the copy is lost, as the manager
--- wants it.
+-- The beat answers a ProbePerm of the block and takes Trunk away: the bytes that were stored to the copy are lost, as
+-- the manager wants it.
 abbrev pub loses_stores : {w : ℕ} → ℕ → Beat w → History w → Bool
 loses_stores block (beat.C x) past =
     (is_plain_ack x.opcode && (block_at x.address == block))
@@ -111,7 +116,8 @@ loses_stores block (beat.C x) past =
     && (holds_trunk block past && not (same_perm (reported x.param) perm.Trunk)))
 loses_stores block _ past = false
 
--- A byte with one more beat. A message sets it, or stores are lost and it is what memory has, or the answer to an access
+-- A byte with one more beat. A message sets it, or stores are lost and it has the value of memory, or the answer to an
+-- access
 -- changes it as `may_be` of `tl_bytes` does.
 abbrev pub after_seen_beat : {w : ℕ} → ℕ → ℕ → Link × Beat w → Events w → Seen → Seen
 after_seen_beat n address x e before =

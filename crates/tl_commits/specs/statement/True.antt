@@ -1,7 +1,6 @@
--- The bytes that a Grant and a read may bring, by beats and commits: M2 and M3 with what the cores stored and loaded.
+-- The bytes that a Grant and a read may bring, by beats and commits: M2 and M3 with the stores and loads of cores.
 use Rattle.std.specs.Prelude.{ℕ, zero, suc, Bool, true, false, not, [], ◌∷◌, ◌==◌, ◌&&◌, ◌||◌, ◌+◌, ◌*◌, ◌/◌, List}
 use Rattle.std.specs.Prelude.{if◌then◌else◌, length, filter, find, nat_lt, nat_le, Option, Some, None}
-use Rattle.tl_beat.specs.declared.beat.Beat.{Beat}
 use Rattle.tl_beat.specs.declared.beat.Beat.TheVariants as beat
 use Rattle.tl_beat.specs.declared.beat.BeatD.{BeatD}
 use Rattle.tl_beat.specs.declared.beat.Link.{Link}
@@ -15,7 +14,8 @@ use Rattle.tl_rules.specs.declared.past.Request.{Request}
 use Rattle.tl_rules.specs.statement.Admission.{is_spoiled, lanes_of}
 use Rattle.tl_rules.specs.statement.History.{block_at}
 use Rattle.tl_rules.specs.statement.Windows.{needs}
-use Rattle.tl_bytes.specs.statement.Bytes.{Access, each_from, is_get, is_of, may_write, others, pending_accesses, told_as}
+use Rattle.tl_bytes.specs.statement.Bytes.{Access, each_from, is_get, is_of, may_write}
+use Rattle.tl_bytes.specs.statement.Bytes.{others, pending_accesses, told_as}
 use Rattle.tl_bytes.specs.statement.Bytes.{windows_since}
 use Rattle.tl_bytes.specs.statement.Early.{is_overtaken, outrun_accesses}
 use Rattle.tl_bytes.specs.statement.Shown.{is_window}

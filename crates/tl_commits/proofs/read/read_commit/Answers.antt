@@ -14,4 +14,5 @@ returns-clause-every_spelling c = λ link x s.
     c.whole_line.ensures ∙ line_at-is c.args.line.now ∙ reading-spelled c.args.line.now link x s
 
 pub returns-clause-fault : goal.returns-clause-fault
-returns-clause-fault c = ap result_err (c.whole_line.ensures ∙ line_at-is c.args.line.now) ∙ reading-fault c.args.line.now
+returns-clause-fault c = ap result_err (c.whole_line.ensures ∙ line_at-is c.args.line.now) ∙ reading-fault
+    c.args.line.now

@@ -2,7 +2,7 @@
 use Rattle.std.proofs.Common.{◌≡◌, refl, [], ◌∷◌, ◌++◌}
 use Rattle.std.specs.Prelude.{Some, None, replicate, true}
 use Rattle.tl_burst.specs.statement.Messages.{unfinished}
-use Rattle.tl_bytes.proofs.WorkedBeats.{acquire, grant_beat, release_beat, wide}
+use Rattle.tl_bytes.proofs.WorkedBeats.{acquire, four, grant_beat, release_ack, release_beat, wide}
 use Rattle.tl_bytes.specs.statement.Bytes.{carried_byte, each_from, last_told, last_window, pending_accesses}
 use Rattle.tl_bytes.specs.statement.Bytes.{window_began, windows_since}
 use Rattle.tl_bytes.specs.statement.Early.{outrun_accesses, reported_since}
@@ -386,6 +386,28 @@ unfolding commit_breach_from seen memory_may beats_of is_loading since_begun may
     outrun_accesses reported_since illegal_under each_below broken_order_under broken_after_under pending_accesses
     each_from carried_byte windows_since window_began last_window last_told
 lost_unread = refl
+
+-- but for a block whose bytes were known
+lost_unread_known : first_commit_breach {w = 16} two_caches all_told no_liberties
+    (writer (beats (four (release_beat 0 1 (wide 5)) ++ release_ack 0 1 ∷ []) ++ unread
+    (stores 0 0 3 9 ∷ gives_up probe_block))) ≡ Some (16, OfCommits M7)
+unfolding commit_breach_from seen memory_may beats_of is_loading since_begun may_read_seen before_last_seen is_free
+    is_grantable
+    had_window on_link unfinished request_of release_of probe_of grant_sink pending held_under all_liberties
+    outrun_accesses reported_since illegal_under each_below broken_order_under broken_after_under pending_accesses
+    each_from carried_byte windows_since window_began last_window last_told
+lost_unread_known = refl
+
+-- which are stored again
+kept_unread : first_commit_breach {w = 16} two_caches all_told no_liberties
+    (writer (beats (four (release_beat 0 1 (wide 5)) ++ release_ack 0 1 ∷ []) ++ unread
+    (stores 0 0 3 5 ∷ gives_up probe_block))) ≡ None
+unfolding commit_breach_from seen memory_may beats_of is_loading since_begun may_read_seen before_last_seen is_free
+    is_grantable
+    had_window on_link unfinished request_of release_of probe_of grant_sink pending held_under all_liberties
+    outrun_accesses reported_since illegal_under each_below broken_order_under broken_after_under pending_accesses
+    each_from carried_byte windows_since window_began last_window last_told
+kept_unread = refl
 
 -- ---- copies that are dropped without a word
 

@@ -1,3 +1,4 @@
 pub mod CommitReading
 pub mod FromLeft
 pub mod Giving
+pub mod Loading

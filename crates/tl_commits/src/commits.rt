@@ -37,7 +37,7 @@ pub fn may_store<const W: usize>(judge: &Judge<W>, link: Link, block: u32) -> bo
 }
 
 /// M5, unless the cache holds the copy that it needs.
-fn unless(holds: bool) -> Option<CommitRule>
+pub(crate) fn unless(holds: bool) -> Option<CommitRule>
     ensures { result ≡ (if holds then None else Some M5) }
 {
     if holds { None } else { Some(CommitRule::M5) }
@@ -77,7 +77,7 @@ pub fn is_piece_loadable<const W: usize>(judge: &Judge<W>, link: Link, piece: Pi
     requires piece { IsPiece piece }
     ensures { (levels : List Level) (l : Liberties) (e : Events W) → Knows judge.now levels l (beats_of e) false →
         link.0 < length levels →
-        result ≡ Commits.each_byte piece (λ address. Commits.is_loadable link.0 address e) }
+        result ≡ Commits.is_piece_loadable link.0 piece e }
 {
     let count = 1u32 << piece.size;
     let mut all = true;
@@ -86,19 +86,4 @@ pub fn is_piece_loadable<const W: usize>(judge: &Judge<W>, link: Link, piece: Pi
         all = both(loadable, all);
     }
     all
-}
-
-/// M5, if a load of a piece breaks it, and didn't begin before it is in the trace.
-pub fn lacking_copy<const W: usize>(
-    judge: &Judge<W>,
-    link: Link,
-    piece: Piece,
-) -> Option<CommitRule>
-    requires width { IsWidth W }
-    requires piece { IsPiece piece }
-    ensures { (levels : List Level) (l : Liberties) (e : Events W) → Knows judge.now levels l (beats_of e) false →
-        link.0 < length levels → is_loading link.0 piece e ≡ false →
-        result ≡ (if Commits.lacks_copy link.0 piece e then Some M5 else None) }
-{
-    unless(is_piece_loadable(judge, link, piece))
 }

@@ -5,5 +5,6 @@ pub mod commit;
 pub mod commits;
 mod copies;
 pub mod law;
+mod loading;
 pub mod read;
 pub mod rule;

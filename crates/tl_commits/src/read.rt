@@ -28,10 +28,12 @@ fn piece(size: u8, address: u32) -> Result<Piece, LineFault>
     ensures gives { result ≡ piece_of size address }
     ensures small { IfOk result (λ piece. size ≤ 3) }
 {
-    if size > 3 || address % (1u32 << size) != 0 {
-        return Err(LineFault::F3);
+    let piece = Piece { size, address };
+    if piece.is_valid() {
+        Ok(piece)
+    } else {
+        Err(LineFault::F3)
     }
-    Ok(Piece { size, address })
 }
 
 /// The number of two halves of eight digits each.

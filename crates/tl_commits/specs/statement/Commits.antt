@@ -57,11 +57,15 @@ may_bring complete n link address v e = brings (brought address (link_beats link
 abbrev pub broken_store : {w : ℕ} → ℕ → Piece → Events w → Option CommitRule
 broken_store link piece e = if may_store (block_at piece.address) (link_beats link e) then None else Some M5
 
--- a byte of the piece could be loaded at no moment of the load
-abbrev pub lacks_copy : {w : ℕ} → ℕ → Piece → Events w → Bool
-lacks_copy link piece e = not (each_byte piece (λ address. at_some (is_loadable link address) link piece e))
+-- a core may load each byte of the piece now
+abbrev pub is_piece_loadable : {w : ℕ} → ℕ → Piece → Events w → Bool
+is_piece_loadable link piece e = each_byte piece (λ address. is_loadable link address e)
 
--- the rule that a load breaks: at no moment could a byte be loaded, or at no moment could it be this byte
+-- at no moment of the load could the piece be loaded
+abbrev pub lacks_copy : {w : ℕ} → ℕ → Piece → Events w → Bool
+lacks_copy link piece e = not (at_some (is_piece_loadable link piece) link piece e)
+
+-- the rule that a load breaks: at no moment could the piece be loaded, or a byte of it could at no moment be this one
 abbrev pub broken_load : {w : ℕ} → List Bool → ℕ → ℕ → Piece → ℕ → Events w → Option CommitRule
 broken_load complete n link piece value e =
     if lacks_copy link piece e then Some M5 else

@@ -9,3 +9,4 @@ pub mod JudgedAlone
 pub mod Filling
 pub mod Giving
 pub mod AtOnce
+pub mod Loads

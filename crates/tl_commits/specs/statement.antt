@@ -4,5 +4,6 @@ pub mod CommitLine
 pub mod Commits
 pub mod Copies
 pub mod Events
+pub mod Knows
 pub mod Seen
 pub mod True

@@ -5,6 +5,8 @@ pub mod commit;
 pub mod commits;
 mod copies;
 pub mod law;
+pub mod fault;
+pub mod judge;
 mod loading;
 pub mod read;
 pub mod rule;

@@ -114,6 +114,24 @@ fn is_possible<const W: usize>(judge: &Judge<W>, loading: Loading) -> bool
     false
 }
 
+/// Whether a load of this piece on this link is possible now, or was at a moment since it began.
+pub(crate) fn could_load<const W: usize>(
+    judge: &Judge<W>,
+    loads: &[Loading],
+    link: Link,
+    piece: Piece,
+) -> bool
+    requires { IsWidth W }
+    ensures { code.CouldLoad judge.now loads.now link piece result }
+{
+    let now = Loading {
+        link,
+        piece,
+        loadable: false,
+    };
+    either(is_possible(judge, now), was_loadable(loads, link, piece))
+}
+
 /// The load after one more event: it may be possible now.
 fn renewed<const W: usize>(judge: &Judge<W>, loading: Loading) -> Loading
     requires { IsWidth W }

@@ -72,3 +72,9 @@ restarted link piece x =
 abbrev pub IsBegun : Link → Piece → Option Loading → List Loading → List Loading → Type 0
 IsBegun link piece None old new = new ≡ old ++ begun link piece ∷ []
 IsBegun link piece (Some loading) old new = AllZip (λ x y. y ≡ restarted link.0 piece x) old new
+
+-- whether a load is possible now, or was at a moment since it began
+abbrev pub CouldLoad : {w : ℕ} → Judge w → List Loading → Link → Piece → Bool → Type 0
+CouldLoad {w} judge loads link piece now = (levels : List Level) (l : Liberties) (e : Events w)
+    → Knows judge levels l (beats_of e) false → link.0 < length levels → IsPiece piece
+    → now ≡ (is_piece_loadable link.0 piece e || was_loadable (find (is_of link.0 piece) loads))

@@ -10,3 +10,4 @@ pub mod Filling
 pub mod Giving
 pub mod AtOnce
 pub mod Loads
+pub mod LoadsNext

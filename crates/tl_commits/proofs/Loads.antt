@@ -26,7 +26,7 @@ pub record HasKey (x : Loading) (link : ℕ) (piece : Piece) : Type 0 where
   pub link_is : x.link.0 ≡ link
   pub piece_is : x.piece ≡ piece
 
-same-piece-is : (p q : Piece) → same_piece p q ≡ true → p ≡ q
+pub same-piece-is : (p q : Piece) → same_piece p q ≡ true → p ≡ q
 same-piece-is p q e =
     let both = and_parts (p.size == q.size) (p.address == q.address) e in
     let size : p.size ≡ q.size = eqb-true p.size q.size both.0 in
@@ -39,7 +39,7 @@ same-piece-is p q e =
     made : (s t a b : ℕ) → s ≡ t → a ≡ b → piece_of s a ≡ piece_of t b
     made s t a b e f = rw (e, f) refl
 
-key-of : (x : Loading) (link : ℕ) (piece : Piece) → is_of link piece x ≡ true → HasKey x link piece
+pub key-of : (x : Loading) (link : ℕ) (piece : Piece) → is_of link piece x ≡ true → HasKey x link piece
 key-of x link piece e =
     let both = and_parts (x.link.0 == link) (same_piece x.piece piece) e in
     record { link_is = eqb-true x.link.0 link both.0; piece_is = same-piece-is x.piece piece both.1 }
@@ -49,7 +49,7 @@ abbrev pub HasKeyIfAny : Option Loading → ℕ → Piece → Type 0
 HasKeyIfAny None link piece = ⊤
 HasKeyIfAny (Some x) link piece = HasKey x link piece
 
-found-key : (link : ℕ) (piece : Piece) (loads : List Loading) → HasKeyIfAny (find (is_of link piece) loads) link piece
+pub found-key : (link : ℕ) (piece : Piece) (loads : List Loading) → HasKeyIfAny (find (is_of link piece) loads) link piece
 found-key link piece [] = tt
 found-key link piece (x ∷ loads) = go (is_of link piece x) (found-key link piece loads) refl
   where
@@ -86,7 +86,7 @@ module _ {w : ℕ} (link : ℕ) (piece : Piece) (x : Link × Event w) (e : Event
 -- ---- all loads
 
 -- what is found among changed loads that keep their keys
-found-map : (change : Loading → Loading) (link : ℕ) (piece : Piece) → ((x : Loading) → is_of link piece (change x) ≡ is_of link piece x)
+pub found-map : (change : Loading → Loading) (link : ℕ) (piece : Piece) → ((x : Loading) → is_of link piece (change x) ≡ is_of link piece x)
     → (loads : List Loading)
     → find (is_of link piece) (map change loads) ≡ option_map change (find (is_of link piece) loads)
 found-map change link piece same [] = refl
@@ -99,7 +99,7 @@ found-map change link piece same (x ∷ loads) =
     go false e = e
 
 -- each load is renewed
-all-renewed : {w : ℕ} (judge : Judge w) (levels : List Level) (l : Liberties) (e : Events w) (old new : List Loading)
+pub all-renewed : {w : ℕ} (judge : Judge w) (levels : List Level) (l : Liberties) (e : Events w) (old new : List Loading)
     → AreRenewed judge old new → Knows judge levels l (beats_of e) false → ArePieces (length levels) old
     → new ≡ map (renewed e) old
 all-renewed judge levels l e [] [] are k pieces = refl
@@ -109,7 +109,7 @@ all-renewed judge levels l e [] (y ∷ new) are k pieces = absurd are
 all-renewed judge levels l e (x ∷ old) [] are k pieces = absurd are
 
 -- they stay loads of pieces
-pieces-map : (n : ℕ) (change : Loading → Loading) → ((x : Loading) → (change x).link ≡ x.link)
+pub pieces-map : (n : ℕ) (change : Loading → Loading) → ((x : Loading) → (change x).link ≡ x.link)
     → ((x : Loading) → (change x).piece ≡ x.piece) → (loads : List Loading) → ArePieces n loads
     → ArePieces n (map change loads)
 pieces-map n change links pieces [] are = tt
@@ -118,7 +118,7 @@ pieces-map n change links pieces (x ∷ loads) are = (
   pieces-map n change links pieces loads are.1,
 )
 
-pieces-filter : (n : ℕ) (keep : Loading → Bool) (loads : List Loading) → ArePieces n loads
+pub pieces-filter : (n : ℕ) (keep : Loading → Bool) (loads : List Loading) → ArePieces n loads
     → ArePieces n (filter keep loads)
 pieces-filter n keep [] are = tt
 pieces-filter n keep (x ∷ loads) are = go (keep x) (pieces-filter n keep loads are.1)
@@ -127,18 +127,18 @@ pieces-filter n keep (x ∷ loads) are = go (keep x) (pieces-filter n keep loads
     go true rest = (are.0, rest)
     go false rest = rest
 
-pieces-more : (n : ℕ) (x : Loading) (loads : List Loading) → (x.link.0 < n) × IsPiece x.piece → ArePieces n loads
+pub pieces-more : (n : ℕ) (x : Loading) (loads : List Loading) → (x.link.0 < n) × IsPiece x.piece → ArePieces n loads
     → ArePieces n (loads ++ x ∷ [])
 pieces-more n x [] is are = (is, tt)
 pieces-more n x (y ∷ loads) is are = (are.0, pieces-more n x loads is are.1)
 
 -- ---- keys that differ
 
-same-self : (link : ℕ) (piece : Piece) → ((link == link) && same_piece piece piece) ≡ true
+pub same-self : (link : ℕ) (piece : Piece) → ((link == link) && same_piece piece piece) ≡ true
 same-self link piece =
     rw (eq-eqb link link refl, eq-eqb piece.size piece.size refl, eq-eqb piece.address piece.address refl) refl
 
-other-key : (from link : ℕ) (own piece : Piece) → ((from == link) && same_piece own piece) ≡ false → (y : Loading)
+pub other-key : (from link : ℕ) (own piece : Piece) → ((from == link) && same_piece own piece) ≡ false → (y : Loading)
     → is_of link piece y ≡ true → is_of from own y ≡ false
 other-key from link own piece apart y on = elim (cases_Bool (is_of from own y)) [
   | inl both ↦ absurd
@@ -153,7 +153,7 @@ other-key from link own piece apart y on = elim (cases_Bool (is_of from own y)) 
 
 module _ (p q : Loading → Bool) where
   -- what another test leaves out
-  find-kept : ((y : Loading) → p y ≡ true → q y ≡ false) → (loads : List Loading)
+  pub find-kept : ((y : Loading) → p y ≡ true → q y ≡ false) → (loads : List Loading)
       → find p (filter (λ y. not (q y)) loads) ≡ find p loads
   find-kept apart [] = refl
   find-kept apart (y ∷ loads) = elim (cases_Bool (p y)) [
@@ -168,7 +168,7 @@ module _ (p q : Loading → Bool) where
       go false rest off = rw off rest
 
 -- none is found of those that a test leaves out
-find-gone : (p : Loading → Bool) (loads : List Loading) → find p (filter (λ y. not (p y)) loads) ≡ None
+pub find-gone : (p : Loading → Bool) (loads : List Loading) → find p (filter (λ y. not (p y)) loads) ≡ None
 find-gone p [] = refl
 find-gone p (y ∷ loads) = go (p y) refl (find-gone p loads)
   where
@@ -178,12 +178,12 @@ find-gone p (y ∷ loads) = go (p y) refl (find-gone p loads)
     go false off rest = rw off rest
 
 -- one more at the end
-find-more : (p : Loading → Bool) (x : Loading) (loads : List Loading) → p x ≡ false
+pub find-more : (p : Loading → Bool) (x : Loading) (loads : List Loading) → p x ≡ false
     → find p (loads ++ x ∷ []) ≡ find p loads
 find-more p x [] off = rw off refl
 find-more p x (y ∷ loads) off = ap (λ (o : Option Loading). if p y then Some y else o) (find-more p x loads off)
 
-find-last : (p : Loading → Bool) (x : Loading) (loads : List Loading) → p x ≡ true → find p loads ≡ None
+pub find-last : (p : Loading → Bool) (x : Loading) (loads : List Loading) → p x ≡ true → find p loads ≡ None
     → find p (loads ++ x ∷ []) ≡ Some x
 find-last p x [] on none = rw on refl
 find-last p x (y ∷ loads) on none = go (p y) (find-last p x loads on) none

@@ -11,3 +11,4 @@ pub mod Giving
 pub mod AtOnce
 pub mod Loads
 pub mod LoadsNext
+pub mod CopiesJudged

@@ -74,7 +74,7 @@ loads-load {w} n from own value e old mid new k mid_is new_is = record {
     ]
 
 -- each load begins again that has this key
-all-restarted : (from : ℕ) (own : Piece) (old new : List Loading) → AllZip (λ a b. b ≡ restarted from own a) old new
+pub all-restarted : (from : ℕ) (own : Piece) (old new : List Loading) → AllZip (λ a b. b ≡ restarted from own a) old new
     → new ≡ map (restarted from own) old
 all-restarted from own [] [] are = refl
 all-restarted from own (a ∷ old) (b ∷ new) are = rw (are.0, all-restarted from own old new are.1) refl
@@ -90,14 +90,14 @@ restarted-key from own link piece y = go (is_of from own y)
     go true = refl
     go false = refl
 
-restarted-link : (from : ℕ) (own : Piece) (y : Loading) → (restarted from own y).link ≡ y.link
+pub restarted-link : (from : ℕ) (own : Piece) (y : Loading) → (restarted from own y).link ≡ y.link
 restarted-link from own y = go (is_of from own y)
   where
     go : (b : Bool) → (if b then record { link = y.link; piece = y.piece; loadable = false } else y).link ≡ y.link
     go true = refl
     go false = refl
 
-restarted-piece : (from : ℕ) (own : Piece) (y : Loading) → (restarted from own y).piece ≡ y.piece
+pub restarted-piece : (from : ℕ) (own : Piece) (y : Loading) → (restarted from own y).piece ≡ y.piece
 restarted-piece from own y = go (is_of from own y)
   where
     go : (b : Bool) → (if b then record { link = y.link; piece = y.piece; loadable = false } else y).piece ≡ y.piece

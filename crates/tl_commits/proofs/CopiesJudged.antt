@@ -1,0 +1,72 @@
+-- The answers of a judge of copies, and the loads that it keeps with them.
+use Rattle.std.proofs.Common.{◌≡◌, ◌<◌, ℕ, Bool, true, false, not, ◌&&◌, ◌||◌, List, [], ◌∷◌, ◌++◌, refl, sym, ap, ◌∙◌, find, filter}
+use Rattle.std.proofs.Common.{map}
+use Rattle.std.specs.Prelude.{if◌then◌else◌, Option, Some, None, Result, Ok, Err, OnOk, is_none, ⊤}
+use Rattle.std.specs.Result.{is_err}
+use Rattle.tl_beat.specs.declared.beat.Link.{Link}
+use Rattle.tl_together.specs.declared.breach.Breach.{Breach}
+use Rattle.tl_together.specs.declared.fault.JudgeFault.{JudgeFault}
+use Rattle.tl_together.specs.declared.fault.JudgeFault.TheVariants as judge
+use Rattle.tl_together.specs.statement.Knows.{broken}
+use Rattle.tl_together.specs.statement.Knows as together
+use Rattle.tl_commits.specs.code.Judging.{of_judge}
+use Rattle.tl_commits.specs.code.Loading.{ArePieces, IsBegun, IsLoading, begun, is_of, was_loadable}
+use Rattle.tl_commits.specs.declared.commit.Piece.{Piece}
+use Rattle.tl_commits.specs.declared.loading.Loading.{Loading}
+use Rattle.tl_commits.specs.declared.rule.CommitRule.{CommitRule}
+use Rattle.tl_commits.specs.declared.rule.CommitRule.TheVariants.{M5}
+use Rattle.tl_commits.specs.statement.Breaches.{breach_of}
+use Rattle.tl_commits.specs.statement.CommitLine.{IsPiece}
+use Rattle.tl_commits.specs.statement.Commits.{is_piece_loadable, lacks_copy}
+use Rattle.tl_commits.specs.statement.Events.{Events, is_loading, since_begun}
+use Rattle.tl_commits.specs.statement.Knows.{Answers}
+use Rattle.tl_commits.proofs.AtOnce.{other-way}
+use Rattle.tl_commits.proofs.Loads.{pieces-map, pieces-more}
+use Rattle.tl_commits.proofs.LoadsNext.{all-restarted, restarted-link, restarted-piece}
+use Rattle.tl_commits.specs.code.Loading.{restarted}
+
+pub none-is : {X : Type 0} (o : Option X) → is_none o ≡ true → o ≡ None
+none-is None e = refl
+none-is (Some x) e = absurd cc
+
+-- a load that has begun could be performed at a moment since
+was-is : {w : ℕ} (o : Option Loading) (link : ℕ) (piece : Piece) (e : Events w) → IsLoading o link piece e
+    → was_loadable o ≡ (is_loading link piece e && since_begun (is_piece_loadable link piece) link piece e)
+was-is None link piece e is = rw is refl
+was-is (Some y) link piece e is = rw is.0 is.1
+
+-- M5 of a load
+pub load-judged : {w : ℕ} (link : ℕ) (piece : Piece) (e : Events w) (loads : List Loading) (could : Bool)
+    (rule : Option CommitRule) → rule ≡ (if could then None else Some M5)
+    → could ≡ (is_piece_loadable link piece e || was_loadable (find (is_of link piece) loads))
+    → IsLoading (find (is_of link piece) loads) link piece e
+    → rule ≡ (if lacks_copy link piece e then Some M5 else None)
+load-judged link piece e loads could rule rule_is could_is is =
+    rule_is ∙ rw (could_is, was-is (find (is_of link piece) loads) link piece e is)
+    (other-way (is_piece_loadable link piece e
+    || (is_loading link piece e && since_begun (is_piece_loadable link piece) link piece e)))
+
+-- the loads with one that begins are loads of pieces
+pub pieces-begun : (n : ℕ) (from : Link) (own : Piece) (o : Option Loading) (old mid : List Loading)
+    → IsBegun from own o old mid → from.0 < n → IsPiece own → ArePieces n old → ArePieces n mid
+pieces-begun n from own None old mid is lt piece are = rw is (pieces-more n (begun from own) old (lt, piece) are)
+pieces-begun n from own (Some y) old mid is lt piece are =
+    rw (all-restarted from.0 own old mid is) (pieces-map n (restarted from.0 own) (restarted-link from.0 own)
+    (restarted-piece from.0 own) old are)
+
+-- ---- beats
+
+pub beat-refused : (o : Option Breach) (f : JudgeFault) → together.Answers (broken o) (Err f)
+    → Answers (breach_of o None) (Err (of_judge f))
+beat-refused None judge.Levels is = absurd cc
+beat-refused (Some breach) judge.Levels is = absurd cc
+beat-refused None (judge.Broken found) is = absurd cc
+beat-refused (Some breach) (judge.Broken found) is =
+    let same : breach ≡ found = cc in
+    rw same refl
+beat-refused o judge.Memory is = tt
+beat-refused o judge.Closed is = tt
+
+pub beat-taken : (o : Option Breach) → broken o ≡ None → breach_of o None ≡ None
+beat-taken None is = refl
+beat-taken (Some breach) is = absurd cc

@@ -1,6 +1,8 @@
 -- The answers of a judge of copies, and the loads that it keeps with them.
 use Rattle.std.proofs.Common.{◌≡◌, ◌<◌, ℕ, Bool, true, false, not, ◌&&◌, ◌||◌, List, [], ◌∷◌, ◌++◌, refl, sym, ap, ◌∙◌, find, filter}
-use Rattle.std.proofs.Common.{map}
+use Rattle.std.proofs.Common.{map, inl, inr, length, slice_get}
+use Rattle.std.proofs.lemmas.Option.{slice_get_cases}
+use Rattle.tl_params.specs.declared.level.Level.{Level}
 use Rattle.std.specs.Prelude.{if◌then◌else◌, Option, Some, None, Result, Ok, Err, OnOk, is_none, ⊤}
 use Rattle.std.specs.Result.{is_err}
 use Rattle.tl_beat.specs.declared.beat.Link.{Link}
@@ -15,7 +17,7 @@ use Rattle.tl_commits.specs.declared.commit.Piece.{Piece}
 use Rattle.tl_commits.specs.declared.loading.Loading.{Loading}
 use Rattle.tl_commits.specs.declared.rule.CommitRule.{CommitRule}
 use Rattle.tl_commits.specs.declared.rule.CommitRule.TheVariants.{M5}
-use Rattle.tl_commits.specs.statement.Breaches.{breach_of}
+use Rattle.tl_commits.specs.statement.Breaches.{breach_of, has_cache}
 use Rattle.tl_commits.specs.statement.CommitLine.{IsPiece}
 use Rattle.tl_commits.specs.statement.Commits.{is_piece_loadable, lacks_copy}
 use Rattle.tl_commits.specs.statement.Events.{Events, is_loading, since_begun}
@@ -70,3 +72,14 @@ beat-refused o judge.Closed is = tt
 pub beat-taken : (o : Option Breach) → broken o ≡ None → breach_of o None ≡ None
 beat-taken None is = refl
 beat-taken (Some breach) is = absurd cc
+
+-- a link that has a cache is one of those that have a level
+pub cache-below : (levels : List Level) (link : ℕ) → has_cache (slice_get levels link) ≡ true → link < length levels
+cache-below levels link e = elim (slice_get_cases levels link).1 [
+  | inl found ↦ found.1
+  | inr past ↦ absurd (no-cache (slice_get levels link) past.1 e)
+]
+  where
+    no-cache : (o : Option Level) → o ≡ None → has_cache o ≡ true → ⊥
+    no-cache None is f = cc
+    no-cache (Some level) is f = cc

@@ -4,9 +4,9 @@
 pub mod commit;
 pub mod commits;
 mod copies;
-pub mod law;
 pub mod fault;
 pub mod judge;
+pub mod law;
 mod loading;
 pub mod read;
 pub mod rule;

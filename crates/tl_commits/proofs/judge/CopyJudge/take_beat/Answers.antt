@@ -4,7 +4,6 @@ use Rattle.tl_beat.specs.declared.beat.Link.{Link}
 use Rattle.tl_commits.specs.declared.commit.Event.{Event}
 use Rattle.tl_commits.specs.declared.commit.Event.TheVariants as event
 use Rattle.tl_commits.specs.statement.Events.{beats_of}
-
 use Rattle.tl_together.specs.statement.Coherence.{broken_together}
 use Rattle.tl_commits.proofs.CopiesJudged.{beat-refused, beat-taken}
 use Rattle.tl_commits.proofs.Loads.{all-renewed}

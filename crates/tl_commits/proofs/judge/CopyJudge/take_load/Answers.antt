@@ -4,7 +4,6 @@ use Rattle.tl_beat.specs.declared.beat.Link.{Link}
 use Rattle.tl_commits.specs.declared.commit.Event.{Event}
 use Rattle.tl_commits.specs.declared.commit.Event.TheVariants as event
 use Rattle.tl_commits.specs.statement.Events.{beats_of}
-
 use Rattle.std.specs.Prelude.{filter, not}
 use Rattle.tl_commits.specs.code.Loading.{is_of}
 use Rattle.tl_commits.proofs.CopiesJudged.{load-judged, none-is}

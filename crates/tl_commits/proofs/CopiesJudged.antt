@@ -1,10 +1,9 @@
 -- The answers of a judge of copies, and the loads that it keeps with them.
-use Rattle.std.proofs.Common.{◌≡◌, ◌<◌, ℕ, Bool, true, false, not, ◌&&◌, ◌||◌, List, [], ◌∷◌, ◌++◌, refl, sym, ap, ◌∙◌, find, filter}
-use Rattle.std.proofs.Common.{map, inl, inr, length, slice_get}
+use Rattle.std.proofs.Common.{◌≡◌, ◌<◌, ℕ, Bool, true, false, ◌&&◌, ◌||◌, List, refl, ◌∙◌, find}
+use Rattle.std.proofs.Common.{inl, inr, length, slice_get}
 use Rattle.std.proofs.lemmas.Option.{slice_get_cases}
 use Rattle.tl_params.specs.declared.level.Level.{Level}
-use Rattle.std.specs.Prelude.{if◌then◌else◌, Option, Some, None, Result, Ok, Err, OnOk, is_none, ⊤}
-use Rattle.std.specs.Result.{is_err}
+use Rattle.std.specs.Prelude.{if◌then◌else◌, Option, Some, None, Err, is_none}
 use Rattle.tl_beat.specs.declared.beat.Link.{Link}
 use Rattle.tl_together.specs.declared.breach.Breach.{Breach}
 use Rattle.tl_together.specs.declared.fault.JudgeFault.{JudgeFault}
@@ -16,12 +15,20 @@ use Rattle.tl_commits.specs.code.Loading.{ArePieces, IsBegun, IsLoading, begun, 
 use Rattle.tl_commits.specs.declared.commit.Piece.{Piece}
 use Rattle.tl_commits.specs.declared.loading.Loading.{Loading}
 use Rattle.tl_commits.specs.declared.rule.CommitRule.{CommitRule}
-use Rattle.tl_commits.specs.declared.rule.CommitRule.TheVariants.{M5}
+use Rattle.tl_commits.specs.declared.rule.CommitRule.TheVariants.{M5, M6}
 use Rattle.tl_commits.specs.statement.Breaches.{breach_of, has_cache}
 use Rattle.tl_commits.specs.statement.CommitLine.{IsPiece}
 use Rattle.tl_commits.specs.statement.Commits.{is_piece_loadable, lacks_copy}
 use Rattle.tl_commits.specs.statement.Events.{Events, is_loading, since_begun}
-use Rattle.tl_commits.specs.statement.Knows.{Answers}
+use Rattle.tl_commits.specs.statement.Knows.{Answers, CopiesFirst, broken_copy, lacking}
+use Rattle.tl_commits.specs.statement.Breaches.{broken_event}
+use Rattle.tl_commits.specs.statement.Commits.{broken_commit}
+use Rattle.tl_commits.specs.declared.commit.Commit.{Commit}
+use Rattle.tl_commits.specs.declared.commit.Commit.TheVariants as commit
+use Rattle.tl_commits.specs.declared.commit.Event.TheVariants as event
+use Rattle.tl_commits.specs.declared.rule.CommitBreach.{CommitBreach}
+use Rattle.tl_commits.specs.declared.rule.CommitBreach.TheVariants.{OfCommits}
+use Rattle.tl_params.specs.declared.liberties.Liberties.{Liberties}
 use Rattle.tl_commits.proofs.AtOnce.{other-way}
 use Rattle.tl_commits.proofs.Loads.{pieces-map, pieces-more}
 use Rattle.tl_commits.proofs.LoadsNext.{all-restarted, restarted-link, restarted-piece}
@@ -83,3 +90,35 @@ cache-below levels link e = elim (slice_get_cases levels link).1 [
     no-cache : (o : Option Level) → o ≡ None → has_cache o ≡ true → ⊥
     no-cache None is f = cc
     no-cache (Some level) is f = cc
+
+-- ---- all rules
+
+pub copies-first : (w : ℕ) → CopiesFirst w
+copies-first w = λ levels complete l link x e. go (has_cache (slice_get levels link.0)) levels complete l link x e refl
+  where
+    load : (lacks wrong : Bool)
+        → ((breach : CommitBreach) → breach_of None (if lacks then Some M5 else None) ≡ Some breach
+        → breach_of None (if lacks then Some M5 else if wrong then Some M6 else None) ≡ Some breach)
+        × (breach_of None (if lacks then Some M5 else if wrong then Some M6 else None) ≡ Some (OfCommits M5)
+        → breach_of None (if lacks then Some M5 else None) ≡ Some (OfCommits M5))
+    load true wrong = (λ breach f. f, λ f. f)
+    load false true = (λ breach f. absurd cc, λ f. absurd cc)
+    load false false = (λ breach f. absurd cc, λ f. absurd cc)
+
+    by : (levels : List Level) (complete : List Bool) (link : Link) (x : Commit) (e : Events w)
+        → ((breach : CommitBreach) → breach_of None (lacking link x e) ≡ Some breach
+        → breach_of None (broken_commit complete (length levels) link.0 x e) ≡ Some breach)
+        × (breach_of None (broken_commit complete (length levels) link.0 x e) ≡ Some (OfCommits M5)
+        → breach_of None (lacking link x e) ≡ Some (OfCommits M5))
+    by levels complete link (commit.Store piece value) e = (λ breach f. f, λ f. f)
+    by levels complete link (commit.Load piece value) e = load (lacks_copy link.0 piece e) _
+    by levels complete link (commit.Begin piece) e = (λ breach f. f, λ f. f)
+
+    go : (b : Bool) (levels : List Level) (complete : List Bool) (l : Liberties) (link : Link) (x : Commit) (e : Events w)
+        → has_cache (slice_get levels link.0) ≡ b
+        → ((breach : CommitBreach) → broken_copy levels l link (event.Commit x) e ≡ Some breach
+        → broken_event levels complete l link (event.Commit x) e ≡ Some breach)
+        × (broken_event levels complete l link (event.Commit x) e ≡ Some (OfCommits M5)
+        → broken_copy levels l link (event.Commit x) e ≡ Some (OfCommits M5))
+    go true levels complete l link x e has = rw has (by levels complete link x e)
+    go false levels complete l link x e none = rw none (λ breach f. f, λ f. absurd cc)

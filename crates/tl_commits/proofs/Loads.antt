@@ -1,22 +1,20 @@
 -- The loads that have begun, after one more event.
-use Rattle.std.proofs.Common.{◌≡◌, ◌<◌, ℕ, Bool, true, false, not, ◌&&◌, ◌||◌, List, [], ◌∷◌, ◌++◌, length, refl, sym, ap, ◌∙◌}
-use Rattle.std.proofs.Common.{subst, map, filter, find}
+use Rattle.std.proofs.Common.{◌≡◌, ◌<◌, ℕ, Bool, true, false, not, ◌&&◌, List, [], ◌∷◌, ◌++◌, length, refl, sym, ap, ◌∙◌}
+use Rattle.std.proofs.Common.{map, filter, find}
 use Rattle.std.proofs.lemmas.Bool.{and_parts, eq-eqb, eqb-true, cases_Bool}
 use Rattle.std.proofs.Common.{inl, inr}
-use Rattle.std.specs.List.{AllZip}
-use Rattle.std.specs.Prelude.{if◌then◌else◌, ◌==◌, Option, Some, None, option_map, is_some, ⊤}
+use Rattle.std.specs.Prelude.{if◌then◌else◌, ◌==◌, Option, Some, None, option_map, ⊤}
 use Rattle.tl_beat.specs.declared.beat.Link.{Link}
 use Rattle.tl_params.specs.declared.level.Level.{Level}
 use Rattle.tl_params.specs.declared.liberties.Liberties.{Liberties}
 use Rattle.tl_together.specs.declared.judge.Judge.{Judge}
 use Rattle.tl_together.specs.statement.Knows.{Knows}
-use Rattle.tl_commits.specs.code.Loading.{ArePieces, AreRenewed, IsBegun, IsLoading, IsRenewed, KnowsLoads, begun, is_of}
-use Rattle.tl_commits.specs.code.Loading.{renewed, restarted}
+use Rattle.tl_commits.specs.code.Loading.{ArePieces, AreRenewed, IsLoading, is_of}
+use Rattle.tl_commits.specs.code.Loading.{renewed}
 use Rattle.tl_commits.specs.declared.commit.Event.{Event}
 use Rattle.tl_commits.specs.declared.commit.Piece.{Piece}
 use Rattle.tl_commits.specs.declared.loading.Loading.{Loading}
 use Rattle.tl_commits.specs.statement.CommitLine.{IsPiece}
-use Rattle.tl_commits.specs.statement.Commits.{is_piece_loadable}
 use Rattle.tl_commits.specs.statement.Events.{Events, beats_of, begins_load, is_load, is_loading, same_piece, since_begun}
 
 -- ---- keys

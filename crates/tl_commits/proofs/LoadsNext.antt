@@ -1,5 +1,5 @@
 -- The loads that a judge keeps are those that have begun, after one more event.
-use Rattle.std.proofs.Common.{◌≡◌, ◌<◌, ℕ, Bool, true, false, not, ◌&&◌, List, [], ◌∷◌, ◌++◌, refl, sym, ap, ◌∙◌, map, filter, find}
+use Rattle.std.proofs.Common.{◌≡◌, ◌<◌, ℕ, Bool, true, false, not, ◌&&◌, List, [], ◌∷◌, ◌++◌, refl, ap, ◌∙◌, map, filter, find}
 use Rattle.std.proofs.Common.{inl, inr, subst}
 use Rattle.std.proofs.lemmas.Bool.{and_parts, cases_Bool, eqb-true}
 use Rattle.std.specs.List.{AllZip}
@@ -14,7 +14,7 @@ use Rattle.tl_commits.specs.declared.loading.Loading.{Loading}
 use Rattle.tl_commits.specs.statement.CommitLine.{IsPiece}
 use Rattle.tl_commits.specs.statement.Events.{Events, begins_load, is_load, is_loading, same_piece}
 use Rattle.tl_commits.proofs.Loads.{HasKey, HasKeyIfAny, find-gone, find-kept, find-last, find-more, found-key, found-map}
-use Rattle.tl_commits.proofs.Loads.{goes-on, has-begun, has-ended, key-of, other-key, pieces-filter, pieces-map, pieces-more}
+use Rattle.tl_commits.proofs.Loads.{goes-on, has-begun, has-ended, other-key, pieces-filter, pieces-map, pieces-more}
 use Rattle.tl_commits.proofs.Loads.{same-piece-is, same-self}
 
 -- before the trace none has begun

@@ -223,6 +223,26 @@ unfolding commit_breach_from seen memory_may beats_of is_loading since_begun may
     each_from carried_byte windows_since window_began last_window last_told
 another_began = refl
 
+-- so does one of more bytes
+a_larger_began : first_commit_breach {w = 16} two_caches all_told no_liberties
+    (writer (begins_to_load 0 1 2 ∷ gives_up probe_block ++ loads 0 0 2 5 ∷ [])) ≡ Some (9, OfCommits M5)
+unfolding commit_breach_from seen memory_may beats_of is_loading since_begun may_read_seen before_last_seen is_free
+    is_grantable
+    had_window on_link unfinished request_of release_of probe_of grant_sink pending held_under all_liberties
+    outrun_accesses reported_since illegal_under each_below broken_order_under broken_after_under pending_accesses
+    each_from carried_byte windows_since window_began last_window last_told
+a_larger_began = refl
+
+-- or one on another link
+elsewhere_began : first_commit_breach {w = 16} two_caches all_told no_liberties
+    (writer (begins_to_load 1 0 3 ∷ gives_up probe_block ++ loads 0 0 3 5 ∷ [])) ≡ Some (9, OfCommits M5)
+unfolding commit_breach_from seen memory_may beats_of is_loading since_begun may_read_seen before_last_seen is_free
+    is_grantable
+    had_window on_link unfinished request_of release_of probe_of grant_sink pending held_under all_liberties
+    outrun_accesses reported_since illegal_under each_below broken_order_under broken_after_under pending_accesses
+    each_from carried_byte windows_since window_began last_window last_told
+elsewhere_began = refl
+
 -- it began, and ended
 began_once : first_commit_breach {w = 16} two_caches all_told no_liberties
     (writer (begins_to_load 0 0 3 ∷ loads 0 0 3 5 ∷ gives_up probe_block ++ loads 0 0 3 5 ∷ [])) ≡ Some

@@ -1,6 +1,6 @@
 -- The loads that have begun, as a judge keeps them.
 use Rattle.std.specs.List.{AllZip}
-use Rattle.std.specs.Prelude.{ℕ, Bool, true, false, ◌++◌, if◌then◌else◌, is_some, length, ◌==◌, ◌&&◌, ◌||◌, ◌≡◌, ◌<◌, List, [], ◌∷◌, find, Option, Some, None, ⊤}
+use Rattle.std.specs.Prelude.{ℕ, Bool, true, false, ◌++◌, if◌then◌else◌, length, ◌==◌, ◌&&◌, ◌||◌, ◌≡◌, ◌<◌, List, [], ◌∷◌, find, Option, Some, None, ⊤}
 use Rattle.tl_commits.specs.declared.commit.Piece.{Piece}
 use Rattle.tl_commits.specs.declared.loading.Loading.{Loading}
 use Rattle.tl_commits.specs.statement.CommitLine.{IsPiece}

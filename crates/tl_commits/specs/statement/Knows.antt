@@ -1,5 +1,5 @@
 -- The state of a judge of beats and copies after the events of a trace.
-use Rattle.std.specs.Prelude.{ℕ, false, List, [], ◌∷◌, ◌≡◌, if◌then◌else◌, length, Option, Some, None, Result, Ok, Err, ⊤}
+use Rattle.std.specs.Prelude.{ℕ, Bool, false, List, [], ◌∷◌, ◌≡◌, if◌then◌else◌, length, Option, Some, None, Result, Ok, Err, ⊤}
 use Rattle.std.specs.Prelude.{slice_get}
 use Rattle.tl_beat.specs.declared.beat.Link.{Link}
 use Rattle.tl_params.specs.declared.level.Level.{Level}
@@ -18,10 +18,10 @@ use Rattle.tl_commits.specs.declared.fault.CommitFault.{CommitFault}
 use Rattle.tl_commits.specs.declared.fault.CommitFault.TheVariants as fault
 use Rattle.tl_commits.specs.declared.judge.CopyJudge.{CopyJudge}
 use Rattle.tl_commits.specs.declared.rule.CommitBreach.{CommitBreach}
-use Rattle.tl_commits.specs.declared.rule.CommitBreach.TheVariants.{OfBeats}
+use Rattle.tl_commits.specs.declared.rule.CommitBreach.TheVariants.{OfBeats, OfCommits}
 use Rattle.tl_commits.specs.declared.rule.CommitRule.{CommitRule}
 use Rattle.tl_commits.specs.declared.rule.CommitRule.TheVariants.{M5}
-use Rattle.tl_commits.specs.statement.Breaches.{breach_of, has_cache}
+use Rattle.tl_commits.specs.statement.Breaches.{breach_of, broken_event, has_cache}
 use Rattle.tl_commits.specs.statement.CommitLine.{IsCommit}
 use Rattle.tl_commits.specs.statement.Commits.{broken_store, lacks_copy}
 use Rattle.tl_commits.specs.statement.Events.{Events, beats_of}
@@ -37,6 +37,14 @@ abbrev pub broken_copy : {w : ℕ} → List Level → Liberties → Link → Eve
 broken_copy levels l link (event.Beat x) e = breach_of (broken_together levels l (link, x) (beats_of e)) None
 broken_copy levels l link (event.Commit x) e =
     if has_cache (slice_get levels link.0) then breach_of None (lacking link x e) else Some (OfBeats (OfLink L1))
+
+-- Of a commit these rules come first: it breaks no other before one of them, and M5 only as they say.
+abbrev pub CopiesFirst : ℕ → Type 0
+CopiesFirst w = (levels : List Level) (complete : List Bool) (l : Liberties) (link : Link) (x : Commit) (e : Events w)
+    → ((breach : CommitBreach) → broken_copy levels l link (event.Commit x) e ≡ Some breach
+    → broken_event levels complete l link (event.Commit x) e ≡ Some breach)
+    × (broken_event levels complete l link (event.Commit x) e ≡ Some (OfCommits M5)
+    → broken_copy levels l link (event.Commit x) e ≡ Some (OfCommits M5))
 
 -- the judge has these levels and liberties, and the state that these rules need after the events, the newest first
 pub record KnowsCopies {w : ℕ} (j : CopyJudge w) (levels : List Level) (l : Liberties) (e : Events w) : Type 0 where

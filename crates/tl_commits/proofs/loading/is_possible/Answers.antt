@@ -1,5 +1,4 @@
-use Rattle.std.proofs.Common.{rules, ◌≡◌, ◌<◌, ◌%◌, ◌^◌, ℕ, Bool, true, false, ◌&&◌, sym, ◌∙◌, ap₂}
-use Rattle.std.proofs.lemmas.Bool.{le-leb}
+use Rattle.std.proofs.Common.{rules, sym, ◌∙◌}
 use Rattle.tl_commits.proofs.AtOnce.{no-piece, valid-is}
 use Rattle.tl_commits.proofs.loading.is_possible.Goals as goal
 

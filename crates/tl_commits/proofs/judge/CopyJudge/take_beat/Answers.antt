@@ -1,5 +1,4 @@
-use Rattle.std.proofs.Common.{◌≡◌, ◌∷◌, false, length, refl}
-use Rattle.tl_commits.specs.declared.commit.Commit.TheVariants as commit
+use Rattle.std.proofs.Common.{◌∷◌, false, length, refl}
 use Rattle.tl_beat.specs.declared.beat.Link.{Link}
 use Rattle.tl_commits.specs.declared.commit.Event.{Event}
 use Rattle.tl_commits.specs.declared.commit.Event.TheVariants as event

@@ -1,11 +1,7 @@
-use Rattle.std.proofs.Common.{◌≡◌, true, List, rules, slice_get, sym, ◌∙◌}
-use Rattle.tl_beat.specs.declared.beat.Link.{Link}
-use Rattle.tl_params.specs.declared.level.Level.{Level}
+use Rattle.std.proofs.Common.{◌≡◌, true, rules, slice_get, sym, ◌∙◌}
 use Rattle.tl_commits.specs.declared.commit.Commit.TheVariants as commit
-use Rattle.tl_commits.specs.declared.commit.Event.{Event}
 use Rattle.tl_commits.specs.declared.commit.Event.TheVariants as event
 use Rattle.tl_commits.specs.statement.Breaches.{has_cache}
-use Rattle.tl_commits.specs.statement.CommitLine.{IsCommit}
 use Rattle.tl_commits.proofs.CopiesJudged.{cache-below}
 use Rattle.tl_commits.proofs.judge.CopyJudge.take_commit.Goals as goal
 

@@ -1,10 +1,10 @@
-use Rattle.std.proofs.Common.{◌≡◌, ◌∷◌, length, refl, rules, sym, ◌∙◌}
+use Rattle.std.proofs.Common.{◌∷◌, length, rules}
 use Rattle.tl_commits.specs.declared.commit.Commit.TheVariants as commit
 use Rattle.tl_beat.specs.declared.beat.Link.{Link}
 use Rattle.tl_commits.specs.declared.commit.Event.{Event}
 use Rattle.tl_commits.specs.declared.commit.Event.TheVariants as event
 use Rattle.tl_commits.specs.statement.Events.{beats_of}
-use Rattle.std.specs.Prelude.{filter, not}
+use Rattle.std.specs.Prelude.{not}
 use Rattle.tl_commits.specs.code.Loading.{is_of}
 use Rattle.tl_commits.proofs.CopiesJudged.{load-judged, none-is}
 use Rattle.tl_commits.proofs.Loads.{all-renewed, pieces-filter}

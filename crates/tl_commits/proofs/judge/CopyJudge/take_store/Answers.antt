@@ -1,4 +1,4 @@
-use Rattle.std.proofs.Common.{◌≡◌, ◌∷◌, length, refl, rules, sym, ◌∙◌}
+use Rattle.std.proofs.Common.{◌∷◌, length, refl, rules}
 use Rattle.tl_commits.specs.declared.commit.Commit.TheVariants as commit
 use Rattle.tl_beat.specs.declared.beat.Link.{Link}
 use Rattle.tl_commits.specs.declared.commit.Event.{Event}

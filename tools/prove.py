@@ -7,6 +7,7 @@ the crate over them builds it. Otherwise the crates are copied to a folder apart
 there from nothing, side by side as far as their libraries and the memory allow; what an earlier run on this machine proved of the
 same files it keeps. `rt ci` builds no static library, and a program that it keeps comes without its object file: again one more
 check builds it. In a crate's folder `rt run` and `rt lib` do the same for one crate after another, and keep what they proved."""
+import os
 import pathlib
 import shutil
 import subprocess
@@ -14,6 +15,10 @@ import sys
 import tempfile
 
 from verdicts import BUILT, ROOT, below, crates, faults, noted, sources
+
+
+# The processes that check one crate by itself; each takes up to 3 GB.
+JOBS = min(4, len(os.sched_getaffinity(0)))
 
 
 def copy(names, room):
@@ -33,7 +38,7 @@ def build_words(crate, kit):
     folders = [kit / "rlibs", *(f"../{name}/out/rlib" for name in below(crate) - {crate})]
     named += [word for folder in folders for word in ("-L", f"dependency={folder}")]
     logic = ["--antt-project", kit / "rattle/logic/antt-project.json", "--logic-built", kit / "logic_built"]
-    return ["--crate-name", crate, *named, *logic, "--toolchain", kit / "toolchain", "--backend", "llvm", "--jobs", "2"]
+    return ["--crate-name", crate, *named, *logic, "--toolchain", kit / "toolchain", "--backend", "llvm", "--jobs", str(JOBS)]
 
 
 def build(crate, room):

@@ -86,7 +86,7 @@ int main() {
     right = right && cover.count(i).count == came && cover.count(i).line == (came ? 2u : 0u) && !hefrudyl::situation_text(i).empty();
   }
   for (std::uint8_t i = 0; i < TL_BINS; i++) {
-    bool came = hefrudyl::bin_name(i) == "A-AcquirePerm-NtoT-64";
+    bool came = hefrudyl::bin_name(i) == "A-AcquirePerm-NtoT-64" || hefrudyl::bin_name(i) == "pending-acquire-1";
     right = right && cover.bin(0, i).count == came && cover.bin(0, i).line == (came ? 2u : 0u) && !hefrudyl::bin_text(i).empty();
     right = right && (!came || cover.bin(0, i).possible == 1);
   }

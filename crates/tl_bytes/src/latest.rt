@@ -24,8 +24,8 @@ pub enum Moments {
     OfKnown(u64),
     /// This moment for all.
     OfAll(u64),
-    /// A moment for each byte, by its place.
-    OfEach(Vec<u64>),
+    /// A moment for each byte, by its place. Few blocks have them, so they are on the heap.
+    OfEach(Box<[u64; 64]>),
 }
 
 /// The moment of the byte at a place, if that of the known bytes is this one, and that of the others 0.
@@ -80,7 +80,7 @@ impl Latest {
         }
         Ok(Latest {
             values,
-            moments: Moments::OfEach(Vec::from_slice(alloc, moments)?),
+            moments: Moments::OfEach(Box::new(alloc, *moments)?),
         })
     }
 
@@ -137,10 +137,7 @@ impl Latest {
         let moments = match &self.moments {
             Moments::OfKnown(moment) => Moments::OfKnown(*moment),
             Moments::OfAll(moment) => Moments::OfAll(*moment),
-            Moments::OfEach(moments) => Moments::OfEach(Vec::from_slice(
-                alloc,
-                moments.as_slice(),
-            )?),
+            Moments::OfEach(moments) => Moments::OfEach(Box::new(alloc, **moments)?),
         };
         Ok(Latest {
             values: self.values,

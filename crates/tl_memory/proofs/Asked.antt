@@ -113,7 +113,7 @@ first-access own admits writer windows n block access x t same same_windows is l
 pub grown-access : {w : ℕ} (old : BlockState w) (first own : PendingAccess w) (writer : Writer w) (n block : ℕ)
     (p q : Access w) (x : Link × Beat w) (t : Trace w) → KnowsState old n block t
     → KnowsAccess first (open_for old.free) n block p t
-    → IsGrown writer (found_by old.free old.bytes old.accesses.items old.outrun.items) first own → IsAlike p q → IsWriter writer q
+    → IsGrown writer (found_by old.free old.bytes old.accesses.items old.outrun) first own → IsAlike p q → IsWriter writer q
     → IsLawful q → block_at q.request.address ≡ block → LeavesHeld block x t
     → shows block x.1 (on_link x.0.0 t) ≡ false
     → KnowsAccess own (open_for (none_shown old.free)) n block q (x ∷ t)
@@ -136,7 +136,7 @@ grown-access {w} old first own writer n block p q x t k one grown alike is lawfu
     renewed = record { writer = first.writer; windows = first.windows; read = own.read }
 
     kept : is_put p.request.opcode ≡ false → KeepsFound own.read false n block p t
-    kept other = found-kept n block old.free old.bytes old.accesses.items old.outrun.items first renewed p t
+    kept other = found-kept n block old.free old.bytes old.accesses.items old.outrun first renewed p t
         (record { writer_is = refl; windows_are = refl; read_is = grown.read_is }) k.bytes_are k.accesses_are
         k.outrun_are one.asked_is other (one.found_is other)
 
@@ -161,7 +161,7 @@ pub asked-state : {w : ℕ} (old : BlockState w) (next : NextState w) (gone : Op
     → is_to block access ≡ true → WritesInside access → LeavesHeld block x t
     → shows block x.1 (on_link x.0.0 t) ≡ false → KnowsBlock old.bytes n block (x ∷ t)
     → LeavesOutrun block x t → KnowsAccess first (open_for (none_shown old.free)) n block access (x ∷ t)
-    → AreRenewed (found_by old.free old.bytes old.accesses.items old.outrun.items) (staying gone old.accesses.items) more
+    → AreRenewed (found_by old.free old.bytes old.accesses.items old.outrun) (staying gone old.accesses.items) more
     → KnowsState (with_next old next) n block (x ∷ t)
 asked-state {w} old next gone n block first more access x t k none nothing items pending to inside same unshown bytes
     leaves one renewed = record {
@@ -172,9 +172,9 @@ asked-state {w} old next gone n block first more access x t k none nothing items
           (sym (filters-swap (is_to block) (keeps gone) (pending_accesses t)))
           (settled-each n block x t admits more (filter (keeps gone) (filter (is_to block) (pending_accesses t)))
           (λ given. asked-window old n block given x t k same unshown) (free-kept n Perm.Trunk block x t same)
-          (copied-each n block old.free old.bytes old.accesses.items old.outrun.items t k.bytes_are k.accesses_are
+          (copied-each n block old.free old.bytes old.accesses.items old.outrun t k.bytes_are k.accesses_are
           k.outrun_are gone old.accesses.items more (filter (is_to block) (pending_accesses t)) k.accesses_are.accesses_are renewed))));
-      outrun_are = rw nothing (outrun-stays block old.outrun.items x t leaves k.outrun_are);
+      outrun_are = rw nothing (outrun-stays block old.outrun x t leaves k.outrun_are);
       free_is = λ given. hidden old.free given ∙ k.free_is given ∙ sym (free-kept n given block x t same);
       last_is = λ off. k.last_is off ∙ sym (last-kept n block x t (free-kept n Perm.Trunk block x t same)
           (sym (k.free_is Perm.Trunk) ∙ off));

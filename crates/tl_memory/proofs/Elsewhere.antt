@@ -173,7 +173,7 @@ module _ {w : ℕ} (s : BlockState w) (n block : ℕ) (x : Link × Beat w) (t : 
           k.accesses_are.accesses_are);
       inside = passes.elsewhere.inside;
     };
-    outrun_are = outrun-stays block s.outrun.items x t passes.elsewhere.outrun k.outrun_are;
+    outrun_are = outrun-stays block s.outrun x t passes.elsewhere.outrun k.outrun_are;
     free_is = λ given. k.free_is given ∙ sym (free-kept n given block x t passes.held_is);
     last_is = λ off. k.last_is off ∙ sym (last-kept n block x t (free-kept n Perm.Trunk block x t passes.held_is)
         (sym (k.free_is Perm.Trunk) ∙ off));

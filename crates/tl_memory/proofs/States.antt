@@ -28,7 +28,7 @@ use Rattle.tl_memory.proofs.Keeping.{watched-each}
 
 -- a block of which nothing was carried
 pub state-first : {w : ℕ} (s : BlockState w) (n block : ℕ) → KnowsBlock {w = w} s.bytes n block []
-    → s.accesses.items ≡ [] → s.outrun.items ≡ [] → ((given : Perm) → free_for s.free given ≡ true) → KnowsState s n block []
+    → s.accesses.items ≡ [] → s.outrun ≡ [] → ((given : Perm) → free_for s.free given ≡ true) → KnowsState s n block []
 unfolding pending_accesses outrun_accesses
 state-first {w} s n block bytes none nothing free = record {
   bytes_are = bytes;
@@ -115,15 +115,15 @@ pub unseen-state : {w : ℕ} (old : BlockState w) (next : NextState w) (n block 
     → KnowsBlock (unwrap_or (option_map box_value next.bytes) old.bytes) n block (x ∷ t)
     → filter (is_to block) (pending_accesses (x ∷ t)) ≡ filter (keeps gone) (filter (is_to block) (pending_accesses t))
     → AllWriteInside (pending_accesses (x ∷ t))
-    → KnowsOutrun (unwrap_or next.outrun old.outrun).items block (outrun_accesses (x ∷ t))
-    → AreRenewed (found_by old.free old.bytes old.accesses.items old.outrun.items) (staying gone old.accesses.items)
+    → KnowsOutrun (unwrap_or next.outrun old.outrun) block (outrun_accesses (x ∷ t))
+    → AreRenewed (found_by old.free old.bytes old.accesses.items old.outrun) (staying gone old.accesses.items)
     (next_accesses old.accesses next.accesses).items
     → KnowsUnseen (with_next old next) n block x t
 unseen-state {w} old next n block gone x t k bytes stay inside out renewed = record {
   bytes_are = bytes;
   accesses_are = record {
     accesses_are = subst (λ l. AreKnown (next_accesses old.accesses next.accesses).items closed n block l t) (sym stay)
-        (copied-each n block old.free old.bytes old.accesses.items old.outrun.items t k.bytes_are k.accesses_are
+        (copied-each n block old.free old.bytes old.accesses.items old.outrun t k.bytes_are k.accesses_are
         k.outrun_are gone old.accesses.items (next_accesses old.accesses next.accesses).items (filter (is_to block) (pending_accesses t)) k.accesses_are.accesses_are renewed);
     inside = inside;
   };

@@ -1,4 +1,5 @@
 pub mod Allowed
+pub mod Boxed
 pub mod Changing
 pub mod Early
 pub mod Elsewhere

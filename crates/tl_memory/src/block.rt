@@ -20,7 +20,7 @@ ghost use Rattle.tl_bytes.specs.statement.Known.{tellings_of};
 ghost use Rattle.tl_bytes.specs.statement.Lines.{told_moment};
 
 use crate::accesses::{append_renewed, find, has_reader, watch};
-use crate::boxed::boxed;
+use crate::boxed::{BoxedList, boxed};
 use crate::early::OutrunAccess;
 use crate::expected::Expected;
 use crate::free::Freedom;
@@ -44,7 +44,7 @@ pub struct BlockState<const W: usize> {
     pub(crate) bytes: BlockBytes,
     pub(crate) accesses: Vec<PendingAccess<W>>,
     /// The accesses whose answers began before their requests were complete, until both are complete.
-    pub(crate) outrun: Vec<OutrunAccess>,
+    pub(crate) outrun: BoxedList<OutrunAccess>,
     pub(crate) free: Freedom,
     /// The last moment at which it was free for writing, if it isn't now.
     pub(crate) last_free: u64,
@@ -77,7 +77,7 @@ impl<const W: usize> BlockState<W> {
         BlockState {
             bytes: BlockBytes::new(alloc),
             accesses: Vec::new(alloc),
-            outrun: Vec::new(alloc),
+            outrun: BoxedList::new(),
             free: Freedom {
                 reading: true,
                 writing: true,
@@ -174,7 +174,7 @@ impl<const W: usize> BlockState<W> {
         gone: Option<(Link, u8)>,
     ) -> Result<Vec<PendingAccess<W>>, AllocError>
         ensures { IfOk result (λ copies. AreRenewed (found_by self.now.free self.now.bytes self.now.accesses.items
-            self.now.outrun.items)
+            self.now.outrun)
             (staying gone self.now.accesses.items) copies.items) }
     {
         let mut copies = Vec::new(alloc);
@@ -198,7 +198,7 @@ impl<const W: usize> BlockState<W> {
         gone: Option<(Link, u8)>,
     ) -> Result<NextAccesses<W>, AllocError>
         ensures { IfOk result (λ next. AreRenewed (found_by self.now.free self.now.bytes self.now.accesses.items
-            self.now.outrun.items)
+            self.now.outrun)
             (staying gone self.now.accesses.items) (next_accesses self.now.accesses next).items) }
     {
         match gone {
@@ -213,7 +213,7 @@ impl<const W: usize> BlockState<W> {
         &self,
         alloc: Global,
         bytes: Option<BlockBytes>,
-        outrun: Option<Vec<OutrunAccess>>,
+        outrun: Option<BoxedList<OutrunAccess>>,
         gone: Option<(Link, u8)>,
     ) -> Result<NextState<W>, AllocError>
         ensures { IfOk result (λ next. (n block : ℕ) (x : Link × Beat W) (t : Trace W) →
@@ -221,7 +221,7 @@ impl<const W: usize> BlockState<W> {
             filter (is_to block) (pending_accesses (x ∷ t))
             ≡ filter (keeps gone) (filter (is_to block) (pending_accesses t)) →
             AllWriteInside (pending_accesses (x ∷ t)) →
-            KnowsOutrun (unwrap_or outrun self.now.outrun).items block (outrun_accesses (x ∷ t)) →
+            KnowsOutrun (unwrap_or outrun self.now.outrun) block (outrun_accesses (x ∷ t)) →
             KnowsUnseen (with_next self.now next) n block x t) }
     {
         let accesses = self.next_accesses(alloc, gone)?;

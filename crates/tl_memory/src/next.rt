@@ -86,7 +86,7 @@ fn after_outrun_request<const W: usize>(
     ensures { IfOk result (λ next. (n block : ℕ) (link : Link) (y : BeatA W) (t : Trace W) →
         KnowsState state.now n block t → IsRequested link.0 y t → block_at y.address ≡ block →
         bytes.asks y (on_link link.0 t) ≡ true → completes ≡ ends (beat.A y) (on_link link.0 t) →
-        Some access.now ≡ outrun_in link.0 y.source state.now.outrun.items → moment ≡ suc (length t) →
+        Some access.now ≡ outrun_in link.0 y.source state.now.outrun → moment ≡ suc (length t) →
         IsNextUnseen next state.now n block (link, beat.A y) t) }
 {
     if !both(completes, access.answered) {

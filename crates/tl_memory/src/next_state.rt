@@ -6,6 +6,7 @@ ghost use Rattle.tl_memory.specs.code.Taking.{next_accesses, put_next};
 
 use crate::accesses::grow;
 use crate::block::BlockState;
+use crate::boxed::BoxedList;
 use crate::early::OutrunAccess;
 use crate::pending::PendingAccess;
 use crate::writer::Writer;
@@ -29,7 +30,7 @@ pub enum NextAccesses<const W: usize> {
 pub struct NextState<const W: usize> {
     pub(crate) bytes: Option<Box<BlockBytes>>,
     pub(crate) accesses: NextAccesses<W>,
-    pub(crate) outrun: Option<Vec<OutrunAccess>>,
+    pub(crate) outrun: Option<BoxedList<OutrunAccess>>,
 }
 
 impl<const W: usize> BlockState<W> {
@@ -62,7 +63,7 @@ impl<const W: usize> BlockState<W> {
     }
 
     /// Puts these accesses whose answers outran their requests, if there are any.
-    fn put_outrun(&mut self, outrun: Option<Vec<OutrunAccess>>)
+    fn put_outrun(&mut self, outrun: Option<BoxedList<OutrunAccess>>)
         ensures bytes { self.new.bytes ≡ self.old.bytes }
         ensures accesses { self.new.accesses ≡ self.old.accesses }
         ensures outrun { self.new.outrun ≡ unwrap_or outrun self.old.outrun }

@@ -16,6 +16,7 @@ ghost use Rattle.tl_rules.specs.statement.Conformance.{Trace, on_link};
 ghost use Rattle.tl_rules.specs.statement.History.{ends};
 
 use crate::block::BlockState;
+use crate::boxed::BoxedList;
 use crate::early::{Asking, OutrunAccess, append_outrun_but, find_outrun};
 use crate::next_state::NextState;
 use std::alloc::{AllocError, Global};
@@ -25,7 +26,7 @@ use tl_bytes::standing::Standing;
 impl<const W: usize> BlockState<W> {
     /// The access with this source on a link whose answer outran its request, if there is one.
     pub fn outrun_of(&self, link: Link, source: u8) -> Option<OutrunAccess>
-        ensures { result ≡ early.outrun_in link.0 source self.now.outrun.items }
+        ensures { result ≡ early.outrun_in link.0 source self.now.outrun }
     {
         find_outrun(self.outrun.as_slice(), link, source)
     }
@@ -48,6 +49,7 @@ impl<const W: usize> BlockState<W> {
         let mut outrun = Vec::new(alloc);
         outrun.push(OutrunAccess::new(link, asking, answered))?;
         append_outrun_but(&mut outrun, self.outrun.as_slice(), link, asking.source)?;
+        let outrun = BoxedList::of(alloc, outrun)?;
         self.with_bytes(alloc, None, Some(outrun), Some((link, asking.source)))
     }
 
@@ -72,6 +74,7 @@ impl<const W: usize> BlockState<W> {
             access.link,
             access.source,
         )?;
+        let outrun = BoxedList::of(alloc, outrun)?;
         self.with_bytes(alloc, Some(bytes), Some(outrun), None)
     }
 }

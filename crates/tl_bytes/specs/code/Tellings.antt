@@ -1,6 +1,7 @@
 -- How the observed values of a block's bytes are kept: the last of each byte by its place, and in one list the
 -- earlier ones.
 use Rattle.std.specs.Prelude.{ℕ, zero, suc, Bool, true, false, not, [], ◌∷◌, ◌++◌, ◌&&◌, ◌-◌, if◌then◌else◌, List}
+use Rattle.std.specs.Box.{box_value}
 use Rattle.std.specs.Prelude.{filter, find, is_some, nat_le, nat_lt, Option, Some, None, slice_index_or}
 use Rattle.tl_burst.specs.statement.Burst.{bit}
 use Rattle.tl_bytes.specs.declared.known_bytes.KnownBytes.{KnownBytes}
@@ -30,7 +31,7 @@ moment_of_known values moment place = if is_some (known_at values place) then mo
 abbrev pub moment_at : Moments → KnownBytes → ℕ → ℕ
 moment_at (moments.OfKnown moment) values place = moment_of_known values moment place
 moment_at (moments.OfAll moment) values place = moment
-moment_at (moments.OfEach all) values place = slice_index_or all.items place 0
+moment_at (moments.OfEach all) values place = slice_index_or (box_value all) place 0
 
 -- the value last observed at a place: any value if there is none
 abbrev pub telling_at : Latest → ℕ → Telling

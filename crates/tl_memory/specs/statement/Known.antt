@@ -221,7 +221,7 @@ closed given = false
 pub record KnowsParts {w : ℕ} (s : BlockState w) (admits : Perm → Bool) (n block : ℕ) (seen t : Trace w) : Type 0 where
   pub bytes_are : KnowsBlock s.bytes n block t
   pub accesses_are : KnowsAccesses s.accesses.items admits n block seen t
-  pub outrun_are : KnowsOutrun s.outrun.items block (outrun_accesses t)
+  pub outrun_are : KnowsOutrun s.outrun block (outrun_accesses t)
   pub free_is : (given : Perm) → free_for s.free given ≡ is_free n given block seen
   pub last_is : s.free.writing ≡ false → s.last_free ≡ last_window n block seen
 

@@ -9,7 +9,7 @@ use Rattle.tl_memory.proofs.next.after_outrun_request.Goals as goal
 
 pub returns-then-not-both : goal.returns-then-not-both
 returns-then-not-both g c = λ n block link y t k is here asked last kept now.
-    let there = kept-found link.0 y.source block c.args.access.now c.args.state.now.outrun.items (outrun_accesses t)
+    let there = kept-found link.0 y.source block c.args.access.now c.args.state.now.outrun (outrun_accesses t)
     k.outrun_are (rw here at is.outran) kept in
     let off : c.both.result ≡ false = search rules in
     let less = sym c.both.ensures ∙ off in
@@ -22,7 +22,7 @@ returns-then-not-both g c = λ n block link y t k is here asked last kept now.
 
 pub returns : goal.returns
 returns g c = λ n block link y t k is here asked last kept now.
-    let there = kept-found link.0 y.source block c.args.access.now c.args.state.now.outrun.items (outrun_accesses t)
+    let there = kept-found link.0 y.source block c.args.access.now c.args.state.now.outrun (outrun_accesses t)
     k.outrun_are (rw here at is.outran) kept in
     let on : c.both.result ≡ true = search rules in
     let both = and_parts c.args.completes c.args.access.now.answered (sym c.both.ensures ∙ on) in

@@ -41,7 +41,7 @@ returns g c = λ n block t k message is here now.
     let yes : c.asks.result ≡ true = search rules in
     let asked : asks y (on_link link.0 t) ≡ true =
     sym (c.asks.ensures (on_link link.0 t) message (omega (arith, short))) ∙ yes in
-    let unkept : None ≡ outrun_in link.0 y.source c.args.state.now.outrun.items = search rules in
-    let none = none-kept link.0 y.source block c.args.state.now.outrun.items (outrun_accesses t) k.outrun_are
+    let unkept : None ≡ outrun_in link.0 y.source c.args.state.now.outrun = search rules in
+    let none = none-kept link.0 y.source block c.args.state.now.outrun (outrun_accesses t) k.outrun_are
     (rw here at is.outran) unkept in
     c.in_ok-asked.ensures n block t k (c.with-all.ensures burst message is.room) is asked (ap is_some none) here now

@@ -12,4 +12,4 @@ returns g c = IfOk-weaker c.with_bytes.result _ _ (λ next h n block t k quiet o
     h n block (link, Beat.D y) t k (c.in_ok-bytes.ensures n block t k quiet over to unsettled message room now)
     (gone-here block (Some (link, y.source)) (link, Beat.D y) t gone)
     (gone-inside (Some (link, y.source)) (link, Beat.D y) t gone k.accesses_are.inside)
-    (outrun-stays block c.args.self.now.outrun.items (link, Beat.D y) t leaves k.outrun_are)) c.with_bytes.ensures
+    (outrun-stays block c.args.self.now.outrun (link, Beat.D y) t leaves k.outrun_are)) c.with_bytes.ensures

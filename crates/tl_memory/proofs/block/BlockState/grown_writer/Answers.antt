@@ -44,7 +44,7 @@ returns g c = λ n block t k brought is asked fresh here next unwritten unoutrun
     let lawful = subst (λ m. IsLawful (access m)) (sym since) (is.lawful asked) in
     let writer = c.new.ensures older brought is.wide (whole_room g.row.W (length older) is.room.0) lawful in
     let held = request-leaves block link y t (asks-bare link y t asked) in
-    let more = found_by old.free old.bytes old.accesses.items old.outrun.items in
+    let more = found_by old.free old.bytes old.accesses.items old.outrun in
     let own = with_writer c.new.result only in
     let known : KnowsAccess own (open_for (none_shown old.free)) n block (asked_now link.0 y t) (x ∷ t) =
     subst (λ m. KnowsAccess own (open_for (none_shown old.free)) n block (access m) (x ∷ t)) since

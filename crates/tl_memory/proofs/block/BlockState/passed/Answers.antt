@@ -8,5 +8,5 @@ pub returns : goal.returns
 returns g c = IfOk-weaker c.with_bytes.result _ _ (λ next h n block x t k elsewhere. h n block x t k
     (bytes-kept n block c.args.self.now.bytes x t k.bytes_are elsewhere.quiet elsewhere.keeps elsewhere.unsettled)
     (elsewhere.pending_stay ∙ keeps-all (filter (is_to block) (pending_accesses t))) elsewhere.inside
-    (outrun-stays block c.args.self.now.outrun.items x t elsewhere.outrun k.outrun_are))
+    (outrun-stays block c.args.self.now.outrun x t elsewhere.outrun k.outrun_are))
     c.with_bytes.ensures

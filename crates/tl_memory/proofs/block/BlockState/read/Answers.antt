@@ -19,7 +19,7 @@ returns g c = λ n block t k to other.
     let there : Some c.in-Some.access.now
     ≡ find (is_named c.args.link.0 c.args.source) s.accesses.items = search rules in
     let one = is-found c.in-Some.access.now _ (open_for s.free) n block _ t there found to in
-    let kept = kept-one n block s.free s.bytes s.accesses.items s.outrun.items t k.bytes_are k.accesses_are k.outrun_are
+    let kept = kept-one n block s.free s.bytes s.accesses.items s.outrun t k.bytes_are k.accesses_are k.outrun_are
     c.in-Some.access.now c.in_ok-renewed.renewed one.0
     (rw (c.as_slice-accesses.ensures.value, c.as_slice.ensures.value) at c.in_ok-renewed.ensures) one.2 in
     expects-some (record {

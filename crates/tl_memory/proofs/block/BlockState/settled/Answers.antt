@@ -11,6 +11,6 @@ returns g c = IfOk-weaker c.with_bytes.result _ _ (λ next h n block x t k s now
     (c.in_ok-bytes.ensures.settled g.row.W n block x t k.bytes_are s.quiet s.answers_none refl now
     (is-settling c.args.access.now block x t s))
     (gone-here block None x t same) (gone-inside None x t same k.accesses_are.inside)
-    (rw (c.in_ok-append_outrun_but.ensures, c.as_slice.ensures.value, c.new-outrun.ensures.items)
-    (settled-outrun c.args.access.now c.args.self.now.outrun.items block x t s k.outrun_are)))
+    (rw (c.in_ok-outrun.ensures, c.in_ok-append_outrun_but.ensures, c.as_slice.ensures.value, c.new-outrun.ensures.items)
+    (settled-outrun c.args.access.now c.args.self.now.outrun block x t s k.outrun_are)))
     c.with_bytes.ensures

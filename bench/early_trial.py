@@ -659,4 +659,5 @@ def main():
         print(bug or "right", dict(verdicts), "beats", lengths)
 
 
-main()
+if __name__ == "__main__":
+    main()

@@ -1,7 +1,7 @@
 //! The state of the bytes of memory.
 
-ghost use Rattle.std.specs.Prelude.{ℕ, suc, true, [], ◌∷◌, ◌<◌, ◌≡◌, if◌then◌else◌, List, length, option_map};
-ghost use Rattle.std.specs.Prelude.{None, Some, IfOk, IsTrue, option_copied, ◌+◌, ◌*◌};
+ghost use Rattle.std.specs.Prelude.{ℕ, suc, true, [], ◌∷◌, ◌<◌, ◌≡◌, if◌then◌else◌, List, length, is_some, option_map};
+ghost use Rattle.std.specs.Prelude.{None, Some, IfOk, IfSome, IsTrue, option_copied, ◌+◌, ◌*◌};
 ghost use Rattle.tl_beat.specs.declared.beat.Beat.TheVariants as beat;
 ghost use Rattle.tl_beat.specs.declared.beat.BeatD.{BeatD};
 ghost use Rattle.tl_beat.specs.declared.beat.Link.{Link};
@@ -327,6 +327,17 @@ impl<const W: usize> Memory<W> {
         match self.links.get(link) {
             None => None,
             Some(state) => state.expected(change.begun()),
+        }
+    }
+
+    /// The unfinished messages on channels A, C and D of a link. None if there is no such link.
+    pub fn messages(&self, link: Link) -> Option<&LinkMessages>
+        ensures { (n : ℕ) (t : Trace W) → KnowsMemory self.now n t → link.0 < n →
+            IfSome result (λ m. KnowsMessages m.now (on_link link.0 t)) × (is_some result ≡ true) }
+    {
+        match self.links.get(link) {
+            None => None,
+            Some(state) => Some(&state.messages),
         }
     }
 

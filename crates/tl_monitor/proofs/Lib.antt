@@ -14,5 +14,6 @@ pub mod Middle
 pub mod Knowing
 pub mod Numbered
 pub mod OnLink
+pub mod Reports
 pub mod Within
 pub mod WorkedGrants

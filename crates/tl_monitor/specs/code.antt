@@ -7,3 +7,4 @@ pub mod KnownBlocks
 pub mod LinkState
 pub mod Past
 pub mod Lawful
+pub mod Reporting

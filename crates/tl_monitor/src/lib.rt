@@ -12,4 +12,5 @@ mod known_blocks;
 mod link_state;
 pub mod monitor;
 mod past;
+mod reporting;
 pub mod trace;

@@ -14,6 +14,7 @@ use crate::fault::{MonitorFault, is_closed_after};
 use crate::link_state::LinkState;
 use std::alloc::{AllocError, Global};
 use tl_beat::beat::{Beat, Link};
+use tl_beat::control::ControlC;
 use tl_rules::config::MOST_CLIENTS;
 use tl_rules::level::Level;
 use tl_rules::liberties::Liberties;
@@ -41,6 +42,7 @@ pub struct MonitoredLink {
 
 impl<const W: usize> Monitor<W> {
     ghost use Rattle.tl_monitor.specs.statement.Granting.{coming_on, granted_on_under};
+    ghost use Rattle.tl_monitor.specs.statement.Reporting.{report_on};
     ghost use Rattle.tl_monitor.specs.statement.Numbers.{IsMoreUnder, IsMoreWhereRefused, entry_count, entry_count_under};
     ghost use Rattle.tl_monitor.specs.statement.Knows.{Knows, KnowsUnder, IsNew, IsNewUnder, Answers};
     ghost use Rattle.tl_monitor.specs.statement.Knows.{fault_of, fault_under, recorded_after, closed_after, held_on_under};
@@ -275,6 +277,19 @@ impl<const W: usize> Monitor<W> {
             return None;
         }
         self.links[n].state.coming(block)
+    }
+
+    /// The control fields of the unfinished message on channel C of a link, if there is one. None on a link without a
+    /// level.
+    pub fn report(&self, link: Link) -> Option<ControlC>
+        ensures { (levels : List Level) (l : Liberties) (t : Trace W) (closed : Bool) →
+            KnowsUnder self.now levels l t closed → result ≡ report_on levels link t }
+    {
+        let n = usize::from(link.0);
+        if n >= self.links.len() {
+            return None;
+        }
+        self.links[n].state.report()
     }
 
     /// The permission held of a block on a link, with a Grant counted from its first beat on. None on a link without a

@@ -1,6 +1,6 @@
 //! Questions to a judge about the trace so far.
 
-ghost use Rattle.std.specs.Prelude.{Bool, true, false, List, Some, IfOk, length, is_some, option_copied};
+ghost use Rattle.std.specs.Prelude.{Bool, true, false, List, Some, IfOk, IfSome, length, is_some, option_copied};
 ghost use Rattle.std.specs.Prelude.{◌≡◌, ◌<◌, ◌+◌, ◌*◌};
 ghost use Rattle.tl_beat.specs.declared.beat.Beat.TheVariants as beat;
 ghost use Rattle.tl_beat.specs.declared.beat.BeatD.{BeatD};
@@ -8,24 +8,28 @@ ghost use Rattle.tl_beat.specs.declared.channel.Channel.TheVariants as channel;
 ghost use Rattle.tl_beat.specs.statement.Width.{IsWidth};
 ghost use Rattle.tl_burst.specs.statement.Messages.{unfinished};
 ghost use Rattle.tl_bytes.specs.statement.Bytes.{may_be};
+ghost use Rattle.tl_bytes.specs.statement.Free.{may_hold};
 ghost use Rattle.tl_bytes.specs.statement.Lines.{told_moment};
 ghost use Rattle.tl_memory.specs.code.Changing.{IsChange};
 ghost use Rattle.tl_memory.specs.code.Lines.{told_by};
 ghost use Rattle.tl_memory.specs.statement.Blocks.{state_in};
 ghost use Rattle.tl_memory.specs.statement.Expecting.{ExpectsBeat};
-ghost use Rattle.tl_memory.specs.statement.Links.{KeepsRules};
+ghost use Rattle.tl_memory.specs.statement.Links.{KeepsRules, KnowsMessages};
 ghost use Rattle.tl_params.specs.declared.level.Level.{Level};
 ghost use Rattle.tl_params.specs.declared.liberties.Liberties.{Liberties};
 ghost use Rattle.tl_rules.specs.code.Open.{open_request};
 ghost use Rattle.tl_rules.specs.statement.Conformance.{Trace, on_link};
 ghost use Rattle.tl_monitor.specs.statement.Granting.{coming_on};
 ghost use Rattle.tl_monitor.specs.statement.Knows.{begins_on, request_on};
+ghost use Rattle.tl_monitor.specs.statement.Reporting.{report_on};
 ghost use Rattle.tl_together.specs.code.Windows.{asked_at};
 
 use crate::fault::JudgeFault;
 use crate::judge::{Judge, answered, asked_in};
 use tl_beat::beat::{Beat, Link};
+use tl_beat::control::ControlC;
 use tl_memory::expected::Expected;
+use tl_memory::link::LinkMessages;
 use tl_memory::memory::Change;
 use tl_rules::past::Request;
 use tl_rules::perm::Perm;
@@ -56,6 +60,32 @@ impl<const W: usize> Judge<W> {
             result ≡ coming_on levels link block t }
     {
         self.monitor.coming(link, block)
+    }
+
+    /// The most that a link may hold of a block, by its complete messages.
+    pub fn held(&self, link: Link, block: u32) -> Perm
+        ensures { (levels : List Level) (l : Liberties) (t : Trace W) → Knows self.now levels l t false →
+            link.0 < length levels → result ≡ may_hold block (on_link link.0 t) }
+    {
+        self.monitor.held_under(link, block)
+    }
+
+    /// The control fields of the unfinished message on channel C of a link, if there is one. None on a link without a
+    /// level.
+    pub fn report(&self, link: Link) -> Option<ControlC>
+        ensures { (levels : List Level) (l : Liberties) (t : Trace W) → Knows self.now levels l t false →
+            result ≡ report_on levels link t }
+    {
+        self.monitor.report(link)
+    }
+
+    /// The unfinished messages on channels A, C and D of a link. None if there is no such link.
+    pub fn messages(&self, link: Link) -> Option<&LinkMessages>
+        ensures { (levels : List Level) (l : Liberties) (t : Trace W) → Knows self.now levels l t false →
+            link.0 < length levels →
+            IfSome result (λ m. KnowsMessages m.now (on_link link.0 t)) × (is_some result ≡ true) }
+    {
+        self.memory.messages(link)
     }
 
     /// The number of beats that had been taken with the last beat of the request with this source that is pending on a

@@ -1,0 +1,14 @@
+pub mod CommitFaults
+pub mod CommitLines
+pub mod CommitSpelled
+pub mod Pieces
+pub mod WorkedCommits
+pub mod WorkedEvents
+pub mod BeatsAlone
+pub mod JudgedAlone
+pub mod Filling
+pub mod Giving
+pub mod AtOnce
+pub mod Loads
+pub mod LoadsNext
+pub mod CopiesJudged

@@ -1,0 +1,193 @@
+-- The loads that have begun, after one more event.
+use Rattle.std.proofs.Common.{◌≡◌, ◌<◌, ℕ, Bool, true, false, not, ◌&&◌, List, [], ◌∷◌, ◌++◌, length, refl, sym, ap, ◌∙◌}
+use Rattle.std.proofs.Common.{map, filter, find}
+use Rattle.std.proofs.lemmas.Bool.{and_parts, eq-eqb, eqb-true, cases_Bool}
+use Rattle.std.proofs.Common.{inl, inr}
+use Rattle.std.specs.Prelude.{if◌then◌else◌, ◌==◌, Option, Some, None, option_map, ⊤}
+use Rattle.tl_beat.specs.declared.beat.Link.{Link}
+use Rattle.tl_params.specs.declared.level.Level.{Level}
+use Rattle.tl_params.specs.declared.liberties.Liberties.{Liberties}
+use Rattle.tl_together.specs.declared.judge.Judge.{Judge}
+use Rattle.tl_together.specs.statement.Knows.{Knows}
+use Rattle.tl_commits.specs.code.Loading.{ArePieces, AreRenewed, IsLoading, is_of}
+use Rattle.tl_commits.specs.code.Loading.{renewed}
+use Rattle.tl_commits.specs.declared.commit.Event.{Event}
+use Rattle.tl_commits.specs.declared.commit.Piece.{Piece}
+use Rattle.tl_commits.specs.declared.loading.Loading.{Loading}
+use Rattle.tl_commits.specs.statement.CommitLine.{IsPiece}
+use Rattle.tl_commits.specs.statement.Events.{Events, beats_of, begins_load, is_load, is_loading, same_piece, since_begun}
+
+-- ---- keys
+
+-- the load is of this link and piece
+pub record HasKey (x : Loading) (link : ℕ) (piece : Piece) : Type 0 where
+  pub link_is : x.link.0 ≡ link
+  pub piece_is : x.piece ≡ piece
+
+pub same-piece-is : (p q : Piece) → same_piece p q ≡ true → p ≡ q
+same-piece-is p q e =
+    let both = and_parts (p.size == q.size) (p.address == q.address) e in
+    let size : p.size ≡ q.size = eqb-true p.size q.size both.0 in
+    let address : p.address ≡ q.address = eqb-true p.address q.address both.1 in
+    made p.size q.size p.address q.address size address
+  where
+    piece_of : ℕ → ℕ → Piece
+    piece_of size address = record { size = size; address = address }
+
+    made : (s t a b : ℕ) → s ≡ t → a ≡ b → piece_of s a ≡ piece_of t b
+    made s t a b e f = rw (e, f) refl
+
+pub key-of : (x : Loading) (link : ℕ) (piece : Piece) → is_of link piece x ≡ true → HasKey x link piece
+key-of x link piece e =
+    let both = and_parts (x.link.0 == link) (same_piece x.piece piece) e in
+    record { link_is = eqb-true x.link.0 link both.0; piece_is = same-piece-is x.piece piece both.1 }
+
+-- the load that is found, if there is one, is of this link and piece
+abbrev pub HasKeyIfAny : Option Loading → ℕ → Piece → Type 0
+HasKeyIfAny None link piece = ⊤
+HasKeyIfAny (Some x) link piece = HasKey x link piece
+
+pub found-key : (link : ℕ) (piece : Piece) (loads : List Loading) → HasKeyIfAny (find (is_of link piece) loads) link piece
+found-key link piece [] = tt
+found-key link piece (x ∷ loads) = go (is_of link piece x) (found-key link piece loads) refl
+  where
+    go : (b : Bool) → HasKeyIfAny (find (is_of link piece) loads) link piece → is_of link piece x ≡ b
+        → HasKeyIfAny (if b then Some x else find (is_of link piece) loads) link piece
+    go true rest e = key-of x link piece e
+    go false rest e = rest
+
+-- ---- one load, after one more event
+
+module _ {w : ℕ} (link : ℕ) (piece : Piece) (x : Link × Event w) (e : Events w) where
+  -- an event that neither begins nor ends the load
+  pub goes-on : (o : Option Loading) → HasKeyIfAny o link piece → IsLoading o link piece e
+      → begins_load link piece x ≡ false → is_load link piece x ≡ false
+      → IsLoading (option_map (renewed (x ∷ e)) o) link piece (x ∷ e)
+  unfolding is_loading since_begun
+  goes-on None key is no_begin no_end = rw (no_begin, no_end, is) refl
+  goes-on (Some y) key is no_begin no_end = (
+    rw (no_begin, no_end, is.0) refl,
+    rw (no_begin, key.link_is, key.piece_is, is.1) refl,
+  )
+
+  -- the event begins it
+  pub has-begun : (y : Loading) → HasKey y link piece → y.loadable ≡ false → begins_load link piece x ≡ true
+      → IsLoading (Some (renewed (x ∷ e) y)) link piece (x ∷ e)
+  unfolding is_loading since_begun
+  has-begun y key none begins = (rw begins refl, rw (begins, key.link_is, key.piece_is, none) refl)
+
+  -- the event ends it
+  pub has-ended : begins_load link piece x ≡ false → is_load link piece x ≡ true → IsLoading None link piece (x ∷ e)
+  unfolding is_loading
+  has-ended no_begin ends = rw (no_begin, ends) refl
+
+-- ---- all loads
+
+-- what is found among changed loads that keep their keys
+pub found-map : (change : Loading → Loading) (link : ℕ) (piece : Piece) → ((x : Loading) → is_of link piece (change x) ≡ is_of link piece x)
+    → (loads : List Loading)
+    → find (is_of link piece) (map change loads) ≡ option_map change (find (is_of link piece) loads)
+found-map change link piece same [] = refl
+found-map change link piece same (x ∷ loads) =
+    rw (same x) (go (is_of link piece x) (found-map change link piece same loads))
+  where
+    go : (b : Bool) {found : Option Loading} → found ≡ option_map change (find (is_of link piece) loads)
+        → (if b then Some (change x) else found) ≡ option_map change (if b then Some x else find (is_of link piece) loads)
+    go true e = refl
+    go false e = e
+
+-- each load is renewed
+pub all-renewed : {w : ℕ} (judge : Judge w) (levels : List Level) (l : Liberties) (e : Events w) (old new : List Loading)
+    → AreRenewed judge old new → Knows judge levels l (beats_of e) false → ArePieces (length levels) old
+    → new ≡ map (renewed e) old
+all-renewed judge levels l e [] [] are k pieces = refl
+all-renewed judge levels l e (x ∷ old) (y ∷ new) are k pieces =
+    rw (are.0 levels l e k pieces.0.0 pieces.0.1, all-renewed judge levels l e old new are.1 k pieces.1) refl
+all-renewed judge levels l e [] (y ∷ new) are k pieces = absurd are
+all-renewed judge levels l e (x ∷ old) [] are k pieces = absurd are
+
+-- they stay loads of pieces
+pub pieces-map : (n : ℕ) (change : Loading → Loading) → ((x : Loading) → (change x).link ≡ x.link)
+    → ((x : Loading) → (change x).piece ≡ x.piece) → (loads : List Loading) → ArePieces n loads
+    → ArePieces n (map change loads)
+pieces-map n change links pieces [] are = tt
+pieces-map n change links pieces (x ∷ loads) are = (
+  (rw (links x) are.0.0, rw (pieces x) are.0.1),
+  pieces-map n change links pieces loads are.1,
+)
+
+pub pieces-filter : (n : ℕ) (keep : Loading → Bool) (loads : List Loading) → ArePieces n loads
+    → ArePieces n (filter keep loads)
+pieces-filter n keep [] are = tt
+pieces-filter n keep (x ∷ loads) are = go (keep x) (pieces-filter n keep loads are.1)
+  where
+    go : (b : Bool) → ArePieces n (filter keep loads) → ArePieces n (if b then x ∷ filter keep loads else filter keep loads)
+    go true rest = (are.0, rest)
+    go false rest = rest
+
+pub pieces-more : (n : ℕ) (x : Loading) (loads : List Loading) → (x.link.0 < n) × IsPiece x.piece → ArePieces n loads
+    → ArePieces n (loads ++ x ∷ [])
+pieces-more n x [] is are = (is, tt)
+pieces-more n x (y ∷ loads) is are = (are.0, pieces-more n x loads is are.1)
+
+-- ---- keys that differ
+
+pub same-self : (link : ℕ) (piece : Piece) → ((link == link) && same_piece piece piece) ≡ true
+same-self link piece =
+    rw (eq-eqb link link refl, eq-eqb piece.size piece.size refl, eq-eqb piece.address piece.address refl) refl
+
+pub other-key : (from link : ℕ) (own piece : Piece) → ((from == link) && same_piece own piece) ≡ false → (y : Loading)
+    → is_of link piece y ≡ true → is_of from own y ≡ false
+other-key from link own piece apart y on = elim (cases_Bool (is_of from own y)) [
+  | inl both ↦ absurd
+      (let a = key-of y from own both in
+      let b = key-of y link piece on in
+      let links : from ≡ link = sym a.link_is ∙ b.link_is in
+      let pieces : own ≡ piece = sym a.piece_is ∙ b.piece_is in
+      let same : ((from == link) && same_piece own piece) ≡ true = rw (links, pieces) (same-self link piece) in
+      let no : true ≡ false = sym same ∙ apart in cc)
+  | inr off ↦ off
+]
+
+module _ (p q : Loading → Bool) where
+  -- what another test leaves out
+  pub find-kept : ((y : Loading) → p y ≡ true → q y ≡ false) → (loads : List Loading)
+      → find p (filter (λ y. not (q y)) loads) ≡ find p loads
+  find-kept apart [] = refl
+  find-kept apart (y ∷ loads) = elim (cases_Bool (p y)) [
+    | inl on ↦ rw (apart y on, on) refl
+    | inr off ↦ go (q y) (find-kept apart loads) off
+  ]
+    where
+      go : (b : Bool) → find p (filter (λ y. not (q y)) loads) ≡ find p loads → p y ≡ false
+          → find p (if not b then y ∷ filter (λ y. not (q y)) loads else filter (λ y. not (q y)) loads)
+          ≡ (if p y then Some y else find p loads)
+      go true rest off = rw off rest
+      go false rest off = rw off rest
+
+-- none is found of those that a test leaves out
+pub find-gone : (p : Loading → Bool) (loads : List Loading) → find p (filter (λ y. not (p y)) loads) ≡ None
+find-gone p [] = refl
+find-gone p (y ∷ loads) = go (p y) refl (find-gone p loads)
+  where
+    go : (b : Bool) → p y ≡ b → find p (filter (λ y. not (p y)) loads) ≡ None
+        → find p (if not b then y ∷ filter (λ y. not (p y)) loads else filter (λ y. not (p y)) loads) ≡ None
+    go true on rest = rest
+    go false off rest = rw off rest
+
+-- one more at the end
+pub find-more : (p : Loading → Bool) (x : Loading) (loads : List Loading) → p x ≡ false
+    → find p (loads ++ x ∷ []) ≡ find p loads
+find-more p x [] off = rw off refl
+find-more p x (y ∷ loads) off = ap (λ (o : Option Loading). if p y then Some y else o) (find-more p x loads off)
+
+pub find-last : (p : Loading → Bool) (x : Loading) (loads : List Loading) → p x ≡ true → find p loads ≡ None
+    → find p (loads ++ x ∷ []) ≡ Some x
+find-last p x [] on none = rw on refl
+find-last p x (y ∷ loads) on none = go (p y) (find-last p x loads on) none
+  where
+    go : (b : Bool) → (find p loads ≡ None → find p (loads ++ x ∷ []) ≡ Some x)
+        → (if b then Some y else find p loads) ≡ None
+        → (if b then Some y else find p (loads ++ x ∷ [])) ≡ Some x
+    go true rest f = absurd cc
+    go false rest f = rest f

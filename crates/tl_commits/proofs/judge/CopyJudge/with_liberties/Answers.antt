@@ -1,0 +1,15 @@
+use Rattle.std.proofs.Common.{length}
+use Rattle.tl_commits.specs.statement.Events.{beats_of}
+use Rattle.tl_commits.proofs.LoadsNext.{no-loads}
+use Rattle.tl_commits.proofs.judge.CopyJudge.with_liberties.Goals as goal
+
+pub returns : goal.returns
+unfolding beats_of
+returns g c = (
+  c.in-Ok.ensures.0,
+  record {
+    judge_is = c.in-Ok.ensures.1;
+    levels_are = c.in-Ok-from_slice.ensures.items;
+    loads_are = rw c.new.ensures.items (no-loads (length c.args.levels.now));
+  },
+)

@@ -1,0 +1,77 @@
+-- The state of a judge of beats and copies after the events of a trace.
+use Rattle.std.specs.Prelude.{ℕ, Bool, false, List, [], ◌∷◌, ◌≡◌, if◌then◌else◌, length, Option, Some, None, Result, Ok, Err, ⊤}
+use Rattle.std.specs.Prelude.{slice_get}
+use Rattle.tl_beat.specs.declared.beat.Link.{Link}
+use Rattle.tl_params.specs.declared.level.Level.{Level}
+use Rattle.tl_params.specs.declared.liberties.Liberties.{Liberties}
+use Rattle.tl_params.specs.declared.rule.Rule.TheVariants.{L1}
+use Rattle.tl_params.specs.statement.Config.{IsCount}
+use Rattle.tl_together.specs.declared.breach.Breach.TheVariants.{OfLink}
+use Rattle.tl_together.specs.statement.Coherence.{broken_together}
+use Rattle.tl_together.specs.statement.Knows.{Knows}
+use Rattle.tl_commits.specs.code.Loading.{KnowsLoads}
+use Rattle.tl_commits.specs.declared.commit.Commit.{Commit}
+use Rattle.tl_commits.specs.declared.commit.Commit.TheVariants as commit
+use Rattle.tl_commits.specs.declared.commit.Event.{Event}
+use Rattle.tl_commits.specs.declared.commit.Event.TheVariants as event
+use Rattle.tl_commits.specs.declared.fault.CommitFault.{CommitFault}
+use Rattle.tl_commits.specs.declared.fault.CommitFault.TheVariants as fault
+use Rattle.tl_commits.specs.declared.judge.CopyJudge.{CopyJudge}
+use Rattle.tl_commits.specs.declared.rule.CommitBreach.{CommitBreach}
+use Rattle.tl_commits.specs.declared.rule.CommitBreach.TheVariants.{OfBeats, OfCommits}
+use Rattle.tl_commits.specs.declared.rule.CommitRule.{CommitRule}
+use Rattle.tl_commits.specs.declared.rule.CommitRule.TheVariants.{M5}
+use Rattle.tl_commits.specs.statement.Breaches.{breach_of, broken_event, has_cache}
+use Rattle.tl_commits.specs.statement.CommitLine.{IsCommit}
+use Rattle.tl_commits.specs.statement.Commits.{broken_store, lacks_copy}
+use Rattle.tl_commits.specs.statement.Events.{Events, beats_of}
+
+-- M5, if a commit breaks it
+abbrev pub lacking : {w : ℕ} → Link → Commit → Events w → Option CommitRule
+lacking link (commit.Store piece value) e = broken_store link.0 piece e
+lacking link (commit.Load piece value) e = if lacks_copy link.0 piece e then Some M5 else None
+lacking link (commit.Begin piece) e = None
+
+-- the first of these rules that an event breaks: of a beat, the rules of beats alone; of a commit, L1 and M5
+abbrev pub broken_copy : {w : ℕ} → List Level → Liberties → Link → Event w → Events w → Option CommitBreach
+broken_copy levels l link (event.Beat x) e = breach_of (broken_together levels l (link, x) (beats_of e)) None
+broken_copy levels l link (event.Commit x) e =
+    if has_cache (slice_get levels link.0) then breach_of None (lacking link x e) else Some (OfBeats (OfLink L1))
+
+-- Of a commit these rules come first: it breaks no other before one of them, and M5 only as they say.
+abbrev pub CopiesFirst : ℕ → Type 0
+CopiesFirst w = (levels : List Level) (complete : List Bool) (l : Liberties) (link : Link) (x : Commit) (e : Events w)
+    → ((breach : CommitBreach) → broken_copy levels l link (event.Commit x) e ≡ Some breach
+    → broken_event levels complete l link (event.Commit x) e ≡ Some breach)
+    × (broken_event levels complete l link (event.Commit x) e ≡ Some (OfCommits M5)
+    → broken_copy levels l link (event.Commit x) e ≡ Some (OfCommits M5))
+
+-- the judge has these levels and liberties, and the state that these rules need after the events, the newest first
+pub record KnowsCopies {w : ℕ} (j : CopyJudge w) (levels : List Level) (l : Liberties) (e : Events w) : Type 0 where
+  pub judge_is : Knows j.judge levels l (beats_of e) false
+  pub levels_are : j.levels.items ≡ levels
+  pub loads_are : KnowsLoads j.loads.items (length levels) e
+
+-- a new judge, or the reason why there is none
+abbrev pub IsNew : {w : ℕ} → List Level → Liberties → Result (CopyJudge w) CommitFault → Type 0
+IsNew levels l (Ok j) = IsCount (length levels) × KnowsCopies j levels l []
+IsNew levels l (Err fault.Levels) = ¬ IsCount (length levels)
+IsNew levels l (Err fault.Memory) = IsCount (length levels)
+IsNew levels l (Err _) = ⊥
+
+-- a commit is of a piece that a line can spell
+abbrev pub IsEvent : {w : ℕ} → Event w → Type 0
+IsEvent (event.Beat x) = ⊤
+IsEvent (event.Commit x) = IsCommit x
+
+-- the answer to an event with this breach, or with none; Memory may be the answer in any case
+abbrev pub Answers : Option CommitBreach → Result ⊤ CommitFault → Type 0
+Answers breach (Ok u) = breach ≡ None
+Answers breach (Err (fault.Broken found)) = breach ≡ Some found
+Answers breach (Err fault.Memory) = ⊤
+Answers breach (Err fault.Levels) = ⊥
+
+-- the trace after an answer: only an event that was taken is added
+abbrev pub recorded_after : {w : ℕ} → Result ⊤ CommitFault → Link × Event w → Events w → Events w
+recorded_after (Ok u) x e = x ∷ e
+recorded_after (Err found) x e = e

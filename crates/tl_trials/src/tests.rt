@@ -14,3 +14,4 @@ mod monitors;
 mod outcomes;
 mod params;
 mod performs;
+mod wide;

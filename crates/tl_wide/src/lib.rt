@@ -6,8 +6,6 @@ pub mod narrow;
 pub mod numbers;
 pub mod parts;
 pub mod read;
-#[cfg(test)]
-mod tests;
 pub mod text;
 pub mod width;
 pub mod write;

@@ -1,12 +1,12 @@
-//! Tests of calls whose contracts a body that always fails would meet too.
+//! Calls of tl_wide whose contracts a body that always fails would meet too.
 
-use crate::beat::{WideBeat, WideBeatA};
-use crate::narrow::Narrower;
-use crate::numbers::Numbers;
-use crate::read::read_wide_into;
-use crate::write::write_wide_line;
 use tl_beat::beat::{Beat, BeatA, Link};
 use tl_beat::opcode::OpA;
+use tl_wide::beat::{WideBeat, WideBeatA};
+use tl_wide::narrow::Narrower;
+use tl_wide::numbers::Numbers;
+use tl_wide::read::read_wide_into;
+use tl_wide::write::write_wide_line;
 
 const LINE: &[u8] =
     b"01 A 0 0 5 01ff 0000000180000020 ffffffff 5a5a5a5a5a5a5a5a5a5a5a5a5a5a5a5a3c3c3c3c3c3c3c3c3c3c3c3c3c3c3c3c 0\n";

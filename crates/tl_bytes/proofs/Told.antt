@@ -12,7 +12,7 @@ use Rattle.tl_beat.{specs.declared.beat.BeatD.BeatD, specs.declared.channel.Chan
 use Rattle.tl_params.specs.declared.perm.Perm.{Perm}
 use Rattle.tl_bytes.specs.declared.{known_bytes.KnownBytes.KnownBytes, latest.Latest.Latest}
 use Rattle.tl_bytes.specs.statement.KnownBytes.{known_at}
-use Rattle.tl_bytes.specs.code.Tellings.{displaced, is_displaced, is_written, outlived, stays, telling_at, value_at}
+use Rattle.tl_bytes.specs.code.Tellings.{by_standing, displaced, is_displaced, is_written, outlived, stays, telling_at, value_at}
 use Rattle.tl_bytes.specs.code.Tellings.{written_at}
 use Rattle.tl_bytes.specs.declared.standing.Standing.{Standing}
 use Rattle.tl_bytes.specs.statement.Bytes.{access_writes, after_settling, after_write, could_be, ends_request, is_of}
@@ -34,11 +34,11 @@ tellings-append p (x ∷ xs) ys = one (x.place == p) x.telling _ _ _ (tellings-a
 
 module _ (write : Write) (since : ℕ) where
   -- what was told of a place that is written stays where it is told otherwise, and no sooner
-  abbrev stays_at : ℕ → Telling → Bool
+  abbrev pub stays_at : ℕ → Telling → Bool
   stays_at p e = nat_le since e.moment && not (same_value e.value (value_at write p))
 
   -- of a place that isn't written all stays
-  stays-all : (p : ℕ) (before : List Told) → is_written write p ≡ false
+  pub stays-all : (p : ℕ) (before : List Told) → is_written write p ≡ false
       → tellings_at p (filter (stays write since) before) ≡ tellings_at p before
   unfolding tellings_at
   stays-all p [] off = refl
@@ -51,7 +51,7 @@ module _ (write : Write) (since : ℕ) where
   ]
 
   -- and of one that is, so much
-  stays-some : (p : ℕ) (before : List Told) → is_written write p ≡ true
+  pub stays-some : (p : ℕ) (before : List Told) → is_written write p ≡ true
       → tellings_at p (filter (stays write since) before) ≡ filter (stays_at p) (tellings_at p before)
   unfolding tellings_at
   stays-some p [] on = refl
@@ -202,12 +202,7 @@ copy-known a b n block t latest earlier last k = record {
 }
 
 -- what a byte may be when an access was answered that writes it, by how that stands
-abbrev by_standing : Standing → Telling → List Telling → List Telling
-by_standing Standing.Told now before = before
-by_standing (Standing.Within began) now before = told_too now (filter (λ e. nat_le began e.moment) before)
-by_standing Standing.Anywhere now before = told_too now before
-
-by-standing : {w : ℕ} (n block : ℕ) (access : Access w) (denied : Bool) (now : Telling) (t : Trace w)
+pub by-standing : {w : ℕ} (n block : ℕ) (access : Access w) (denied : Bool) (now : Telling) (t : Trace w)
     (before : List Telling)
     → after_write n block access denied now t before ≡ by_standing (standing_of n block access denied t) now before
 by-standing n block access denied now t before =
@@ -245,7 +240,7 @@ may_be-written n block p link y access t lt quiet ended found none =
     }) t (may_be n (64 * block + p) t)))
 
 -- what was told no sooner, and not the same
-once : (since : ℕ) (value : Option ℕ) (before : List Telling)
+pub once : (since : ℕ) (value : Option ℕ) (before : List Telling)
     → filter (λ e. nat_le since e.moment && not (same_value e.value value)) before
     ≡ filter (λ e. not (same_value e.value value)) (filter (λ e. nat_le since e.moment) before)
 once since value [] = refl
@@ -327,7 +322,7 @@ written-within write moment since p old new lt latest earlier =
           (telling_at old.latest p ∷ tellings_at p old.earlier.items)))
     ]
 
-all-later : (before : List Telling) → filter (λ e. nat_le 0 e.moment) before ≡ before
+pub all-later : (before : List Telling) → filter (λ e. nat_le 0 e.moment) before ≡ before
 all-later [] = refl
 all-later (e ∷ before) = rw (leb-zero e.moment) (ap (λ l. e ∷ l) (all-later before))
 

@@ -9,6 +9,6 @@ pub mod lines;
 pub mod read_bytes;
 pub mod standing;
 pub mod telling;
-mod tellings;
+pub mod tellings;
 pub mod windows;
 pub mod write;

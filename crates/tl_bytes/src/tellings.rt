@@ -61,8 +61,13 @@ fn displace(
     Ok(())
 }
 
-/// Appends the earlier possible values that stay.
-fn keep(told: &mut Vec<Told>, write: &Write, since: u64, before: &[Told]) -> Result<(), AllocError>
+/// Appends those of these possible values that stay after a write. The error means that there is no memory left.
+pub fn keep(
+    told: &mut Vec<Told>,
+    write: &Write,
+    since: u64,
+    before: &[Told],
+) -> Result<(), AllocError>
     ensures { OnOk result (told.new.items ≡ told.old.items ++ filter (stays write.now since) before.now) }
 {
     for telling in before {

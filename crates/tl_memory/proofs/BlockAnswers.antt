@@ -87,7 +87,7 @@ none-of link source block asked (access ∷ accesses) are bare = (
   none-of link source block asked accesses are.1 bare,
 )
 
-none-found : {w : ℕ} (link source : ℕ) (asked : Request) (accesses : List (Access w))
+pub none-found : {w : ℕ} (link source : ℕ) (asked : Request) (accesses : List (Access w))
     → AreAsked link source asked accesses → is_access asked.opcode ≡ false → find (is_of link source) accesses ≡ None
 none-found link source asked [] are bare = refl
 none-found link source asked (access ∷ accesses) are bare =
@@ -153,7 +153,7 @@ settles-later link y past out more = rw more (go (is_release_ack y.opcode))
     go false = refl
 
 -- no access is settled with the answer to what is none
-settles-bare : {w : ℕ} (link : Link) (y : BeatD w) (asked : Request) (t : Trace w) → IsResponse link.0 y asked t
+pub settles-bare : {w : ℕ} (link : Link) (y : BeatD w) (asked : Request) (t : Trace w) → IsResponse link.0 y asked t
     → is_access asked.opcode ≡ false
     → settled_by link.0 (Beat.D y) (on_link link.0 t) (outrun_accesses t) ≡ None
 settles-bare link y asked t is bare = rw (is.bare bare) (go (ends_request y (on_link link.0 t)))
@@ -336,7 +336,7 @@ unsettles-answer block link y t late none reach =
 
 -- ---- Grants that may be in doubt
 
-tells-given : {w : ℕ} (y : BeatD w) (asked : OpA) → tells_response y asked ≡ true → is_grant y.opcode ≡ true
+pub tells-given : {w : ℕ} (y : BeatD w) (asked : OpA) → tells_response y asked ≡ true → is_grant y.opcode ≡ true
 tells-given y asked told = tells-grant y.opcode asked (and_parts (not y.denied) (tells_block y.opcode asked) told).1
 
 -- a Grant that sets bytes is overtaken, where that is kept

@@ -6,6 +6,7 @@ pub mod Bearing
 pub mod Beginning
 pub mod BlockAnswers
 pub mod Borne
+pub mod ByteChanges
 pub mod Complete
 pub mod EarlyMessages
 pub mod Elsewhere

@@ -1,4 +1,5 @@
 pub mod Blocks
+pub mod ByteChanges
 pub mod Expecting
 pub mod Known
 pub mod Links

@@ -7,6 +7,7 @@ pub mod begun;
 pub mod block;
 pub mod blocks;
 mod boxed;
+pub mod byte_change;
 pub mod early;
 pub mod expected;
 pub mod free;

@@ -15,13 +15,16 @@ ghost use Rattle.tl_bytes.specs.statement.Bytes as bytes;
 ghost use Rattle.tl_bytes.specs.statement.Lines.{told_moment};
 ghost use Rattle.tl_memory.specs.code.Elsewhere as elsewhere;
 ghost use Rattle.tl_memory.specs.code.Lines.{told_by};
-ghost use Rattle.tl_memory.specs.code.Taking.{request_answered};
+ghost use Rattle.tl_memory.specs.code.Taking.{IsLegalBeat, request_answered};
+ghost use Rattle.tl_memory.specs.statement.ByteChanges.{AreByteChanges, IsByteChange};
 ghost use Rattle.tl_memory.specs.statement.Links.{KnowsMessages};
 ghost use Rattle.tl_rules.specs.code.Open.{open_request};
 
 use crate::begun::begun_with;
+use crate::block::BlockState;
 use crate::blocks::Blocks;
 use crate::boxed::{boxed, unboxed};
+use crate::byte_change::{ByteChange, byte_change};
 use crate::expected::Expected;
 use crate::free::Freedom;
 use crate::link::LinkMessages;
@@ -339,6 +342,56 @@ impl<const W: usize> Memory<W> {
             None => None,
             Some(state) => Some(&state.messages),
         }
+    }
+
+    /// The change that a beat makes to the bytes of this block, which it concerns. `messages` are the unfinished messages
+    /// of its link.
+    fn change_in(
+        &self,
+        block: u32,
+        link: Link,
+        x: &Beat<W>,
+        asked: Option<Request>,
+        messages: &LinkMessages,
+    ) -> ByteChange
+        requires width { IsWidth W }
+        requires small { IsTrue (Part.is_small x.now) }
+        ensures { (n : ℕ) (t : Trace W) → KnowsMemory self.now n t → KnowsMessages messages.now (on_link link.0 t) →
+            IsLegalBeat link.0 x.now t → asked ≡ request_answered x.now (on_link link.0 t) →
+            elsewhere.block_borne x.now (on_link link.0 t) ≡ Some block →
+            IsByteChange result n block (link, x.now) t }
+    {
+        match self.blocks.get(block) {
+            Some(state) => byte_change(state, link, x, asked, messages),
+            None => byte_change(&BlockState::new(self.alloc), link, x, asked, messages),
+        }
+    }
+
+    /// The change that a beat makes to the possible values of the bytes of a block, whatever they were before it, and
+    /// that block. None if it concerns no block. `asked` is the request that it answers, if it is a response to one.
+    pub fn byte_change(
+        &self,
+        link: Link,
+        x: &Beat<W>,
+        asked: Option<Request>,
+    ) -> Option<(u32, ByteChange)>
+        requires { IsWidth W }
+        ensures { (levels : List Level) (t : Trace W) → KnowsMemory self.now (length levels) t → AreLegal levels t →
+            IsLegal levels (link, x.now) t → asked ≡ request_answered x.now (on_link link.0 t) →
+            AreByteChanges result (length levels) (link, x.now) t }
+    {
+        prove_typed(x);
+        if !is_small(x) {
+            return None;
+        }
+        let Some(known) = self.links.get(link) else {
+            return None;
+        };
+        let Some(block) = block_borne(x, asked, &known.messages) else {
+            return None;
+        };
+        let change = self.change_in(block, link, x, asked, &known.messages);
+        Some((block, change))
     }
 
     /// The number of beats that have come of the unfinished message on channel D of a link.

@@ -97,7 +97,7 @@ fn after_outrun_request<const W: usize>(
 }
 
 /// Whether the last beat of a report sets its block's bytes: it has data, and belongs to no Release that was answered.
-fn says<const W: usize>(y: &BeatC<W>, messages: &LinkMessages) -> bool
+pub(crate) fn says<const W: usize>(y: &BeatC<W>, messages: &LinkMessages) -> bool
     ensures { result ≡ (c_carries_data y.now.opcode && not (is_answered messages.now.releasing)) }
 {
     both(y.opcode.carries_data(), !messages.is_released())
@@ -145,7 +145,7 @@ fn tells_block(opcode: OpD, asked: OpA) -> bool
 }
 
 /// Whether a response to such a request sets the block's bytes. A denied one doesn't.
-fn tells<const W: usize>(y: &BeatD<W>, asked: OpA) -> bool
+pub(crate) fn tells<const W: usize>(y: &BeatD<W>, asked: OpA) -> bool
     ensures { result ≡ taking.tells_response y.now asked }
 {
     both(!y.denied, tells_block(y.opcode, asked))

@@ -10,9 +10,10 @@ ghost use Rattle.tl_burst.specs.statement.Messages.{unfinished};
 ghost use Rattle.tl_bytes.specs.statement.Bytes.{may_be};
 ghost use Rattle.tl_bytes.specs.statement.Free.{may_hold};
 ghost use Rattle.tl_bytes.specs.statement.Lines.{told_moment};
-ghost use Rattle.tl_memory.specs.code.Changing.{IsChange};
+ghost use Rattle.tl_memory.specs.code.Changing.{IsChange, KnowsFree};
 ghost use Rattle.tl_memory.specs.code.Lines.{told_by};
 ghost use Rattle.tl_memory.specs.statement.Blocks.{state_in};
+ghost use Rattle.tl_memory.specs.statement.ByteChanges.{AreByteChanges};
 ghost use Rattle.tl_memory.specs.statement.Expecting.{ExpectsBeat};
 ghost use Rattle.tl_memory.specs.statement.Links.{KeepsRules, KnowsMessages};
 ghost use Rattle.tl_params.specs.declared.level.Level.{Level};
@@ -20,18 +21,21 @@ ghost use Rattle.tl_params.specs.declared.liberties.Liberties.{Liberties};
 ghost use Rattle.tl_rules.specs.code.Open.{open_request};
 ghost use Rattle.tl_rules.specs.statement.Conformance.{Trace, on_link};
 ghost use Rattle.tl_monitor.specs.statement.Granting.{coming_on};
-ghost use Rattle.tl_monitor.specs.statement.Knows.{begins_on, request_on};
+ghost use Rattle.tl_monitor.specs.statement.Knows.{begins_on, probe_on, request_on};
 ghost use Rattle.tl_monitor.specs.statement.Reporting.{report_on};
 ghost use Rattle.tl_together.specs.code.Windows.{asked_at};
+ghost use Rattle.tl_together.specs.statement.Coherence.{broken_together};
 
+use crate::breach::Breach;
 use crate::fault::JudgeFault;
 use crate::judge::{Judge, answered, asked_in};
 use tl_beat::beat::{Beat, Link};
 use tl_beat::control::ControlC;
+use tl_memory::byte_change::ByteChange;
 use tl_memory::expected::Expected;
 use tl_memory::link::LinkMessages;
 use tl_memory::memory::Change;
-use tl_rules::past::Request;
+use tl_rules::past::{Probe, Request};
 use tl_rules::perm::Perm;
 
 impl<const W: usize> Judge<W> {
@@ -79,6 +83,14 @@ impl<const W: usize> Judge<W> {
         self.monitor.report(link)
     }
 
+    /// The pending Probe of a block on a link. None on a link without a level.
+    pub fn probe(&self, link: Link, block: u32) -> Option<Probe>
+        ensures { (levels : List Level) (l : Liberties) (t : Trace W) → Knows self.now levels l t false →
+            result ≡ probe_on levels link block t }
+    {
+        self.monitor.probe(link, block)
+    }
+
     /// The unfinished messages on channels A, C and D of a link. None if there is no such link.
     pub fn messages(&self, link: Link) -> Option<&LinkMessages>
         ensures { (levels : List Level) (l : Liberties) (t : Trace W) → Knows self.now levels l t false →
@@ -107,6 +119,8 @@ impl<const W: usize> Judge<W> {
         ensures change { IfOk result (λ change. (levels : List Level) (l : Liberties) (t : Trace W) →
             Knows self.old levels l t false → KeepsRules l levels (link, beat.now) t →
             IsChange change self.new.memory (length levels) (link, beat.now) t) }
+        ensures free { IfOk result (λ change. (levels : List Level) (l : Liberties) (t : Trace W) →
+            Knows self.old levels l t false → KnowsFree change (length levels) t) }
     {
         let Some(next) = self.moment.checked_add(1) else {
             return Err(JudgeFault::Memory);
@@ -118,6 +132,35 @@ impl<const W: usize> Judge<W> {
         }
     }
 
+    /// The first rule that a beat breaks. The judge still knows its trace. The error is as that of `change`.
+    pub fn broken(&mut self, link: Link, beat: &Beat<W>) -> Result<Option<Breach>, JudgeFault>
+        requires { IsWidth W }
+        ensures knows { (levels : List Level) (l : Liberties) (t : Trace W) (closed : Bool) →
+            Knows self.old levels l t closed → Knows self.new levels l t closed }
+        ensures broken { IfOk result (λ breach. (levels : List Level) (l : Liberties) (t : Trace W) →
+            Knows self.old levels l t false → breach ≡ broken_together levels l (link, beat.now) t) }
+    {
+        if let Some(rule) = self.monitor.broken_under(link, beat) {
+            return Ok(Some(Breach::OfLink(rule)));
+        }
+        let change = self.change(link, beat)?;
+        match self.broken_memory(&change, link, beat) {
+            Some(rule) => Ok(Some(Breach::OfMemory(rule))),
+            None => Ok(None),
+        }
+    }
+
+    /// The change that a beat makes to the possible values of the bytes of a block, whatever they were before it, and
+    /// that block. None if it concerns no block.
+    pub fn byte_change(&self, link: Link, beat: &Beat<W>) -> Option<(u32, ByteChange)>
+        requires { IsWidth W }
+        ensures { (levels : List Level) (l : Liberties) (t : Trace W) → Knows self.now levels l t false →
+            KeepsRules l levels (link, beat.now) t → AreByteChanges result (length levels) (link, beat.now) t }
+    {
+        let asked = answered(&self.monitor, link, beat);
+        self.memory.byte_change(link, beat, asked)
+    }
+
     /// The bytes that the response whose beat is next on a link may bring, if the beat makes this change.
     pub fn expected<'a>(&'a self, change: &'a Change<W>, link: Link) -> Option<&'a Expected>
         ensures { (levels : List Level) (l : Liberties) (x : BeatD W) (t : Trace W) → Knows self.now levels l t false →
@@ -127,6 +170,14 @@ impl<const W: usize> Judge<W> {
             (length (unfinished channel.D (on_link link.0 t))) t }
     {
         self.memory.expected(change, link)
+    }
+
+    /// The number of beats that were taken.
+    pub fn moment(&self) -> u64
+        ensures { (levels : List Level) (l : Liberties) (t : Trace W) → Knows self.now levels l t false →
+            result ≡ length t }
+    {
+        self.moment
     }
 
     /// The number of beats that have come of the unfinished message on channel D of a link.

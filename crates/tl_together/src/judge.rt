@@ -278,7 +278,12 @@ impl<const W: usize> Judge<W> {
 
     /// The rule of memory that a beat breaks, if it breaks none of its link. `change` is the change to the state of
     /// memory that the beat makes.
-    fn broken_memory(&self, change: &Change<W>, link: Link, beat: &Beat<W>) -> Option<MemoryRule>
+    pub(crate) fn broken_memory(
+        &self,
+        change: &Change<W>,
+        link: Link,
+        beat: &Beat<W>,
+    ) -> Option<MemoryRule>
         requires { IsWidth W }
         ensures { (levels : List Level) (l : Liberties) (t : Trace W) →
             KnowsTrace self.now levels l t → KnowsFree change.now (length levels) t →

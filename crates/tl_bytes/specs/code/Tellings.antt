@@ -8,10 +8,12 @@ use Rattle.tl_bytes.specs.declared.known_bytes.KnownBytes.{KnownBytes}
 use Rattle.tl_bytes.specs.declared.latest.Latest.{Latest}
 use Rattle.tl_bytes.specs.declared.latest.Moments.{Moments}
 use Rattle.tl_bytes.specs.declared.latest.Moments.TheVariants as moments
+use Rattle.tl_bytes.specs.declared.standing.Standing.{Standing}
+use Rattle.tl_bytes.specs.declared.standing.Standing.TheVariants as stands
 use Rattle.tl_bytes.specs.declared.telling.Telling.{Telling}
 use Rattle.tl_bytes.specs.declared.telling.Told.{Told}
 use Rattle.tl_bytes.specs.declared.write.Write.{Write}
-use Rattle.tl_bytes.specs.statement.Bytes.{could_be, same_value}
+use Rattle.tl_bytes.specs.statement.Bytes.{could_be, same_value, told_too}
 use Rattle.tl_bytes.specs.statement.KnownBytes.{known_at}
 
 -- the place is written
@@ -69,6 +71,19 @@ outlived latest earlier write since = displaced 64 latest write since ++ filter 
 abbrev pub written_at : Latest → Write → ℕ → ℕ → Telling
 written_at latest write moment place =
     if is_written write place then record { value = value_at write place; moment = moment } else telling_at latest place
+
+-- the possible values of a byte when the answer to an access that writes it is complete, by the relation of the access
+-- to the block
+abbrev pub by_standing : Standing → Telling → List Telling → List Telling
+by_standing stands.Told now before = before
+by_standing (stands.Within began) now before = told_too now (filter (λ e. nat_le began e.moment) before)
+by_standing stands.Anywhere now before = told_too now before
+
+-- the possible values of the byte at a place with a write at this moment, by that relation
+abbrev pub with_write : Write → Standing → ℕ → ℕ → List Telling → List Telling
+with_write write s moment place before =
+    if is_written write place
+    then by_standing s (record { value = value_at write place; moment = moment }) before else before
 
 -- it may leave this byte at a place
 abbrev pub leaves : ℕ → ℕ → Write → Bool

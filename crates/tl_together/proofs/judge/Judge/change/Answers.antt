@@ -1,4 +1,4 @@
-use Rattle.std.proofs.Common.{◌≡◌, ◌+◌, refl, rules}
+use Rattle.std.proofs.Common.{◌≡◌, ◌+◌, length, refl, rules}
 use Rattle.tl_together.proofs.Judging.{next_moment, unnoted}
 use Rattle.tl_memory.proofs.LinkTables.{link-there}
 use Rattle.tl_together.proofs.Following.{followed, one_more}
@@ -21,3 +21,7 @@ returns-in-Ok-clause-change g c = λ levels may t k fine.
 pub returns-in-Err-clause-knows : goal.returns-in-Err-clause-knows
 returns-in-Err-clause-knows g c = λ levels may t closed k.
     unnoted c.args.self.now _ levels may t closed k refl refl refl refl refl refl c.change.ensures.known
+
+pub returns-in-Ok-clause-free : goal.returns-in-Ok-clause-free
+returns-in-Ok-clause-free g c = λ levels may t k.
+    c.in-Ok.ensures.free (length levels) t (k.open_knows refl).memory_is

@@ -1,0 +1,35 @@
+use Rattle.std.proofs.Common.{rules, arith, refl, sym, subst, ◌∙◌, ◌≡◌, true}
+use Rattle.std.specs.Prelude.{length, ◌∷◌}
+use Rattle.std.proofs.lemmas.Bool.{and_parts}
+use Rattle.tl_forgiving.proofs.Implied.{not-true}
+use Rattle.tl_beat.{specs.declared.beat.Beat.Beat, specs.declared.channel.Channel.Channel}
+use Rattle.tl_beat.{specs.statement.Opcode.c_carries_data}
+use Rattle.tl_burst.specs.statement.Messages.{unfinished}
+use Rattle.tl_rules.{specs.statement.Conformance.on_link, specs.statement.History.ends}
+use Rattle.tl_bytes.specs.statement.Early.{is_released}
+use Rattle.tl_bytes.specs.statement.Free.{all_liberties}
+use Rattle.tl_memory.specs.code.Early.{is_answered}
+use Rattle.tl_memory.proofs.Bearing.{report-tells}
+use Rattle.tl_memory.proofs.{EarlyMessages.released-is, Masks.few}
+use Rattle.tl_memory.proofs.byte_change.by_report.Goals as goal
+
+pub returns : goal.returns
+returns g c = λ n block link t messages is here.
+    let y = c.args.y.now in
+    let past = on_link link.0 t in
+    let burst = unfinished Channel.C past in
+    let short = few g.row.W (length burst) c.requires.width is.0.0 in
+    let yes : c.completes.result ≡ true = search rules in
+    let over : ends (Beat.C y) past ≡ true =
+    sym (c.completes.ensures burst messages.c_is (omega (arith, short))) ∙ yes in
+    let on : c.says.result ≡ true = search rules in
+    let says = and_parts (c_carries_data y.opcode) _ (sym c.says.ensures ∙ on) in
+    let late : is_released block (Beat.C y) past ≡ is_answered c.args.messages.now.releasing =
+    subst (λ b. is_released b (Beat.C y) past ≡ is_answered c.args.messages.now.releasing) here
+    (released-is all_liberties c.args.messages.now.releasing y past is.1 messages.releasing_is) in
+    let all = c.with-all.ensures burst messages.c_is is.0 in (
+      report-tells block link y t over says.0 here (late ∙ not-true _ says.1),
+      c.bytes.ensures g.row.W (Beat.C y ∷ burst) all.bytes_are,
+      refl,
+      λ p lt before. refl,
+    )

@@ -1,7 +1,7 @@
 //! Messages that may be answered before they are complete: the unfinished ones of a link, and the accesses whose answers
 //! outran their requests.
 
-ghost use Rattle.std.specs.Prelude.{ℕ, true, false, ◌+◌, ◌*◌, ◌<◌, ◌≤◌, ◌≡◌, ◌==◌, ◌++◌, None, Some, OnOk};
+ghost use Rattle.std.specs.Prelude.{ℕ, true, false, ◌+◌, ◌*◌, ◌%◌, ◌<◌, ◌≤◌, ◌≡◌, ◌==◌, ◌++◌, None, Some, OnOk};
 ghost use Rattle.tl_bytes.specs.code.Tellings.{is_written, value_at};
 ghost use Rattle.tl_burst.specs.statement.Burst.{reaches};
 ghost use Rattle.tl_memory.specs.code.Early as code;
@@ -74,6 +74,7 @@ fn mask_of(size: u8) -> u64
 
 /// The write of any values to the bytes of a request.
 pub fn any_write(asking: &Asking) -> Write
+    ensures first { result.first ≡ asking.now.address % 64 }
     ensures written { asking.now.size ≤ 6 → (place : ℕ) → place < 64 → is_written result place
         ≡ reaches asking.now.address asking.now.size (64 * block_at asking.now.address + place) }
     ensures any { (place : ℕ) → value_at result place ≡ None }

@@ -9,7 +9,8 @@ use crate::reason::cap_asked;
 use crate::recorder::Recorder;
 use crate::tell::tell_pending;
 use crate::told::Told;
-use crate::words::{address_of, append_told, perm_name};
+use crate::wording::Wording;
+use crate::words::{address_of, perm_name};
 use std::io;
 use std::io::Write;
 use tl_beat::beat::Beat;
@@ -39,7 +40,8 @@ fn unsaid(liberties: Liberties) -> &'static str {
 }
 
 /// Appends the permission held of a block, and the message that left it.
-pub fn tell_held<const W: usize>(
+pub fn tell_held<const W: usize, X: Wording<W>>(
+    wording: &X,
     liberties: Liberties,
     block: u32,
     held: &Held,
@@ -47,20 +49,18 @@ pub fn tell_held<const W: usize>(
 ) -> io::Result<()>
     requires { IsWidth W }
 {
-    let address = address_of(block);
+    out.write_all(b"  block ")?;
+    wording.append_address(address_of(block), out)?;
     let name = perm_name(held.perm);
     match &held.since {
         None => {
             let messages = unsaid(liberties);
-            write!(out, "  block {address:08x} is held as {name}: {messages}\n")
+            write!(out, " is held as {name}: {messages}\n")
         }
         Some(told) => {
-            let line = told.mention.line;
-            write!(
-                out,
-                "  block {address:08x} is held as {name} since line {line}:\n"
-            )?;
-            append_told::<W>(told, out)
+            let line = wording.line_of(told);
+            write!(out, " is held as {name} since line {line}:\n")?;
+            wording.append_told(told, out)
         }
     }
 }
@@ -94,17 +94,22 @@ fn append_releases(liberties: Liberties, perm: Perm, out: &mut Vec<u8>) -> io::R
 }
 
 /// Appends the pending Probe of the block, if there is one.
-fn tell_probe_besides<const W: usize>(record: &Recorder, out: &mut Vec<u8>) -> io::Result<()>
+fn tell_probe_besides<const W: usize, X: Wording<W>>(
+    wording: &X,
+    record: &Recorder,
+    out: &mut Vec<u8>,
+) -> io::Result<()>
     requires { IsWidth W }
 {
     match record.turns.probe.pending() {
         None => Ok(()),
-        Some(probe) => tell_pending::<W>(Key::ProbeOf(record.subject.block), &probe, out),
+        Some(probe) => { tell_pending(wording, Key::ProbeOf(record.subject.block), &probe, out) }
     }
 }
 
 /// Appends the permission held, if the param doesn't fit it.
-pub fn tell_holds<const W: usize>(
+pub fn tell_holds<const W: usize, X: Wording<W>>(
+    wording: &X,
     liberties: Liberties,
     beat: &Beat<W>,
     held: &Held,
@@ -113,8 +118,8 @@ pub fn tell_holds<const W: usize>(
 ) -> io::Result<()>
     requires { IsWidth W }
 {
-    tell_held::<W>(liberties, record.subject.block, held, out)?;
-    tell_probe_besides::<W>(record, out)?;
+    tell_held(wording, liberties, record.subject.block, held, out)?;
+    tell_probe_besides(wording, record, out)?;
     out.write_all(b"  wanted: ")?;
     match beat {
         Beat::A(_) => append_grows(liberties, held.perm, out)?,
@@ -124,7 +129,8 @@ pub fn tell_holds<const W: usize>(
 }
 
 /// Appends the request that needs data, and the permission held.
-pub fn tell_without_data<const W: usize>(
+pub fn tell_without_data<const W: usize, X: Wording<W>>(
+    wording: &X,
     liberties: Liberties,
     request: &Told,
     held: &Held,
@@ -133,10 +139,10 @@ pub fn tell_without_data<const W: usize>(
 ) -> io::Result<()>
     requires { IsWidth W }
 {
-    let line = request.mention.line;
+    let line = wording.line_of(request);
     write!(out, "  the request, of line {line}, needs data:\n")?;
-    append_told::<W>(request, out)?;
-    tell_held::<W>(liberties, block, held, out)?;
+    wording.append_told(request, out)?;
+    tell_held(wording, liberties, block, held, out)?;
     out.write_all(b"  wanted: GrantData\n")
 }
 
@@ -152,7 +158,8 @@ fn append_reports(liberties: Liberties, cap: u8, perm: Perm, out: &mut Vec<u8>) 
 }
 
 /// Appends the Probe that has another report, and the permission held.
-pub fn tell_misreport<const W: usize>(
+pub fn tell_misreport<const W: usize, X: Wording<W>>(
+    wording: &X,
     liberties: Liberties,
     probe: &Told,
     held: &Held,
@@ -161,10 +168,10 @@ pub fn tell_misreport<const W: usize>(
 ) -> io::Result<()>
     requires { IsWidth W }
 {
-    let line = probe.mention.line;
+    let line = wording.line_of(probe);
     write!(out, "  the Probe, of line {line}:\n")?;
-    append_told::<W>(probe, out)?;
-    tell_held::<W>(liberties, block, held, out)?;
+    wording.append_told(probe, out)?;
+    tell_held(wording, liberties, block, held, out)?;
     match cap_asked(probe) {
         None => Ok(()),
         Some(cap) => {

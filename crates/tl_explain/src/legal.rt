@@ -2,6 +2,7 @@
 
 ghost use Rattle.tl_beat.specs.statement.Width.{IsWidth};
 
+use crate::wording::{AsRecorded, Wording};
 use std::io;
 use std::io::Write;
 use tl_beat::beat::{Beat, BeatC, BeatD};
@@ -90,12 +91,38 @@ fn tell_param(param: u8, legal: bool, params: &str, out: &mut Vec<u8>) -> io::Re
     write!(out, "  param is {param}, legal: {params}\n")
 }
 
-/// Appends a source or sink that must be 0 and isn't, unless the link may have any.
-fn tell_fixed(any: bool, name: &str, number: u8, out: &mut Vec<u8>) -> io::Result<()> {
-    if any || number == 0 {
+/// Appends a source that must be 0 and isn't, unless the link may have any.
+fn tell_source<const W: usize, X: Wording<W>>(
+    wording: &X,
+    any: bool,
+    source: u8,
+    out: &mut Vec<u8>,
+) -> io::Result<()> {
+    if any || source == 0 {
         return Ok(());
     }
-    write!(out, "  {name} is {number:02x}, legal: 00\n")
+    out.write_all(b"  source is ")?;
+    wording.append_source(source, out)?;
+    out.write_all(b", legal: ")?;
+    wording.append_source(0, out)?;
+    out.write_all(b"\n")
+}
+
+/// Appends a sink that must be 0 and isn't, unless the link may have any.
+fn tell_sink<const W: usize, X: Wording<W>>(
+    wording: &X,
+    any: bool,
+    sink: u8,
+    out: &mut Vec<u8>,
+) -> io::Result<()> {
+    if any || sink == 0 {
+        return Ok(());
+    }
+    out.write_all(b"  sink is ")?;
+    wording.append_sink(sink, out)?;
+    out.write_all(b", legal: ")?;
+    wording.append_sink(0, out)?;
+    out.write_all(b"\n")
 }
 
 /// Whether a message of channel C may have this param on a link with these liberties.
@@ -111,7 +138,8 @@ fn fits_c(liberties: Liberties, opcode: OpC, param: u8) -> bool {
     }
 }
 
-fn tell_params_of_c<const W: usize>(
+fn tell_params_of_c<const W: usize, X: Wording<W>>(
+    wording: &X,
     liberties: Liberties,
     x: &BeatC<W>,
     out: &mut Vec<u8>,
@@ -123,12 +151,13 @@ fn tell_params_of_c<const W: usize>(
         out,
     )?;
     match x.opcode {
-        OpC::ProbeAck | OpC::ProbeAckData => tell_fixed(liberties.ids, "source", x.source, out),
+        OpC::ProbeAck | OpC::ProbeAckData => tell_source(wording, liberties.ids, x.source, out),
         _ => Ok(()),
     }
 }
 
-fn tell_params_of_d<const W: usize>(
+fn tell_params_of_d<const W: usize, X: Wording<W>>(
+    wording: &X,
     liberties: Liberties,
     x: &BeatD<W>,
     out: &mut Vec<u8>,
@@ -139,11 +168,12 @@ fn tell_params_of_d<const W: usize>(
     if is_grant {
         Ok(())
     } else {
-        tell_fixed(liberties.sinks, "sink", x.sink, out)
+        tell_sink(wording, liberties.sinks, x.sink, out)
     }
 }
 
-fn tell_params<const W: usize>(
+fn tell_params<const W: usize, X: Wording<W>>(
+    wording: &X,
     liberties: Liberties,
     beat: &Beat<W>,
     out: &mut Vec<u8>,
@@ -152,10 +182,10 @@ fn tell_params<const W: usize>(
         Beat::A(x) => tell_param(x.param, false, params_of_a(x.opcode), out),
         Beat::B(x) => {
             tell_param(x.param, x.param <= 2, "0 to 2: toT, toB, toN", out)?;
-            tell_fixed(liberties.ids, "source", x.source, out)
+            tell_source(wording, liberties.ids, x.source, out)
         }
-        Beat::C(x) => tell_params_of_c(liberties, x, out),
-        Beat::D(x) => tell_params_of_d(liberties, x, out),
+        Beat::C(x) => tell_params_of_c(wording, liberties, x, out),
+        Beat::D(x) => tell_params_of_d(wording, liberties, x, out),
         Beat::E(_) => Ok(()),
     }
 }
@@ -201,12 +231,18 @@ fn place_of<const W: usize>(beat: &Beat<W>) -> (u8, u32) {
     }
 }
 
-fn tell_alignment<const W: usize>(beat: &Beat<W>, out: &mut Vec<u8>) -> io::Result<()> {
+fn tell_alignment<const W: usize, X: Wording<W>>(
+    wording: &X,
+    beat: &Beat<W>,
+    out: &mut Vec<u8>,
+) -> io::Result<()> {
     let (size, address) = place_of(beat);
     let bytes = 1u32 << size.min(6);
+    out.write_all(b"  address is ")?;
+    wording.append_address(address, out)?;
     write!(
         out,
-        "  address is {address:08x}, legal with size={size:x}: the multiples of {bytes}\n"
+        ", legal with size={size:x}: the multiples of {bytes}\n"
     )
 }
 
@@ -296,8 +332,9 @@ fn tell_untaken<const W: usize>(beat: &Beat<W>, out: &mut Vec<u8>) -> io::Result
 }
 
 /// Appends the field of a beat that breaks an L rule, its value, and the values that it may have on a link with these
-/// liberties.
-pub fn tell<const W: usize>(
+/// liberties, in this wording.
+pub fn tell_in<const W: usize, X: Wording<W>>(
+    wording: &X,
     liberties: Liberties,
     level: Option<Level>,
     rule: Rule,
@@ -311,12 +348,25 @@ pub fn tell<const W: usize>(
     };
     match rule {
         Rule::L1 => tell_level(level, beat, out),
-        Rule::L2 => tell_params(liberties, beat, out),
+        Rule::L2 => tell_params(wording, liberties, beat, out),
         Rule::L3 => tell_sizes(known, beat, out),
-        Rule::L4 => tell_alignment(beat, out),
+        Rule::L4 => tell_alignment(wording, beat, out),
         Rule::L5 => tell_mask(beat, out),
         Rule::L6 => tell_flags(liberties, beat, out),
         Rule::L7 => tell_untaken(beat, out),
         _ => Ok(()),
     }
+}
+
+/// Appends the same with sources, sinks and addresses as they were recorded.
+pub fn tell<const W: usize>(
+    liberties: Liberties,
+    level: Option<Level>,
+    rule: Rule,
+    beat: &Beat<W>,
+    out: &mut Vec<u8>,
+) -> io::Result<()>
+    requires { IsWidth W }
+{
+    tell_in(&AsRecorded, liberties, level, rule, beat, out)
 }

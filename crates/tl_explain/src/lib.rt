@@ -30,4 +30,5 @@ pub mod text;
 pub mod told;
 pub mod turn;
 pub mod turns;
+pub mod wording;
 pub mod words;

@@ -9,36 +9,46 @@ use crate::names::Names;
 use crate::reason::Reason;
 use crate::recorder::Recorder;
 use crate::told::Told;
-use crate::words::{append_key, append_told};
+use crate::wording::{AsRecorded, Wording};
+use crate::words::append_key;
 use std::io;
 use std::io::Write;
 use tl_beat::beat::Beat;
 use tl_beat::control::Control;
 use tl_beat::opcode::{OpA, OpD};
-use tl_burst::burst::burst_length;
 use tl_params::key::Key;
 use tl_params::liberties::Liberties;
 use tl_params::param::Cap;
 use tl_rules::kind::answers;
 
 /// Appends the pending key, and the message since which it is.
-pub fn tell_pending<const W: usize>(key: Key, told: &Told, out: &mut Vec<u8>) -> io::Result<()>
+pub fn tell_pending<const W: usize, X: Wording<W>>(
+    wording: &X,
+    key: Key,
+    told: &Told,
+    out: &mut Vec<u8>,
+) -> io::Result<()>
     requires { IsWidth W }
 {
-    let line = told.mention.line;
+    let line = wording.line_of(told);
     out.write_all(b"  ")?;
-    append_key(key, out)?;
+    append_key(wording, key, out)?;
     write!(out, " is pending since line {line}:\n")?;
-    append_told::<W>(told, out)
+    wording.append_told(told, out)
 }
 
-fn tell_never(key: Key, out: &mut Vec<u8>) -> io::Result<()> {
+fn tell_never<const W: usize, X: Wording<W>>(
+    wording: &X,
+    key: Key,
+    out: &mut Vec<u8>,
+) -> io::Result<()> {
     out.write_all(b"  ")?;
-    append_key(key, out)?;
+    append_key(wording, key, out)?;
     out.write_all(b" isn't pending: no message before has opened it\n")
 }
 
-fn tell_closed<const W: usize>(
+fn tell_closed<const W: usize, X: Wording<W>>(
+    wording: &X,
     key: Key,
     opening: &Told,
     closing: &Told,
@@ -46,45 +56,37 @@ fn tell_closed<const W: usize>(
 ) -> io::Result<()>
     requires { IsWidth W }
 {
-    let from = opening.mention.line;
-    let to = closing.mention.line;
+    let from = wording.line_of(opening);
+    let to = wording.line_of(closing);
     out.write_all(b"  ")?;
-    append_key(key, out)?;
+    append_key(wording, key, out)?;
     write!(
         out,
         " isn't pending: opened in line {from}, answered in line {to}:\n"
     )?;
-    append_told::<W>(opening, out)?;
-    append_told::<W>(closing, out)
+    wording.append_told(opening, out)?;
+    wording.append_told(closing, out)
 }
 
-/// The number of beats in the burst of a line.
-fn beats_of<const W: usize>(told: &Told) -> u8
-    requires { IsWidth W }
-{
-    match tl_beat::read::read_line::<W>(told.spelling.line()) {
-        Ok((_, beat)) if crate::bursts::is_small(&beat) => burst_length(&beat),
-        _ => 0,
-    }
-}
-
-fn tell_unfinished<const W: usize>(
+fn tell_unfinished<const W: usize, X: Wording<W>>(
+    wording: &X,
     key: Key,
     opening: &Told,
-    came: u8,
+    recorded: u8,
     out: &mut Vec<u8>,
 ) -> io::Result<()>
     requires { IsWidth W }
 {
-    let line = opening.mention.line;
-    let all = beats_of::<W>(opening);
+    let line = wording.line_of(opening);
+    let came = wording.beats_of(recorded);
+    let all = wording.length_of(opening);
     out.write_all(b"  ")?;
-    append_key(key, out)?;
+    append_key(wording, key, out)?;
     write!(
         out,
         " isn't complete: of the message that began in line {line}, {came} of {all} beats have come:\n"
     )?;
-    append_told::<W>(opening, out)
+    wording.append_told(opening, out)
 }
 
 /// The answers of a request.
@@ -105,15 +107,19 @@ fn append_answers(opcode: OpA, out: &mut Vec<u8>) -> io::Result<()> {
     Ok(())
 }
 
-fn tell_other_kind<const W: usize>(request: &Told, out: &mut Vec<u8>) -> io::Result<()>
+fn tell_other_kind<const W: usize, X: Wording<W>>(
+    wording: &X,
+    request: &Told,
+    out: &mut Vec<u8>,
+) -> io::Result<()>
     requires { IsWidth W }
 {
-    let line = request.mention.line;
+    let line = wording.line_of(request);
     write!(
         out,
         "  the request with this source, of line {line}, is answered otherwise:\n"
     )?;
-    append_told::<W>(request, out)?;
+    wording.append_told(request, out)?;
     if let Control::A(x) = request.mention.control {
         out.write_all(b"  wanted: ")?;
         append_answers(x.opcode, out)?;
@@ -122,7 +128,8 @@ fn tell_other_kind<const W: usize>(request: &Told, out: &mut Vec<u8>) -> io::Res
     Ok(())
 }
 
-fn size_of(control: &Control) -> u8 {
+/// The size of a message, 0 of a GrantAck.
+pub fn size_of(control: &Control) -> u8 {
     match control {
         Control::A(x) => x.size,
         Control::B(x) => x.size,
@@ -132,26 +139,31 @@ fn size_of(control: &Control) -> u8 {
     }
 }
 
-fn tell_other_size<const W: usize>(request: &Told, out: &mut Vec<u8>) -> io::Result<()>
+fn tell_other_size<const W: usize, X: Wording<W>>(
+    wording: &X,
+    request: &Told,
+    out: &mut Vec<u8>,
+) -> io::Result<()>
     requires { IsWidth W }
 {
-    let line = request.mention.line;
+    let line = wording.line_of(request);
     let size = size_of(&request.mention.control);
     write!(out, "  the request of line {line} has size {size}:\n")?;
-    append_told::<W>(request, out)?;
+    wording.append_told(request, out)?;
     write!(out, "  wanted: size={size:x}\n")
 }
 
-fn tell_wrong_cap<const W: usize>(
+fn tell_wrong_cap<const W: usize, X: Wording<W>>(
+    wording: &X,
     liberties: Liberties,
     request: &Told,
     out: &mut Vec<u8>,
 ) -> io::Result<()>
     requires { IsWidth W }
 {
-    let line = request.mention.line;
+    let line = wording.line_of(request);
     write!(out, "  the request, of line {line}:\n")?;
-    append_told::<W>(request, out)?;
+    wording.append_told(request, out)?;
     out.write_all(b"  wanted: ")?;
     let mut names = Names { any: false };
     for cap in [Cap::ToT, Cap::ToB] {
@@ -164,29 +176,26 @@ fn tell_wrong_cap<const W: usize>(
     out.write_all(b"\n")
 }
 
-/// The source of a message.
-fn source_of(control: &Control) -> u8 {
-    match control {
-        Control::A(x) => x.source,
-        Control::B(x) => x.source,
-        Control::C(x) => x.source,
-        Control::D(x) => x.source,
-        Control::E(_) => 0,
-    }
-}
-
-fn tell_other_source<const W: usize>(probe: &Told, out: &mut Vec<u8>) -> io::Result<()>
+fn tell_other_source<const W: usize, X: Wording<W>>(
+    wording: &X,
+    probe: &Told,
+    out: &mut Vec<u8>,
+) -> io::Result<()>
     requires { IsWidth W }
 {
-    let line = probe.mention.line;
-    let source = source_of(&probe.mention.control);
-    write!(out, "  the Probe of line {line} has source {source:02x}:\n")?;
-    append_told::<W>(probe, out)?;
-    write!(out, "  wanted: source={source:02x}\n")
+    let line = wording.line_of(probe);
+    write!(out, "  the Probe of line {line} has source ")?;
+    wording.append_source_of(probe, out)?;
+    out.write_all(b":\n")?;
+    wording.append_told(probe, out)?;
+    out.write_all(b"  wanted: source=")?;
+    wording.append_source_of(probe, out)?;
+    out.write_all(b"\n")
 }
 
 /// The request, and the Probe of its block that is pending.
-fn tell_probed<const W: usize>(
+fn tell_probed<const W: usize, X: Wording<W>>(
+    wording: &X,
     request: &Told,
     probe: &Told,
     block: u32,
@@ -194,10 +203,10 @@ fn tell_probed<const W: usize>(
 ) -> io::Result<()>
     requires { IsWidth W }
 {
-    let line = request.mention.line;
+    let line = wording.line_of(request);
     write!(out, "  the request, of line {line}:\n")?;
-    append_told::<W>(request, out)?;
-    tell_pending::<W>(Key::ProbeOf(block), probe, out)
+    wording.append_told(request, out)?;
+    tell_pending(wording, Key::ProbeOf(block), probe, out)
 }
 
 /// Appends the fields in which a beat differs from a burst.
@@ -250,24 +259,30 @@ fn append_differences<const W: usize>(
     Ok(())
 }
 
-fn tell_differs<const W: usize>(beat: &Beat<W>, begun: &Begun, out: &mut Vec<u8>) -> io::Result<()>
+fn tell_differs<const W: usize, X: Wording<W>>(
+    wording: &X,
+    beat: &Beat<W>,
+    begun: &Begun,
+    out: &mut Vec<u8>,
+) -> io::Result<()>
     requires { IsWidth W }
 {
-    let line = begun.first.mention.line;
-    let came = begun.came;
-    let all = beats_of::<W>(&begun.first);
+    let line = wording.line_of(&begun.first);
+    let came = wording.beats_of(begun.came);
+    let all = wording.length_of(&begun.first);
     write!(
         out,
         "  the burst that began in line {line} has {all} beats, {came} of which have come:\n"
     )?;
-    append_told::<W>(&begun.first, out)?;
+    wording.append_told(&begun.first, out)?;
     out.write_all(b"  differs in: ")?;
     append_differences(beat, &begun.newest, out)?;
     out.write_all(b"\n")
 }
 
-/// Appends the reason why the rule is broken, on a link with these liberties.
-pub fn tell<const W: usize>(
+/// Appends the reason why the rule is broken, on a link with these liberties, in this wording.
+pub fn tell_in<const W: usize, X: Wording<W>>(
+    wording: &X,
     liberties: Liberties,
     beat: &Beat<W>,
     reason: &Reason,
@@ -279,33 +294,49 @@ pub fn tell<const W: usize>(
     let block = record.subject.block;
     match reason {
         Reason::Pending(key, told) => {
-            tell_pending::<W>(*key, told, out)?;
+            tell_pending(wording, *key, told, out)?;
             match beat {
-                Beat::C(_) => tell_held::<W>(liberties, block, &record.held, out),
+                Beat::C(_) => tell_held(wording, liberties, block, &record.held, out),
                 _ => Ok(()),
             }
         }
-        Reason::Never(key) => tell_never(*key, out),
-        Reason::Closed(key, opening, closing) => tell_closed::<W>(*key, opening, closing, out),
+        Reason::Never(key) => tell_never(wording, *key, out),
+        Reason::Closed(key, opening, closing) => {
+            tell_closed(wording, *key, opening, closing, out)
+        }
         Reason::Unfinished(key, opening, came) => {
-            tell_unfinished::<W>(*key, opening, *came, out)
+            tell_unfinished(wording, *key, opening, *came, out)
         }
-        Reason::OtherKind(request) => tell_other_kind::<W>(request, out),
-        Reason::OtherSize(request) => tell_other_size::<W>(request, out),
-        Reason::WrongCap(request) => tell_wrong_cap::<W>(liberties, request, out),
+        Reason::OtherKind(request) => tell_other_kind(wording, request, out),
+        Reason::OtherSize(request) => tell_other_size(wording, request, out),
+        Reason::WrongCap(request) => tell_wrong_cap(wording, liberties, request, out),
         Reason::WithoutData(request, held) => {
-            tell_without_data::<W>(liberties, request, held, block, out)
+            tell_without_data(wording, liberties, request, held, block, out)
         }
-        Reason::Probed(request, probe) => tell_probed::<W>(request, probe, block, out),
-        Reason::Holds(held) => tell_holds(liberties, beat, held, record, out),
-        Reason::OtherSource(probe) => tell_other_source::<W>(probe, out),
+        Reason::Probed(request, probe) => tell_probed(wording, request, probe, block, out),
+        Reason::Holds(held) => tell_holds(wording, liberties, beat, held, record, out),
+        Reason::OtherSource(probe) => tell_other_source(wording, probe, out),
         Reason::WrongProbe(probe) => {
             out.write_all(b"  the Probe asks for no data:\n")?;
-            append_told::<W>(probe, out)
+            wording.append_told(probe, out)
         }
         Reason::Misreport(probe, held) => {
-            tell_misreport::<W>(liberties, probe, held, block, out)
+            tell_misreport(wording, liberties, probe, held, block, out)
         }
-        Reason::Differs(begun) => tell_differs(beat, begun, out),
+        Reason::Differs(begun) => tell_differs(wording, beat, begun, out),
     }
+}
+
+/// Appends the reason why the rule is broken, on a link with these liberties, with beats and names as they were
+/// recorded.
+pub fn tell<const W: usize>(
+    liberties: Liberties,
+    beat: &Beat<W>,
+    reason: &Reason,
+    record: &Recorder,
+    out: &mut Vec<u8>,
+) -> io::Result<()>
+    requires { IsWidth W }
+{
+    tell_in(&AsRecorded, liberties, beat, reason, record, out)
 }

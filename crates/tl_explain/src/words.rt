@@ -10,6 +10,7 @@ ghost use Rattle.tl_explain.specs.statement.Sentences.{beat_line, perm_name};
 
 use crate::text::append_text;
 use crate::told::Told;
+use crate::wording::Wording;
 use itoa::Buffer;
 use std::alloc::AllocError;
 use std::io;
@@ -34,28 +35,47 @@ pub fn address_of(block: u32) -> u32 {
     block.wrapping_mul(64)
 }
 
+/// Appends a label, and the address of a block.
+fn append_block<const W: usize, X: Wording<W>>(
+    wording: &X,
+    label: &str,
+    block: u32,
+    out: &mut Vec<u8>,
+) -> io::Result<()> {
+    out.write_all(label.as_bytes())?;
+    wording.append_address(address_of(block), out)
+}
+
+/// Appends a source, and the kind of its message.
+fn append_source<const W: usize, X: Wording<W>>(
+    wording: &X,
+    source: u8,
+    kind: &str,
+    out: &mut Vec<u8>,
+) -> io::Result<()> {
+    out.write_all(b"source ")?;
+    wording.append_source(source, out)?;
+    out.write_all(kind.as_bytes())
+}
+
 /// Appends a key in words.
-pub fn append_key(key: Key, out: &mut Vec<u8>) -> io::Result<()> {
+pub fn append_key<const W: usize, X: Wording<W>>(
+    wording: &X,
+    key: Key,
+    out: &mut Vec<u8>,
+) -> io::Result<()> {
     match key {
-        Key::RequestSource(source) => write!(out, "source {source:02x} of a request"),
-        Key::ReleaseSource(source) => write!(out, "source {source:02x} of a Release"),
-        Key::AcquireOf(block) => {
-            let address = address_of(block);
-            write!(out, "an Acquire of block {address:08x}")
+        Key::RequestSource(source) => append_source(wording, source, " of a request", out),
+        Key::ReleaseSource(source) => append_source(wording, source, " of a Release", out),
+        Key::AcquireOf(block) => append_block(wording, "an Acquire of block ", block, out),
+        Key::ReleaseOf(block) => append_block(wording, "a Release of block ", block, out),
+        Key::GrantSink(sink) => {
+            out.write_all(b"sink ")?;
+            wording.append_sink(sink, out)?;
+            out.write_all(b" of a Grant")
         }
-        Key::ReleaseOf(block) => {
-            let address = address_of(block);
-            write!(out, "a Release of block {address:08x}")
-        }
-        Key::GrantSink(sink) => write!(out, "sink {sink:02x} of a Grant"),
-        Key::GrantAckOf(block) => {
-            let address = address_of(block);
-            write!(out, "the GrantAck of block {address:08x}")
-        }
-        Key::ProbeOf(block) => {
-            let address = address_of(block);
-            write!(out, "a Probe of block {address:08x}")
-        }
+        Key::GrantAckOf(block) => append_block(wording, "the GrantAck of block ", block, out),
+        Key::ProbeOf(block) => append_block(wording, "a Probe of block ", block, out),
     }
 }
 

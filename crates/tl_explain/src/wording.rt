@@ -1,0 +1,95 @@
+//! How an explanation writes the beats and the names that it cites.
+
+ghost use Rattle.tl_beat.specs.statement.Width.{IsWidth};
+
+use crate::bursts::is_small;
+use crate::told::Told;
+use crate::words::append_told;
+use std::io;
+use std::io::Write;
+use tl_beat::control::Control;
+use tl_beat::read::read_line;
+use tl_burst::burst::burst_length;
+
+/// Writes the beats that an explanation cites, and the blocks, sources and sinks that its sentences name, as the lines
+/// of the trace have them.
+pub trait Wording<const W: usize> {
+    /// The number of a cited beat's line.
+    fn line_of(&self, told: &Told) -> u64;
+
+    /// The number of beats in the burst of a cited beat, 0 if it isn't known.
+    fn length_of(&self, told: &Told) -> u8
+        requires { IsWidth W };
+
+    /// The number of the trace's beats in which this many recorded ones of a message come.
+    fn beats_of(&self, recorded: u8) -> u8;
+
+    /// Appends the words of a cited beat, after the number of its line.
+    fn append_told(&self, told: &Told, out: &mut Vec<u8>) -> io::Result<()>
+        requires { IsWidth W };
+
+    /// Appends the source of a cited beat.
+    fn append_source_of(&self, told: &Told, out: &mut Vec<u8>) -> io::Result<()>;
+
+    /// Appends a source.
+    fn append_source(&self, source: u8, out: &mut Vec<u8>) -> io::Result<()>;
+
+    /// Appends a sink.
+    fn append_sink(&self, sink: u8, out: &mut Vec<u8>) -> io::Result<()>;
+
+    /// Appends an address.
+    fn append_address(&self, address: u32, out: &mut Vec<u8>) -> io::Result<()>;
+}
+
+/// Writes beats and names as they were recorded.
+#[derive(Drop)]
+pub struct AsRecorded;
+
+/// The source of a message.
+fn source_of(control: &Control) -> u8 {
+    match control {
+        Control::A(x) => x.source,
+        Control::B(x) => x.source,
+        Control::C(x) => x.source,
+        Control::D(x) => x.source,
+        Control::E(_) => 0,
+    }
+}
+
+impl<const W: usize> Wording<W> for AsRecorded {
+    fn line_of(&self, told: &Told) -> u64 {
+        told.mention.line
+    }
+
+    fn length_of(&self, told: &Told) -> u8 {
+        match read_line::<W>(told.spelling.line()) {
+            Ok((_, beat)) if is_small(&beat) => burst_length(&beat),
+            _ => 0,
+        }
+    }
+
+    fn beats_of(&self, recorded: u8) -> u8 {
+        recorded
+    }
+
+    fn append_told(&self, told: &Told, out: &mut Vec<u8>) -> io::Result<()> {
+        append_told::<W>(told, out)
+    }
+
+    fn append_source_of(&self, told: &Told, out: &mut Vec<u8>) -> io::Result<()> {
+        let source = source_of(&told.mention.control);
+        write!(out, "{source:02x}")
+    }
+
+    fn append_source(&self, source: u8, out: &mut Vec<u8>) -> io::Result<()> {
+        write!(out, "{source:02x}")
+    }
+
+    fn append_sink(&self, sink: u8, out: &mut Vec<u8>) -> io::Result<()> {
+        write!(out, "{sink:02x}")
+    }
+
+    fn append_address(&self, address: u32, out: &mut Vec<u8>) -> io::Result<()> {
+        write!(out, "{address:08x}")
+    }
+}

@@ -191,7 +191,6 @@ module _ {w : ℕ} {config : Config} {log : Log w} (h : AbstractState w) {sys : 
         elsewhere = λ k ne. if-part (λ (z : State (List ℕ)). z.block k) b (set-other n k new s.block ne) refl;
         uses = λ i. if-part (λ (z : State (List ℕ)). z.uses c i) b refl refl;
         lets = λ i. if-part (λ (z : State (List ℕ)). z.lets c i) b refl refl;
-        tracked = λ i. if-part (λ (z : State (List ℕ)). z.tracked i) b refl refl;
         held_is = held_is b;
         service = if-part (λ (z : State (List ℕ)). (z.block n).service) b (ap (λ z. z.service) now) refl;
         tracker = if-part (λ (z : State (List ℕ)). (z.block n).tracker) b (ap (λ z. z.tracker) now) refl;

@@ -1,6 +1,6 @@
 -- What is half taken on channel A while a response is on its way.
 -- A response that is delivered breaks no rule of order after what was delivered on its link.
-use Rattle.std.proofs.Common.{◌≡◌, ℕ, zero, suc, Bool, true, false, not, ◌&&◌, ◌||◌, ◌==◌, List, [], ◌∷◌, Some, None}
+use Rattle.std.proofs.Common.{◌≡◌, ℕ, zero, suc, Bool, true, false, not, ◌&&◌, ◌==◌, List, [], ◌∷◌, Some, None}
 use Rattle.std.proofs.Common.{refl, sym, ◌∙◌, ap, subst, arith, eqb-true, map}
 use Rattle.tl_coherence.proofs
 use proofs.Imports.{and_from, same_Some, Beat, BeatA, Channel, OpB, OpC, IsWidth, Message, MessageA, MessageC, MessageD}
@@ -8,11 +8,11 @@ use proofs.Imports.{a_beat_of, beat_of, begun, History, channel_of, unfinished, 
 use proofs.Imports.{Level, Prune, Report, Perm, Profile, prune_code, report_code, report_left, broken_in_order}
 use proofs.Imports.{comes_in_release, comes_in_request, same_perm, broken_after, on_link, is_release, held, pending}
 use proofs.Imports.{request_of, illegal, same_block, zeros, about, acquisition, probe_ack, release, no_ack_grant}
-use proofs.Imports.{grant_opcode, level_of, IsInvariant, is_busy, Acquire, Answer, Grant, Kind, Packet, ProbeAck}
+use proofs.Imports.{grant_opcode, level_of, IsInvariant, Acquire, Answer, Grant, Kind, Packet, ProbeAck}
 use proofs.Imports.{Release, ReleaseAck, Request, AcquireOpen, ReleaseAcked, ReleasePhase, ReleaseSent, is_unreleased}
-use proofs.Imports.{Acquires, Asked, GrantSent, SourceState, State, is_on, packet, view, is_acked, is_acknowledging}
-use proofs.Imports.{is_answered, is_granting, is_releasing, is_unserved, is_wanting, acquire_opcode, IsCarried}
-use proofs.Imports.{is_release_pending, is_requested, is_sunk, AccessMessages, message_of, message_of_kind, prune_told}
+use proofs.Imports.{Acquires, Asked, GrantSent, SourceState, State, is_on, packet, view, is_acked}
+use proofs.Imports.{is_answered, is_releasing, is_unserved, is_wanting, acquire_opcode, IsCarried}
+use proofs.Imports.{is_release_pending, is_requested, AccessMessages, message_of, message_of_kind, prune_told}
 use proofs.Imports.{report_told, block_message, IsGivenAsked, MonitorRelations, SimulationRelation, gives_asked}
 use proofs.Imports.{is_caching, flow, Log, System}
 use Rattle.tl_rules.specs.statement.Conformance as rules
@@ -26,6 +26,7 @@ use proofs.client.{ClientDelivered.ack_next, Waiting.answer-legal, Waiting.grant
 use proofs.client.ClientEnd.{is_access, asks-access, asks-acquire, answers_acquire, fits_asked, fitting, has_data}
 use proofs.client.ClientEnd.{next-legal}
 use proofs.flow.FlowLawful.{lawful-beat}
+use proofs.links.Acknowledged.{AreSunk, unsunk-due}
 
 -- ---- what is half taken on channel A
 
@@ -121,9 +122,6 @@ flow-answer {w} {config} {log} {mail} {request} {s} {sys} {c} {source} h flowed 
 
 -- ---- a Grant
 
-abbrev none_of : (w : ℕ) → List (Beat w)
-none_of w = []
-
 -- what the client of a Grant has of its block
 pub grant_quiet : {caching : ℕ → Bool} {c n : ℕ} {s : State (List ℕ)} → IsInvariant caching s → (due : IsGrantDue c n s)
     → is_answered ((s.block n).pair c).probing ≡ false
@@ -132,22 +130,16 @@ grant_quiet {c} {n} {s} inv due =
     ((inv.blocks n).phases c) (own_view c due.data_too due.k (s.block n).service due.service) in
     quiet_unanswered _ (and_left _ _ alone)
 
--- the tracker of a Grant is of its block
-pub grant_tracked : {caching : ℕ → Bool} {c n : ℕ} {s : State (List ℕ)} → IsInvariant caching s → IsGrantDue c n s
-    → s.tracked (s.block n).tracker ≡ Some n
-grant_tracked {n} {s} inv due = is_of-is n _ (inv.named.trackers (s.block n).tracker n
-    ∙ ap (λ x. is_busy x && ((s.block n).tracker == (s.block n).tracker)) due.service ∙ same_number (s.block n).tracker)
-
 flow-grant : {w : ℕ} {config : Config} {log : Log w} {mail : AccessMessages w} {request : ℕ → MessageA w}
     {s : State (List ℕ)} {sys : System w} {c n : ℕ} → SimulationRelation config log mail request s sys
-    → MonitorRelations log mail s sys → (due : IsGrantDue c n s)
+    → MonitorRelations log mail s sys → AreSunk (flow c log) (sys.clients c).past (sys.channels c Channel.E)
+    → (due : IsGrantDue c n s)
     → gives_asked config.profile (AcquireOpen due.whole due.g) due.k ≡ true → unfinished Channel.D (sys.clients c).past
     ≡ [] → broken_in_order config.profile
     (beat_of (Message.D (grant_message due.data_too due.k ((s.block n).source c) (s.block n).tracker (s.block n).truth))
     0) (flow c log) ≡ None
-flow-grant {w} {config} {log} {mail} {request} {s} {sys} {c} {n} h flowed due given whole =
+flow-grant {w} {config} {log} {mail} {request} {s} {sys} {c} {n} h flowed sunk due given whole =
     let source = (s.block n).source c in
-    let sink = (s.block n).tracker in
     let r : BeatA w = a_beat_of (acquisition (acquire_opcode due.whole) due.g source n) 0 in
     let fits = fitting _ _ due.data_too due.k due.whole due.g due.fits in
     let asks = asks-acquire c _ n source due.whole due.g mail s due.used due.wants refl in
@@ -168,9 +160,8 @@ flow-grant {w} {config} {log} {mail} {request} {s} {sys} {c} {n} h flowed due gi
     }) (same_block n) (fits_asked config.profile due.whole due.g due.k fits.cap_is given)
     (ap (λ q. rules.is_grant_without_data (grant_opcode due.data_too)
     && (rules.is_acquire_block (acquire_opcode due.whole) && not (same_perm q Perm.Branch))) held_now ∙ has_data
-    due.whole due.data_too _ fits.carried) ((flowed c).probes n ∙ grant_quiet h.invariant due) ((flowed c).sinks
-    sink ∙ ap (λ b. is_sunk c sink b (s.tracked sink) s) whole ∙ ap (λ o. is_sunk c sink (none_of w) o s)
-    (grant_tracked h.invariant due) ∙ ap (λ v. is_acknowledging v || (is_granting v && false)) mine)
+    due.whole due.data_too _ fits.carried) ((flowed c).probes n ∙ grant_quiet h.invariant due)
+    (unsunk-due c n h due whole sunk)
 
 -- ---- a ReleaseAck
 
@@ -297,8 +288,9 @@ legal_next {config} {log} c m h flowed next first =
 legal_d : {w : ℕ} {config : Config} {log : Log w} {mail : AccessMessages w} {request : ℕ → MessageA w}
     {s : State (List ℕ)} {sys : System w} (c : ℕ) (x : Beat w) (queue : List (Beat w)) → IsWidth w
     → SimulationRelation config log mail request s sys → MonitorRelations log mail s sys
-    → sys.channels c Channel.D ≡ x ∷ queue → broken_in_order config.profile x (flow c log) ≡ None
-legal_d {w} {config} {log} {mail} {request} {s} {sys} c x queue width h flowed beats =
+    → AreSunk (flow c log) (sys.clients c).past (sys.channels c Channel.E) → sys.channels c Channel.D ≡ x ∷ queue
+    → broken_in_order config.profile x (flow c log) ≡ None
+legal_d {w} {config} {log} {mail} {request} {s} {sys} c x queue width h flowed sunk beats =
     go first.kind first.number first.tokens first.own first.next
   where
     first : IsFirst Channel.D c mail s sys x queue
@@ -330,7 +322,7 @@ legal_d {w} {config} {log} {mail} {request} {s} {sys} c x queue width h flowed b
         let due = grant-due (is_caching config) c n _ s h.invariant tokens in
         legal_next c (grant_message due.data_too due.k ((s.block n).source c) (s.block n).tracker (s.block n).truth)
         h flowed (subst (λ m. IsNext x rest_now m ms queue) (grant-rendered c n s due) next)
-        (flow-grant h flowed due (given n due))
+        (flow-grant h flowed sunk due (given n due))
 
     go : (k : Kind) (i : ℕ) → (s.link c).d ≡ packet k i ∷ first.rest → is_on Channel.D k ≡ true
         → IsNext x rest_now (message_of_kind k mail s c i) ms queue
@@ -349,7 +341,8 @@ in_order l p x t lawful order = rw lawful order
 pub flows-d : {w : ℕ} {config : Config} {log : Log w} {mail : AccessMessages w} {request : ℕ → MessageA w}
     {s : State (List ℕ)} {sys : System w} (c : ℕ) (l : Level) (x : Beat w) (queue : List (Beat w)) → IsWidth w
     → SimulationRelation config log mail request s sys → MonitorRelations log mail s sys
-    → sys.channels c Channel.D ≡ x ∷ queue → level_of config c ≡ Some l → broken_after l config.profile x (flow c log)
+    → AreSunk (flow c log) (sys.clients c).past (sys.channels c Channel.E) → sys.channels c Channel.D ≡ x ∷ queue
+    → level_of config c ≡ Some l → broken_after l config.profile x (flow c log)
     ≡ None
-flows-d {config} {log} c l x queue width h flowed beats level = in_order l _ x
-    _ (lawful-beat c Channel.D l x queue h beats level) (legal_d c x queue width h flowed beats)
+flows-d {config} {log} c l x queue width h flowed sunk beats level = in_order l _ x
+    _ (lawful-beat c Channel.D l x queue h beats level) (legal_d c x queue width h flowed sunk beats)

@@ -4,7 +4,7 @@ use Rattle.std.proofs.Common.{◌≡◌, ℕ, zero, suc, ◌*◌, Bool, true, fa
 use Rattle.std.proofs.Common.{None, refl, sym, ◌∙◌, ap, subst, length, eqb-true, map}
 use Rattle.tl_coherence.proofs
 use proofs.Imports.{Beat, BeatA, BeatC, BeatD, Channel, IsWidth, length-begun, Message, MessageA, MessageC, MessageD}
-use proofs.Imports.{beat_of, begun, d_beat_of, unfinished, Config, comes_in_grant, comes_in_release, on_link, asks_for}
+use proofs.Imports.{beat_of, begun, d_beat_of, unfinished, Config, comes_in_release, on_link, asks_for}
 use proofs.Imports.{block_at, grants, is_grant, is_release, request_of, same_block, Answer, Grant, Kind, Packet}
 use proofs.Imports.{ProbeAck, Release, ReleaseAck, Acquires, Block, State, is_on, packet, view, is_granting}
 use proofs.Imports.{is_releasing, is_unserved, AbstractState, IsCarried, comes_granting, is_requested, AccessMessages}
@@ -14,7 +14,8 @@ use proofs.client.ClientEnd.{asks-acquire}
 use proofs.queues.{Phases.and_left, Phases.and_right, Tokens.same_number, Codes.access_kind, Carried.IsNext}
 use proofs.queues.FirstToken.{own_kind, IsFirst, first-token}
 use proofs.flow.FlowAlone.{IsComing}
-use proofs.manager.{ManagedGrants.tracker-of, Reporting.report-about, Reporting.release-about}
+use proofs.links.Acknowledged.{IsGrantAlone, never_grant, alone-token}
+use proofs.manager.{Reporting.report-about, Reporting.release-about}
 use proofs.protocol.HeadOfD.{IsGrantDue, answer-due, grant-due, grant-rendered, grant_message, ack_message, own_view}
 use proofs.protocol.HeadOfD.{IsAnswerDue}
 use proofs.protocol.BothParts.{is_of-is, releasing-is, first-shown}
@@ -119,42 +120,6 @@ module _ {w : ℕ} (config : Config) (log : Log w) (h : AbstractState w) (c : �
 abbrev pub IsOfGrant : {w : ℕ} → ℕ → State (List ℕ) → BeatD w → Type 0
 IsOfGrant c s x = (n : ℕ) × IsGrantDue c n s × (x.source ≡ (s.block n).source c) × (x.sink ≡ (s.block n).tracker)
 
--- a beat of this message is, if it is one of a Grant
-IsGrantAlone : {w : ℕ} → ℕ → State (List ℕ) → Message w → Type 0
-IsGrantAlone {w} c s m = (y : MessageD w) × (m ≡ Message.D y) × (is_grant y.opcode ≡ true → (n : ℕ) × IsGrantDue c n s
-    × (y.source ≡ (s.block n).source c) × (y.sink ≡ (s.block n).tracker))
-
-never_grant : {A : Type 0} (b : Bool) → b ≡ false → b ≡ true → A
-never_grant b e f = absurd (let no : false ≡ true = sym e ∙ f in cc)
-
-alone_answer : {w : ℕ} {config : Config} {log : Log w} {mail : AccessMessages w} {request : ℕ → MessageA w}
-    {s : State (List ℕ)} {sys : System w} (c i : ℕ)
-    (rest : List Packet) → SimulationRelation config log mail request s sys → (s.link c).d ≡ packet Answer i ∷ rest
-    → IsGrantAlone c s (mail.answer c i)
-unfolding IsGrantAlone
-alone_answer {config} {mail} {s} c i rest h first =
-    let due = answer-due (is_caching config) c i rest mail s h.invariant (h.answered c i) first in (
-      due.answer,
-      due.answer_is,
-      never_grant (is_grant due.answer.opcode) (access_kind due.answer.opcode due.answers_access).0,
-    )
-
-alone_grant : {w : ℕ} {config : Config} {log : Log w} {mail : AccessMessages w} {request : ℕ → MessageA w}
-    {s : State (List ℕ)} {sys : System w} (c n : ℕ)
-    (rest : List Packet) → SimulationRelation config log mail request s sys → (s.link c).d ≡ packet Grant n ∷ rest
-    → IsGrantAlone {w = w} c s (block_message Grant c n (s.block n))
-unfolding IsGrantAlone
-alone_grant {config} {s} c n rest h first =
-    let due = grant-due (is_caching config) c n rest s h.invariant first in (
-      grant_message due.data_too due.k ((s.block n).source c) (s.block n).tracker (s.block n).truth,
-      grant-rendered c n s due,
-      λ e. (n, due, refl, refl),
-    )
-
-alone_ack : (w : ℕ) (s : State (List ℕ)) (c n : ℕ) → IsGrantAlone {w = w} c s (block_message ReleaseAck c n (s.block n))
-unfolding IsGrantAlone block_message
-alone_ack w s c n = (ack_message ((s.block n).release_source c), refl, λ e. absurd cc)
-
 begun_alone : {w : ℕ} (c : ℕ) (s : State (List ℕ)) (m : Message w) (k : ℕ) (x : BeatD w) (more : List (Beat w))
     → IsGrantAlone c s m → Beat.D x ∷ more ≡ begun m k → is_grant x.opcode ≡ true → IsOfGrant c s x
 unfolding IsGrantAlone
@@ -183,13 +148,6 @@ half-granted {w} {config} {log} {mail} {request} {s} {sys} c x more h is grants 
     rest_now : List (Beat w)
     rest_now = unfinished Channel.D (sys.clients c).past
 
-    each : (k : Kind) (i : ℕ) (rest : List Packet) → (s.link c).d ≡ packet k i ∷ rest → is_on Channel.D k ≡ true
-        → IsGrantAlone c s (message_of_kind k mail s c i)
-    each Answer i rest first own = alone_answer c i rest h first
-    each Grant i rest first own = alone_grant c i rest h first
-    each ReleaseAck i rest first own = alone_ack w s c i
-    each k i rest first own = absurd cc
-
     go : (xs : List Packet) → (s.link c).d ≡ xs → IsCarried rest_now (map (message_of mail s c) (s.link c).d)
         (sys.channels c Channel.D) → IsOfGrant c s x
     go [] first carried =
@@ -200,24 +158,8 @@ half-granted {w} {config} {log} {mail} {request} {s} {sys} c x more h is grants 
         let some : IsCarried rest_now (message_of mail s c y ∷ map (message_of mail s c) ys)
         (sys.channels c Channel.D) = subst (λ ms. IsCarried rest_now ms (sys.channels c Channel.D))
         (ap (map (message_of mail s c)) first) carried in
-        begun_alone c s _ some.0 x more (each y.kind y.number ys first (own_kind (is_caching config) s c Channel.D
-        y.kind y.number ys h.invariant first)) (sym is ∙ some.2) grants
-
--- the block of a Grant with this sink that was delivered in part
-pub coming-sink : {w : ℕ} {config : Config} {log : Log w} {mail : AccessMessages w} {request : ℕ → MessageA w}
-    {s : State (List ℕ)} {sys : System w} (c i : ℕ) → SimulationRelation config log mail request s sys
-    → comes_in_grant i (unfinished Channel.D (sys.clients c).past) ≡ true → (n : ℕ) × IsGrantDue c n s
-    × (s.tracked i ≡ Some n)
-coming-sink {w} {config} {log} {mail} {request} {s} {sys} c i h = go (unfinished Channel.D (sys.clients c).past) refl
-  where
-    go : (beats : List (Beat w)) → unfinished Channel.D (sys.clients c).past ≡ beats → comes_in_grant i beats ≡ true
-        → (n : ℕ) × IsGrantDue c n s × (s.tracked i ≡ Some n)
-    go (Beat.D x ∷ more) e f =
-        let of = half-granted c x more h e (and_left (is_grant x.opcode) (x.sink == i) f) in
-        let same : i ≡ (s.block of.0).tracker = sym (eqb-true x.sink i (and_right (is_grant x.opcode) (x.sink == i) f))
-        ∙ of.3 in
-        (of.0, of.1, ap s.tracked same ∙ tracker-of of.0 h.invariant.named (rw of.1.service refl))
-    go beats e f = absurd cc
+        begun_alone c s _ some.0 x more (alone-token c y.kind y.number ys h first (own_kind (is_caching config) s c
+        Channel.D y.kind y.number ys h.invariant first)) (sym is ∙ some.2) grants
 
 -- a Grant of a block that was delivered in part is due
 pub coming-granting : {w : ℕ} {config : Config} {log : Log w} {mail : AccessMessages w} {request : ℕ → MessageA w}

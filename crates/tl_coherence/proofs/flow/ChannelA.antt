@@ -12,7 +12,8 @@ use proofs.queues.{Carried.IsNext, Facts.asked_alone, Phases.and_left, Phases.an
 use proofs.queues.Tokens.{if-part, same_number, set-same, set-other}
 use proofs.protocol.{BothParts.quiet_unanswered}
 use proofs.protocol.Room.{acquisition_beats, IsAsked, IsWanted}
-use proofs.flow.{FlowAlone.AreRests, NextOnD.coming-granting, FlowStep.held_by}
+use proofs.client.HalfTaken.{coming-granting}
+use proofs.flow.{FlowAlone.AreRests, FlowStep.held_by}
 use proofs.flow.FlowAcquired.{IsAccess, flowed-access, flowed-acquire}
 use proofs.flow.FlowApart.{replied}
 use proofs.flow.FlowBeats.{came-so, comes-so, first-zero, one-beat, set_at-if, same_perms, unused-else}

@@ -15,8 +15,9 @@ use proofs.client.AsideAll.{set_at-else, Leaves, leaves-asked}
 use proofs.deliveries.AskedAfter.{reply-cases, IsPlain}
 use proofs.memory.BesideAsked.{IsReply}
 use proofs.queues.{Facts.unserved_calm, Tokens.set-same, Tokens.set-part, Tokens.same_number, Tokens.set_at-same}
+use proofs.client.HalfTaken.{coming-granting}
 use proofs.flow.{FlowStep.held_by, FlowStep.acquired_by, FlowStep.let_of, FlowStep.granted_by, FlowResponses.waits_on_a}
-use proofs.flow.{FlowResponses.not-coming_a, NextOnD.coming-granting, NextOnD.coming-asked, NextOnD.coming-free}
+use proofs.flow.{FlowResponses.not-coming_a, NextOnD.coming-asked, NextOnD.coming-free}
 use proofs.flow.FlowApart.{left-access_asked, left-acquire_asked, left-release_asked, left-block_stored}
 use proofs.flow.FlowAlone.{flowed-untouched, IsAside, flowed-aside, IsUntouched, requested-blocks, let_by-same}
 use proofs.protocol.FollowKept.{IsAskable}

@@ -16,7 +16,8 @@ use proofs.protocol.BothParts.{quiet_unanswered, first-grant_ack, first-report}
 use proofs.protocol.HeadOfD.{grant-due, IsReady, ready-access, told, true-taken, waits_for_others, never-idle}
 use proofs.queues.{Phases.and_right, Tokens.same_number}
 use proofs.queues.Facts.{answered_other, is_other, quiet_at_rest, own_alone}
-use proofs.flow.{FlowAsked.asks-left, FlowBeats.same_perms, NextOnD.coming-granting}
+use proofs.client.HalfTaken.{coming-granting}
+use proofs.flow.{FlowAsked.asks-left, FlowBeats.same_perms}
 use proofs.flow.FlowAlone.{is_heard, IsComing, flowed-aside, flowed-asks}
 use proofs.flow.FlowApart.{replied, left-replied, left-served, left-acquire_granted, left-probe_taken}
 use proofs.flow.FlowApart.{left-report_taken, left-release_taken, left-answer_taken, left-grant_taken}

@@ -3,19 +3,20 @@
 use Rattle.std.proofs.Common.{◌≡◌, ℕ, zero, suc, ◌+◌, Bool, true, false, ◌&&◌, ◌==◌, if◌then◌else◌, List, [], ◌∷◌, ◌++◌}
 use Rattle.std.proofs.Common.{None, refl, sym, ◌∙◌, ap, arith, ne_eqb, eqb-true, map, ◌<◌, ◌-◌}
 use Rattle.tl_coherence.proofs
-use proofs.Imports.{same_Some, Beat, BeatD, BeatE, Channel, IsWidth, Message, MessageA, MessageD, MessageE}
+use proofs.Imports.{same_Some, Beat, BeatD, BeatE, Channel, IsWidth, Message, MessageA, MessageE}
 use proofs.Imports.{beat_of, beats_of, begun, burst_of, History, unfinished, channel_of, is_empty, Config, GrantSink, Cap, Profile}
 use proofs.Imports.{broken_in_order, comes_in_grant, on_link, begins, ends, is_grant, opens, pending, whole-e}
-use proofs.Imports.{is_from_client, one_if, AreNamed, Answer, Grant, GrantAck, Kind, Packet, ReleaseAck, count}
-use proofs.Imports.{GrantSent, GrantTaken, State, is_on, packet, AbstractState, IsCarried, AccessMessages, message_of}
+use proofs.Imports.{is_from_client, one_if, AreNamed, GrantAck, Kind, Packet, count}
+use proofs.Imports.{GrantSent, GrantTaken, State, is_on, AbstractState, IsCarried, AccessMessages, message_of}
 use proofs.Imports.{message_of_kind, block_message, SimulationRelation, is_caching, Log, System, channel_of_message}
 use proofs.Imports.{same_channel, beats_from}
 use Rattle.tl_rules.specs.statement.Conformance.{broken_order}
 use Rattle.tl_coherence.specs.refinement.Carried.{spelled}
+use proofs.client.HalfTaken.{IsGrantAlone, alone-token}
 use proofs.manager.ManagedGrants.{tracker-of}
 use proofs.protocol.{BothParts.acknowledging-is, Capacities.kind_there, Capacities.shown_there}
-use proofs.protocol.HeadOfD.{IsGrantDue, answer-due, grant-due, grant-rendered, grant_message, ack_message}
-use proofs.queues.{Codes.access_kind, Phases.and_left, Phases.and_right, Tokens.same_number}
+use proofs.protocol.HeadOfD.{IsGrantDue}
+use proofs.queues.{Phases.and_left, Phases.and_right, Tokens.same_number}
 use proofs.queues.FirstToken.{IsThere, first-there, later-there, first-token}
 
 -- how many of these beats are GrantAcks with this sink
@@ -148,53 +149,6 @@ sunk-taken (Beat.E x) {f} {p} q queue ours first is = record {
       (one_if (pending (GrantSink i) p)) (rw first at (is.sinks i)));
 }
 sunk-taken x q queue ours first is = absurd cc
-
--- ---- what is next on channel D
-
--- a beat of this message is, if it is one of a Grant
-unfoldable pub IsGrantAlone : {w : ℕ} → ℕ → State (List ℕ) → Message w → Type 0
-IsGrantAlone {w} c s m = (y : MessageD w) × (m ≡ Message.D y) × (is_grant y.opcode ≡ true → (n : ℕ) × IsGrantDue c n s
-    × (y.source ≡ (s.block n).source c) × (y.sink ≡ (s.block n).tracker))
-
-pub never_grant : {A : Type 0} (b : Bool) → b ≡ false → b ≡ true → A
-never_grant b e f = absurd (let no : false ≡ true = sym e ∙ f in cc)
-
-alone_answer : {w : ℕ} {config : Config} {log : Log w} {mail : AccessMessages w} {request : ℕ → MessageA w}
-    {s : State (List ℕ)} {sys : System w} (c i : ℕ)
-    (rest : List Packet) → SimulationRelation config log mail request s sys → (s.link c).d ≡ packet Answer i ∷ rest
-    → IsGrantAlone c s (mail.answer c i)
-unfolding IsGrantAlone
-alone_answer {config} {mail} {s} c i rest h first =
-    let due = answer-due (is_caching config) c i rest mail s h.invariant (h.answered c i) first in (
-      due.answer,
-      due.answer_is,
-      never_grant (is_grant due.answer.opcode) (access_kind due.answer.opcode due.answers_access).0,
-    )
-
-alone_grant : {w : ℕ} {config : Config} {log : Log w} {mail : AccessMessages w} {request : ℕ → MessageA w}
-    {s : State (List ℕ)} {sys : System w} (c n : ℕ)
-    (rest : List Packet) → SimulationRelation config log mail request s sys → (s.link c).d ≡ packet Grant n ∷ rest
-    → IsGrantAlone {w = w} c s (block_message Grant c n (s.block n))
-unfolding IsGrantAlone
-alone_grant {config} {s} c n rest h first =
-    let due = grant-due (is_caching config) c n rest s h.invariant first in (
-      grant_message due.data_too due.k ((s.block n).source c) (s.block n).tracker (s.block n).truth,
-      grant-rendered c n s due,
-      λ e. (n, due, refl, refl),
-    )
-
-alone_ack : (w : ℕ) (s : State (List ℕ)) (c n : ℕ) → IsGrantAlone {w = w} c s (block_message ReleaseAck c n (s.block n))
-unfolding IsGrantAlone block_message
-alone_ack w s c n = (ack_message ((s.block n).release_source c), refl, λ e. absurd cc)
-
-pub alone-token : {w : ℕ} {config : Config} {log : Log w} {mail : AccessMessages w} {request : ℕ → MessageA w}
-    {s : State (List ℕ)} {sys : System w} (c : ℕ) (k : Kind) (i : ℕ) (rest : List Packet)
-    → SimulationRelation config log mail request s sys → (s.link c).d ≡ packet k i ∷ rest → is_on Channel.D k ≡ true
-    → IsGrantAlone c s (message_of_kind k mail s c i)
-alone-token c Answer i rest h first own = alone_answer c i rest h first
-alone-token c Grant i rest h first own = alone_grant c i rest h first
-alone-token {w} {s} c ReleaseAck i rest h first own = alone_ack w s c i
-alone-token c k i rest h first own = absurd cc
 
 -- ---- the tokens of channel E
 

@@ -207,7 +207,7 @@ pub use Rattle.tl_coherence.specs.refinement.ManagerRelation.{ManagerRelation, c
 pub use Rattle.tl_coherence.specs.refinement.MemoryRelation.{Answers, IsAccess, IsLet, IsOpened, IsReach}
 pub use Rattle.tl_coherence.specs.refinement.MemoryRelation.{MemoryRelation, op_of}
 pub use Rattle.tl_coherence.specs.refinement.MonitorRelation.{MonitorRelation, is_let_by, is_release_pending}
-pub use Rattle.tl_coherence.specs.refinement.MonitorRelation.{is_requested, is_sunk}
+pub use Rattle.tl_coherence.specs.refinement.MonitorRelation.{is_requested}
 pub use Rattle.tl_coherence.specs.refinement.Move.{AreMoved, IsMoved, Move, Pops, Pushes, Stays, agrees, channel_for}
 pub use Rattle.tl_coherence.specs.refinement.Move.{is_own_move}
 pub use Rattle.tl_coherence.specs.refinement.PacketMessages.{AccessMessages, acquire_of, cap_sent, grant_of, message_of}

@@ -5,6 +5,7 @@ pub mod ClientDelivered
 pub mod ClientEnd
 pub mod ClientStep
 pub mod DeliverD
+pub mod HalfTaken
 pub mod KnownProbed
 pub mod ProbeDelivered
 pub mod Waiting

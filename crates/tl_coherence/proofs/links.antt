@@ -1,3 +1,4 @@
+pub mod Acknowledged
 pub mod Ending
 pub mod FromInvariant
 pub mod Granting

@@ -1,18 +1,18 @@
 -- A Probe that is delivered to a client waits for its Release, or is taken, and the client's end is then that of the
 -- protocol.
 -- Answers that are on their way answer their accesses: after every event.
-use Rattle.std.proofs.Common.{◌≡◌, ℕ, ◌<◌, Bool, true, false, not, ◌&&◌, ◌==◌, List, [], ◌∷◌, Option, Some, None, refl}
-use Rattle.std.proofs.Common.{sym, ◌∙◌, ap, subst, arith, inl, inr, ◌%◌, length, eqb-true, map}
+use Rattle.std.proofs.Common.{◌≡◌, ℕ, ◌<◌, Bool, true, false, not, List, [], ◌∷◌, Some, None, refl}
+use Rattle.std.proofs.Common.{sym, ◌∙◌, ap, subst, arith, inl, inr, ◌%◌, length, map}
 use Rattle.tl_coherence.proofs
-use proofs.Imports.{and_right, cases_eq, Beat, BeatA, Channel, OpA, OpD, IsWidth, Message, MessageA, MessageD, begun}
+use proofs.Imports.{cases_eq, Beat, Channel, OpA, OpD, IsWidth, Message, MessageA, MessageD}
 use proofs.Imports.{unfinished, completes, Config, ReleaseOf, Memory, answer_of, as_payload, bytes_from, effect}
-use proofs.Imports.{asks_for, block_at, is_acquire, is_grant, pending, illegal, same_block, accounted-offered}
+use proofs.Imports.{block_at, is_acquire, pending, illegal, same_block, accounted-offered}
 use proofs.Imports.{kept-offered, Op, Reply, Verdict, EndConfig, Endpoint, held_at, broken_before, silent, taken, waits}
-use proofs.Imports.{offered, access, access_answer, grant_opcode, no_payload, probe_of_block, is_access_answer}
-use proofs.Imports.{IsInvariant, Answer, Grant, Kind, Packet, Probe, ReleaseAck, set_at, is_unprobed, is_unreleased}
+use proofs.Imports.{offered, access, access_answer, no_payload, probe_of_block, is_access_answer}
+use proofs.Imports.{Answer, Kind, Packet, Probe, set_at, is_unprobed, is_unreleased}
 use proofs.Imports.{Acquires, Asked, GrantSent, InService, Replied, SourceFree, SourceState, State, Waits, is_on, on}
 use proofs.Imports.{packet, is_sent, AbstractState, access_taken, asked, kind_taken, last_taken, packet_taken}
-use proofs.Imports.{taken_by_client, IsCarried, comes_granting, AccessMessages, cap_sent, message_of, message_of_kind}
+use proofs.Imports.{taken_by_client, comes_granting, AccessMessages, cap_sent, message_of, message_of_kind}
 use proofs.Imports.{probe_beat, report_told, block_message, IsAnswer, IsAnswered, SimulationRelation, asked_by}
 use proofs.Imports.{is_caching, IsFor, Log, System, terms_at}
 use Rattle.tl_coherence.specs.refinement.AbstractStep as follow
@@ -20,95 +20,34 @@ use Rattle.tl_rules.{specs.statement.Conformance.answers, specs.statement.Effect
 use Rattle.tl_rules.specs.statement.Effect as memory
 use Rattle.tl_client.{proofs.endpoint.Cases.passes_before, specs.statement.Offer.probed}
 use proofs.client.{AsideAll.set_at-else, AsideAll.set_at-other, ClientAsked.IsEndOf, ClientDelivered.shadow_of}
+use proofs.client.HalfTaken.{coming-granting}
+use proofs.Imports.{Granting, View, is_granting, view}
 use proofs.client.KnownProbed.{end-probe_taken, probe-taken}
-use proofs.client.ClientEnd.{terms-are, sound-beat, IsWellKept, end-matched, asks-acquire}
+use proofs.client.ClientEnd.{terms-are, sound-beat, IsWellKept, end-matched}
 use proofs.protocol.{Room.asked-first, BothParts.not-sent, BothParts.first-shown}
-use proofs.protocol.HeadOfD.{true-taken, answer-due, grant-due, grant_message, grant-rendered, ack_message, own_view}
-use proofs.queues.{Tokens.set_at-same, Carried.IsNext, Facts.granting_alone, Phases.and_left, Codes.access_kind}
-use proofs.queues.FirstToken.{IsFirst, first-token, own_kind}
+use proofs.protocol.HeadOfD.{true-taken}
+use proofs.queues.{Tokens.set_at-same, Carried.IsNext, Facts.granting_alone, Phases.and_left}
+use proofs.queues.FirstToken.{IsFirst, first-token}
 
 -- ---- no Grant of a block that is probed has begun to come
-
--- the message is no Grant of the block
-IsElse : {w : ℕ} → ℕ → (ℕ → Option (BeatA w)) → Message w → Type 0
-IsElse {w} n asked m = (x : MessageD w) × (m ≡ Message.D x)
-    × ((is_grant x.opcode && asks_for n (asked x.source)) ≡ false)
-
-comes_else : {w : ℕ} (n : ℕ) (asked : ℕ → Option (BeatA w)) (m : Message w) (k : ℕ) (rest : List (Beat w))
-    → rest ≡ begun m k → IsElse n asked m → comes_granting n asked rest ≡ false
-unfolding IsElse
-comes_else n asked m k rest e is = grind arith
-
--- a client that is probed has no Grant of the block coming
-not_granted : {caching : ℕ → Bool} (c n i : ℕ) (rest : List Packet) {s : State (List ℕ)} → IsInvariant caching s
-    → (s.link c).d ≡ packet Grant i ∷ rest → is_sent ((s.block n).pair c).probing ≡ true → (i == n) ≡ false
-not_granted {caching} c n i rest {s} inv first sent = go (i == n) refl
-  where
-    go : (z : Bool) → (i == n) ≡ z → z ≡ false
-    go false e = refl
-    go true e =
-        let due = grant-due caching c i rest s inv first in
-        let alone = granting_alone due.data_too due.k _ _
-        ((inv.blocks i).phases c) (own_view c due.data_too due.k (s.block i).service due.service) in
-        let loud : is_unprobed ((s.block i).pair c).probing ≡ false = ap (λ j. is_unprobed ((s.block j).pair c).probing)
-        (eqb-true i n e) ∙ not-sent ((s.block n).pair c).probing sent in
-        absurd (let no : true ≡ false = sym (and_left _ _ alone) ∙ loud in cc)
-
-else_answer : {w : ℕ} {config : Config} {log : Log w} {mail : AccessMessages w} {request : ℕ → MessageA w}
-    {s : State (List ℕ)} {sys : System w} (c n i : ℕ)
-    (rest : List Packet) → SimulationRelation config log mail request s sys → (s.link c).d ≡ packet Answer i ∷ rest
-    → IsElse n (asked_by mail s c) (mail.answer c i)
-unfolding IsElse
-else_answer {config} {mail} {s} c n i rest h first =
-    let due = answer-due (is_caching config) c i rest mail s h.invariant (h.answered c i) first in
-    (due.answer, due.answer_is, rw (access_kind due.answer.opcode due.answers_access).0 refl)
-
-else_grant : {w : ℕ} {config : Config} {log : Log w} {mail : AccessMessages w} {request : ℕ → MessageA w}
-    {s : State (List ℕ)} {sys : System w} (c n i : ℕ)
-    (rest : List Packet) → SimulationRelation config log mail request s sys → (s.link c).d ≡ packet Grant i ∷ rest
-    → is_sent ((s.block n).pair c).probing ≡ true → IsElse n (asked_by mail s c) (block_message Grant c i (s.block i))
-unfolding IsElse
-else_grant {config} {mail} {s} c n i rest h first sent =
-    let due = grant-due (is_caching config) c i rest s h.invariant first in
-    let asks = asks-acquire c _ i ((s.block i).source c) due.whole due.g mail s due.used due.wants refl in
-    let elsewhere : asks_for n (asked_by mail s c ((s.block i).source c)) ≡ false =
-    ap (asks_for n) asks ∙ ap (λ j. j == n) (same_block i) ∙ not_granted c n i rest h.invariant first sent in
-    let fact = grant_message due.data_too due.k ((s.block i).source c) (s.block i).tracker (s.block i).truth in
-    let other_fact = and_right (is_grant (grant_opcode due.data_too))
-    (asks_for n (asked_by mail s c ((s.block i).source c))) elsewhere in (fact, grant-rendered c i s due, other_fact)
-
-else_ack : {w : ℕ} (mail : AccessMessages w) (s : State (List ℕ)) (c n i : ℕ)
-    → IsElse n (asked_by mail s c) (block_message ReleaseAck c i (s.block i))
-unfolding IsElse block_message
-else_ack mail s c n i = (ack_message ((s.block i).release_source c), refl, refl)
 
 pub not_coming : {w : ℕ} {config : Config} {log : Log w} {mail : AccessMessages w} {request : ℕ → MessageA w}
     {s : State (List ℕ)} {sys : System w} (c n : ℕ)
     → SimulationRelation config log mail request s sys → is_sent ((s.block n).pair c).probing ≡ true
     → comes_granting n (asked_by mail s c) (unfinished Channel.D (sys.clients c).past) ≡ false
-not_coming {w} {config} {log} {mail} {request} {s} {sys} c n h sent = go (s.link c).d refl (h.carried c Channel.D)
+not_coming {mail} {s} {sys} c n h sent =
+    go (comes_granting n (asked_by mail s c) (unfinished Channel.D (sys.clients c).past)) (coming-granting c h n)
   where
-    rest_now : List (Beat w)
-    rest_now = unfinished Channel.D (sys.clients c).past
+    unsent : (v : View) → view (s.block n).service c ≡ v → is_granting v ≡ true → ⊥
+    unsent (Granting d k) e f =
+        let quiet = and_left (is_unprobed ((s.block n).pair c).probing) _
+        (granting_alone d k _ _ ((h.invariant.blocks n).phases c) e) in
+        let no : true ≡ false = sym quiet ∙ not-sent ((s.block n).pair c).probing sent in cc
+    unsent v e f = cc
 
-    elses : (k : Kind) (i : ℕ) (rest : List Packet) → (s.link c).d ≡ packet k i ∷ rest → is_on Channel.D k ≡ true
-        → IsElse n (asked_by mail s c) (message_of_kind k mail s c i)
-    elses Answer i rest first own = else_answer c n i rest h first
-    elses Grant i rest first own = else_grant c n i rest h first sent
-    elses ReleaseAck i rest first own = else_ack mail s c n i
-    elses k i rest first own = absurd cc
-
-    go : (xs : List Packet) → (s.link c).d ≡ xs → IsCarried rest_now (map (message_of mail s c) (s.link c).d)
-        (sys.channels c Channel.D) → comes_granting n (asked_by mail s c) rest_now ≡ false
-    go [] first carried =
-        let none : IsCarried rest_now [] (sys.channels c Channel.D) =
-        rw (ap (map (message_of mail s c)) first) at carried in
-        ap (comes_granting n (asked_by mail s c)) none.0
-    go (x ∷ xs) first carried =
-        let some : IsCarried rest_now (message_of mail s c x ∷ map (message_of mail s c) xs)
-        (sys.channels c Channel.D) = rw (ap (map (message_of mail s c)) first) at carried in
-        comes_else n (asked_by mail s c) _ some.0 _ some.2 (elses x.kind x.number xs first
-        (own_kind (is_caching config) s c Channel.D x.kind x.number xs h.invariant first))
+    go : (b : Bool) → (b ≡ true → is_granting (view (s.block n).service c) ≡ true) → b ≡ false
+    go true grants = absurd (unsent (view (s.block n).service c) refl (grants refl))
+    go false grants = refl
 
 -- ---- the Probe
 

@@ -4,11 +4,13 @@
 use Rattle.std.proofs.Common.{◌≡◌, ℕ, suc, ◌+◌, ◌<◌, Bool, true, false, ◌==◌, if◌then◌else◌, List, [], ◌∷◌, Some, None}
 use Rattle.std.proofs.Common.{refl, sym, ◌∙◌, ap, subst, arith, inl, length, eqb-true, map, nat_le}
 use Rattle.tl_coherence.proofs
+use proofs.queues.FirstToken.{first-token}
+use proofs.Imports.{is_caching, is_on}
 use proofs.Imports.{or_parts, Beat, Channel, IsWidth, length-begun, Message, MessageA, IsBlankAfter, a_beat_of}
 use proofs.Imports.{beats_of, begun, unfinished, completes, Config, is_last, not_last, broken_in_order, on_link}
 use proofs.Imports.{block_at, ends, same_block, EndConfig, reaction-part, End, before_stall, must_wait, reaction}
 use proofs.Imports.{is_in_service, services, Deliver, Outcome, Acquire, Kind, Packet, Request, Free, on, packet}
-use proofs.Imports.{AbstractState, abstract_delivery, abstract_step, kind_taken, packet_taken, IsCarried}
+use proofs.Imports.{AbstractState, abstract_delivery, abstract_step, kind_taken, packet_taken}
 use proofs.Imports.{ChannelRelation, MemoryRelation, message_of, SimulationRelation, Log, Machine, accesses_answered}
 use proofs.Imports.{performing, Step, handing, manager_took, only, stepped, System, terms_at, with_channel}
 use proofs.Imports.{with_manager}
@@ -21,7 +23,7 @@ use proofs.manager.Probing.{link_of, ends-coming, IsComing, IsUnwaited}
 use proofs.manager.RequestsTaken.{next_tracker, unwaited-asked, ready-request, at_manager-request_taken, acquire_wanted}
 use proofs.manager.RequestsTaken.{ready-acquire, at_manager-acquire_taken}
 use proofs.manager.Admitted.{order-access, order-acquire, early-acquire, unserved-free, first-beat, passes-first}
-use proofs.manager.Admitted.{waits-first, offered-taken, offered-stalled, first_counts}
+use proofs.manager.Admitted.{waits-first, offered-taken, offered-stalled}
 use proofs.queues.{Tokens.same_number, Carried.IsNext}
 use proofs.queues.Steps.{manager-with_messages, stepped-empty, stepped-to-manager}
 use proofs.deliveries.CarriedRequests.{carried-more, system_after, carried-request_taken, carried-acquire_taken}
@@ -138,7 +140,10 @@ pub record IsArrival {w : ℕ} (config : Config) (h : AbstractState w) (sys : Sy
 pub arrival-first : {w : ℕ} {config : Config} {log : Log w} (h : AbstractState w) {sys : System w} (c : ℕ) (x : Beat w)
     (queue : List (Beat w)) → IsWidth w → SimulationRelation config log h.mail h.request h.state sys
     → sys.channels c Channel.A ≡ x ∷ queue → IsArrival config h sys c x queue
-arrival-first {w} {config} {log} h {sys} c x queue width is beats = go (h.state.link c).a refl
+arrival-first {w} {config} {log} h {sys} c x queue width is beats =
+    let first = first-token (is_caching config) Channel.A c h.mail h.state sys x queue width is.invariant is.carried beats
+    in
+    of_kind first.kind first.number first.rest first.tokens first.own
   where
     arrived : (k : Kind) (i : ℕ) (rest : List Packet) (m : MessageA w) → IsOnLink config h sys c k i rest m
         → IsArrival config h sys c x queue
@@ -152,20 +157,14 @@ arrival-first {w} {config} {log} h {sys} c x queue width is beats = go (h.state.
     }
 
     of_kind : (k : Kind) (i : ℕ) (rest : List Packet) → (h.state.link c).a ≡ packet k i ∷ rest
-        → IsArrival config h sys c x queue
-    of_kind Request i rest e =
+        → is_on Channel.A k ≡ true → IsArrival config h sys c x queue
+    of_kind Request i rest e own =
         let asked = asked-first c i rest is e in
         arrived _ i rest _ (on_link-access h rest is e asked)
-    of_kind Acquire i rest e =
+    of_kind Acquire i rest e own =
         let wanted = wanted-first c i rest is e in
         arrived _ i rest _ (on_link-acquire h rest width is e wanted)
-    of_kind k i rest e = absurd (first_counts (packet k i) rest (rw e at (is.invariant.own_kinds c Channel.A k i refl)))
-
-    go : (xs : List Packet) → (h.state.link c).a ≡ xs → IsArrival config h sys c x queue
-    go [] e = let none : (IsCarried (unfinished Channel.A (on_link c sys.manager.trace))
-        (map (message_of h.mail h.state c) []) (sys.channels c Channel.A)) = rw e at (is.carried c Channel.A) in
-        absurd (cc)
-    go (y ∷ ys) e = of_kind y.kind y.number ys e
+    of_kind k i rest e own = absurd cc
 
 -- ---- it is taken, or has to wait
 

@@ -2,7 +2,7 @@
 -- Whether the protocol follows the world at every event of a list that is played, evaluated: the values that the ends,
 -- the manager and the flow have are those of the protocol, and its phases are well. By tests with numbers, of which
 -- those that fail are listed.
-use Rattle.std.proofs.Common.{◌≡◌, ℕ, zero, suc, ◌*◌, Bool, true, false, not, ◌&&◌, ◌||◌, ◌==◌, if◌then◌else◌, List, []}
+use Rattle.std.proofs.Common.{◌+◌, ◌≡◌, ℕ, zero, suc, ◌*◌, Bool, true, false, not, ◌&&◌, ◌||◌, ◌==◌, if◌then◌else◌, List, []}
 use Rattle.std.proofs.Common.{◌∷◌, ◌++◌, Option, Some, None, refl, length, lit≤, replicate, reverse, option_map}
 use Rattle.std.proofs.Common.{is_some}
 use Rattle.tl_coherence.proofs
@@ -15,7 +15,8 @@ use proofs.Imports.{Event, Deliver, acquires_of, acquires_with, is_of, releases_
 use proofs.Imports.{tracks_with, is_unprobed, is_unreleased, is_whole, same_cap, ok, Free, Service, State, Waits, view}
 use proofs.Imports.{is_acknowledging, is_answered, is_granting, is_unserved, is_wanting, AbstractState, abstract_step}
 use proofs.Imports.{first_abstract_state, some_below, comes_granting, client_in, is_own, is_let_by, is_release_pending}
-use proofs.Imports.{is_requested, is_sunk, AccessMessages, messages_on, probe_beat, block_message, asked_by, cap_waited}
+use proofs.links.Acknowledged.{acks}
+use proofs.Imports.{one_if, is_requested, AccessMessages, messages_on, probe_beat, block_message, asked_by, cap_waited}
 use proofs.Imports.{is_granted, is_served, started, receiver, flow, releases, requests, next_delivery}
 use proofs.Imports.{accesses_answered, performing, Step, stepped, System}
 use Rattle.tl_coherence.specs.refinement.Carried.{spelled}
@@ -125,7 +126,8 @@ flowed {w} blocks sources trackers mail s sys t c =
     && (implies (pending (RequestSource i) t) (same_a (request_of i t) (asked_by mail s c i))
     && (beq (pending (ReleaseSource i) t) (is_let_by c i (rest Channel.C) (s.lets c i) s) && implies
     (pending (ReleaseSource i) t) (is_of 6 (option_map (λ x. x.size) (release_of i t))))))
-    && (all_below trackers (λ i. beq (pending (GrantSink i) t) (is_sunk c i (rest Channel.D) (s.tracked i) s))
+    && (all_below trackers (λ i. one_if (pending (GrantSink i) t) == one_if (pending (GrantSink i) (sys.clients c).past)
+    + acks i (sys.channels c Channel.E))
     && (still Channel.A && (still Channel.B && (still Channel.C && (still Channel.D && still Channel.E))))))
 
 -- ---- channels, the memory and the protocol by itself

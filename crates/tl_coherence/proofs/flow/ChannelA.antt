@@ -1,20 +1,21 @@
 -- What is delivered on a link, as a beat of channel A is: of an access, or of an Acquire.
-use Rattle.std.proofs.Common.{◌≡◌, ℕ, Bool, true, false, ◌&&◌, ◌==◌, if◌then◌else◌, List, ◌∷◌, Option, Some, None, refl}
-use Rattle.std.proofs.Common.{sym, ◌∙◌, ap, subst, inl, inr, eqb-true}
+use Rattle.std.proofs.Common.{◌≡◌, ℕ, Bool, true, false, ◌&&◌, ◌==◌, if◌then◌else◌, List, ◌∷◌, Option, refl}
+use Rattle.std.proofs.Common.{sym, ◌∙◌, ap, subst, eqb-true}
 use Rattle.tl_coherence.proofs
-use proofs.Imports.{and-false, cases_eq, same_Some, Beat, BeatA, Channel, Message, a_beat_of, History, completes}
-use proofs.Imports.{is_empty, Config, Cap, comes_in_grant, comes_in_request, same_perm, same_block, Packet, set}
-use proofs.Imports.{Granting, Own, is_unprobed, is_unreleased, after_grant_sent, Block, Free, GrantSent, Replied, State}
+use proofs.Imports.{Beat, BeatA, Channel, Message, a_beat_of, History, completes}
+use proofs.Imports.{is_empty, Config, Cap, comes_in_request, same_perm, same_block, Packet, set}
+use proofs.Imports.{Granting, Own, is_unprobed, is_unreleased, after_grant_sent, Block, Free, Replied, State}
 use proofs.Imports.{acquire_granted, acquire_served, granted_at_once, served_block, view, is_acknowledging, is_answered}
 use proofs.Imports.{is_granting, is_unserved, AbstractState, MonitorRelation, SimulationRelation, asked_by, Log, System}
 use proofs.manager.{Admitted.first_three, RequestsTaken.acquire_wanted}
 use proofs.queues.{Carried.IsNext, Facts.asked_alone, Phases.and_left, Phases.and_right, Codes.acquires-so}
 use proofs.queues.Tokens.{if-part, same_number, set-same, set-other}
-use proofs.protocol.{HeadOfD.IsGrantDue, BothParts.quiet_unanswered}
+use proofs.protocol.{BothParts.quiet_unanswered}
 use proofs.protocol.Room.{acquisition_beats, IsAsked, IsWanted}
-use proofs.flow.{FlowAlone.AreRests, NextOnD.coming-sink, NextOnD.coming-granting, FlowStep.held_by}
+use proofs.client.HalfTaken.{coming-granting}
+use proofs.flow.{FlowAlone.AreRests, FlowStep.held_by}
 use proofs.flow.FlowAcquired.{IsAccess, flowed-access, flowed-acquire}
-use proofs.flow.FlowApart.{replied, sunk_in, sunk-elsewhere, tracked-new}
+use proofs.flow.FlowApart.{replied}
 use proofs.flow.FlowBeats.{came-so, comes-so, first-zero, one-beat, set_at-if, same_perms, unused-else}
 use proofs.simulation.Owned.{unfinished_at}
 use proofs.client.ClientEnd.{is_access, asks-access, asks-acquire}
@@ -49,7 +50,6 @@ module _ {w : ℕ} {config : Config} {log : Log w} (h : AbstractState w) {sys : 
         blocks = λ m. if-part (λ (z : State (List ℕ)). z.block m) b refl refl;
         uses = λ i. uses b i;
         lets = λ i. if-part (λ (z : State (List ℕ)). z.lets c i) b refl refl;
-        tracked = λ i. if-part (λ (z : State (List ℕ)). z.tracked i) b refl refl;
       }
     where
       uses : (z : Bool) (i : ℕ)
@@ -73,7 +73,7 @@ module _ {w : ℕ} {config : Config} {log : Log w} (h : AbstractState w) {sys : 
   -- ---- an Acquire
 
   module _ {n : ℕ} (wanted : IsWanted w c n h.state) (free : (h.state.block n).service ≡ Free) (tracker : ℕ)
-      (unused : h.state.tracked tracker ≡ None) (asked' : ℕ → Option (BeatA w)) (asks : (i : ℕ)
+      (asked' : ℕ → Option (BeatA w)) (asks : (i : ℕ)
       → asked' i ≡ asked_by h.mail h.state c i) where
     abbrev s : State (List ℕ)
     s = h.state
@@ -103,23 +103,17 @@ module _ {w : ℕ} {config : Config} {log : Log w} (h : AbstractState w) {sys : 
 
     acquired : (new : Block (List ℕ)) (s' : State (List ℕ)) → ((m : ℕ) → s'.block m ≡ set n new s.block m)
         → ((i : ℕ) → s'.uses c i ≡ s.uses c i) → ((i : ℕ) → s'.lets c i ≡ s.lets c i)
-        → ((i : ℕ) → s'.tracked i ≡ set tracker (Some n) s.tracked i) → IsTakenUp new
+        → IsTakenUp new
         → (x : Beat w) (ms : List (Message w)) (queue : List (Beat w))
         → IsNext x (unfinished_at sys c Channel.A) (Message.A (acquire_wanted c n s wanted)) ms queue
         → AreRests x (unfinished_at sys c) rest' → MonitorRelation asked' rest' c s' (x ∷ t)
-    acquired new s' changed uses lets tracked taken x ms queue next rests =
+    acquired new s' changed uses lets taken x ms queue next rests =
         let y : BeatA w = a_beat_of (acquire_wanted c n s wanted) 0 in
         let one = one-beat next (acquisition_beats w wanted.whole wanted.grow ((s.block n).source c) n) in
         let x_is : x ≡ Beat.A y = cc (next.beat_is, one.0) in
         let last_y : completes (Beat.A y) (unfinished_at sys c Channel.A) ≡ true = cc (x_is, one.2) in
         let rests_y : AreRests (Beat.A y) (unfinished_at sys c) rest' = rw x_is at rests in
         let now : s'.block n ≡ new = changed n ∙ set-same n new s.block in
-        let unsunk : (i : ℕ) → set tracker (Some n) s.tracked i ≡ Some n
-        → sunk_in c i (unfinished_at sys c Channel.D) (s'.block n) ≡ false =
-        λ i e. rw (
-          ap (λ b. is_acknowledging (view b.service c)) now ∙ taken.waits_so,
-          none_comes i e,
-        ) (and-false (is_granting (view (s'.block n).service c))) in
         subst (λ z. MonitorRelation asked' rest' c s' (z ∷ t)) (sym x_is)
         (flowed-acquire (ap is_empty (flowed.rest_is Channel.A ∙ one.1))
         (ap (completes (Beat.A y)) (flowed.rest_is Channel.A) ∙ last_y) rests_y (record {
@@ -140,9 +134,6 @@ module _ {w : ℕ} {config : Config} {log : Log w} (h : AbstractState w) {sys : 
           elsewhere = λ m ne. changed m ∙ set-other n m new s.block ne;
           uses = uses;
           lets = lets;
-          sinks = λ i. sunk-elsewhere c i n (unfinished_at sys c Channel.D) (s.tracked i) (s'.tracked i) s s'
-              (λ m ne. changed m ∙ set-other n m new s.block ne) (rw (tracked i)
-              (tracked-new n tracker s.tracked unused i)) (λ e. rw free refl) (λ e. unsunk i (sym (tracked i) ∙ e));
           held_is = ap (held_by c) now ∙ taken.keeps_held;
           served = ap (λ b. is_unserved (view b.service c)) now ∙ taken.serves;
           waits = ap (λ b. is_acknowledging (view b.service c)) now ∙ taken.waits_so;
@@ -151,23 +142,6 @@ module _ {w : ℕ} {config : Config} {log : Log w} (h : AbstractState w) {sys : 
           release_source = ap (λ b. b.release_source c) now ∙ taken.keeps_source;
           answered = cc (now, taken.pair_probing, quiet);
         }) flowed)
-      where
-        -- no Grant that was delivered in part is of the block
-        none_comes : (i : ℕ) → set tracker (Some n) s.tracked i ≡ Some n
-            → comes_in_grant i (unfinished_at sys c Channel.D) ≡ false
-        none_comes i e = go (comes_in_grant i (unfinished_at sys c Channel.D)) refl
-          where
-            go : (b : Bool) → comes_in_grant i (unfinished_at sys c Channel.D) ≡ b → b ≡ false
-            go false f = refl
-            go true f =
-                let of : (m : ℕ) × IsGrantDue c m s × (s.tracked i ≡ Some m) = coming-sink c i is f in
-                absurd (elim (cases_eq i tracker) [
-                  | inl same ↦ let no : None ≡ Some of.0 = sym unused ∙ sym (ap s.tracked same) ∙ of.2 in cc
-                  | inr other ↦
-                      let here = same_Some of.0 n (sym of.2 ∙ sym (set-other tracker i (Some n) s.tracked other) ∙ e) in
-                      let no : GrantSent c of.1.data_too of.1.k ≡ Free = cc (of.1.service, here, free) in
-                      cc
-                ])
 
     held_free : held_by c (s.block n) ≡ ((s.block n).pair c).recorded
     held_free = cc free
@@ -182,7 +156,7 @@ module _ {w : ℕ} {config : Config} {log : Log w} (h : AbstractState w) {sys : 
         let pair : new.pair c ≡ (s.block n).pair c = rw (same_number c) refl in
         let seen : view new.service c ≡ Own = rw (same_number c) refl in
         acquired new (acquire_served c n ((s.block n).source c) tracker k toks s) (λ m. refl)
-        (λ i. refl) (λ i. refl) (λ i. refl) (record {
+        (λ i. refl) (λ i. refl) (record {
           pair_acquiring = ap (λ p. p.acquiring) pair;
           pair_letting = ap (λ p. p.letting) pair;
           pair_probing = ap (λ p. p.probing) pair;
@@ -199,7 +173,7 @@ module _ {w : ℕ} {config : Config} {log : Log w} (h : AbstractState w) {sys : 
         → MonitorRelation asked' rest' c (acquire_granted c n tracker d k toks s) (x ∷ t)
     own-acquire_granted d k toks =
         let seen : view new.service c ≡ Granting d k = rw (same_number c) refl in
-        acquired new (acquire_granted c n tracker d k toks s) (λ m. refl) (λ i. refl) (λ i. refl) (λ i. refl) (record {
+        acquired new (acquire_granted c n tracker d k toks s) (λ m. refl) (λ i. refl) (λ i. refl) (record {
           pair_acquiring = ap (λ p. p.acquiring) pair;
           pair_letting = ap (λ p. p.letting) pair;
           pair_probing = ap (λ p. p.probing) pair;

@@ -12,7 +12,8 @@ use proofs.Imports.{is_granting, AbstractState, MonitorRelation, prune_told, rep
 use proofs.Imports.{SimulationRelation, asked_by, Log, System}
 use proofs.queues.{Carried.IsNext, Facts.answered_other, Facts.granting_alone, Phases.and_left, Phases.and_right}
 use proofs.queues.Tokens.{if-part, set-same, set-other}
-use proofs.flow.{FlowAlone.AreRests, FlowAlone.flowed-grant_ack, NextOnD.coming-granting, FlowLawful.other_ungranted}
+use proofs.client.HalfTaken.{coming-granting}
+use proofs.flow.{FlowAlone.AreRests, FlowAlone.flowed-grant_ack, FlowLawful.other_ungranted}
 use proofs.flow.{FlowStep.held_by, FlowOthers.flowed-report_part, FlowOthers.flowed-report}
 use proofs.flow.FlowReleased.{letting_after, flowed-release}
 use proofs.flow.FlowBeats.{came-so, comes-so, one-beat, first_false}
@@ -191,7 +192,6 @@ module _ {w : ℕ} {config : Config} {log : Log w} (h : AbstractState w) {sys : 
         elsewhere = λ k ne. if-part (λ (z : State (List ℕ)). z.block k) b (set-other n k new s.block ne) refl;
         uses = λ i. if-part (λ (z : State (List ℕ)). z.uses c i) b refl refl;
         lets = λ i. if-part (λ (z : State (List ℕ)). z.lets c i) b refl refl;
-        tracked = λ i. if-part (λ (z : State (List ℕ)). z.tracked i) b refl refl;
         held_is = held_is b;
         service = if-part (λ (z : State (List ℕ)). (z.block n).service) b (ap (λ z. z.service) now) refl;
         tracker = if-part (λ (z : State (List ℕ)). (z.block n).tracker) b (ap (λ z. z.tracker) now) refl;

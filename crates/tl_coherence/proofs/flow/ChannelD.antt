@@ -3,18 +3,17 @@ use Rattle.std.proofs.Common.{◌≡◌, ℕ, Bool, true, false, not, ◌&&◌, 
 use Rattle.std.proofs.Common.{sym, ◌∙◌, ap, subst, inl, eqb-true}
 use Rattle.tl_coherence.proofs
 use proofs.Imports.{and_right as with_false, eqb-false, Beat, BeatA, Channel, Message, MessageD, d_beat_of, History}
-use proofs.Imports.{unfinished, completes, is_empty, Config, Cap, cap_right, comes_in_grant, asks_for, is_grant}
-use proofs.Imports.{same_block, cap-gives, no_ack_grant, acquires_of, is_busy, Answer, Grant, Packet, ReleaseAck}
+use proofs.Imports.{unfinished, completes, is_empty, Config, Cap, cap_right, asks_for, is_grant}
+use proofs.Imports.{same_block, cap-gives, no_ack_grant, acquires_of, Answer, Grant, Packet, ReleaseAck}
 use proofs.Imports.{ClientBlock, Granting, is_unprobed, is_unreleased, after_grant, after_release_ack, Acquires, Block}
 use proofs.Imports.{SourceFree, State, answer_taken, grant_taken, let_go_block, packet, release_ack_taken, taken_block}
 use proofs.Imports.{view, is_answered, is_granting, is_wanting, AbstractState, comes_granting, MonitorRelation}
 use proofs.Imports.{block_message, SimulationRelation, asked_by, is_caching, Log, System}
-use Rattle.tl_manager.proofs.services.Serving.{not_swapped}
 use proofs.client.{AsideAll.set_at-else, ClientDelivered.ack_next, ClientEnd.asks-same, ClientEnd.asks-acquire}
 use proofs.queues.{Carried.IsNext, Facts.granting_alone, Phases.and_right, Codes.access_kind, Codes.grants-so}
 use proofs.queues.Tokens.{if-part, same_number, set-same, set-other}
 use proofs.flow.{FlowAlone.AreRests, FlowAnswered.flowed-answer, FlowAnswered.flowed-let_go, FlowGranted.seen_after}
-use proofs.flow.{FlowGranted.flowed-grant, FlowResponses.grant_quiet, FlowResponses.grant_tracked, FlowStep.held_by}
+use proofs.flow.{FlowGranted.flowed-grant, FlowResponses.grant_quiet, FlowStep.held_by}
 use proofs.flow.FlowBeats.{came-so, comes-so, one-beat, set_at-if, same_perms, unused-else, first_false}
 use proofs.simulation.Owned.{unfinished_at}
 use proofs.protocol.BothParts.{first-release_ack}
@@ -44,16 +43,7 @@ module _ {w : ℕ} {config : Config} {log : Log w} (h : AbstractState w) {sys : 
     next_y : IsNext (Beat.D (d_beat_of m next.k)) (unfinished_at sys c Channel.D) (Message.D m) ms queue
     next_y = subst (λ z. IsNext z (unfinished_at sys c Channel.D) (Message.D m) ms queue) next.beat_is next
 
-    -- what of a Grant with sink i was delivered, before and afterwards
-    came : (i : ℕ) → comes_in_grant i (unfinished_at sys c Channel.D)
-        ≡ (not (is_empty (unfinished_at sys c Channel.D)) && (is_grant m.opcode && (m.sink == i)))
-    came i = came-so (comes_in_grant i) (is_grant m.opcode && (m.sink == i)) next_y refl (λ j. refl)
-
-    comes : (i : ℕ) → comes_in_grant i (rest' Channel.D) ≡ (not b && (is_grant m.opcode && (m.sink == i)))
-    comes i = let fact = comes-so (comes_in_grant i) (Beat.D (d_beat_of m next.k)) (unfinished_at sys c Channel.D)
-        (is_grant m.opcode && (m.sink == i)) refl refl in cc (rests_y Channel.D, last_y)
-
-    -- and of a Grant of block j
+    -- what of a Grant of block j was delivered, before and afterwards
     granted : (j : ℕ) → comes_granting j before (unfinished_at sys c Channel.D)
         ≡ (not (is_empty (unfinished_at sys c Channel.D)) && (is_grant m.opcode && asks_for j (before m.source)))
     granted j = came-so (comes_granting j before)
@@ -72,12 +62,6 @@ module _ {w : ℕ} {config : Config} {log : Log w} (h : AbstractState w) {sys : 
     ends_y = ap (completes (Beat.D (d_beat_of m next.k))) (flowed.rest_is Channel.D) ∙ last_y
 
     -- nothing comes of a message that is no Grant
-    none_came : is_grant m.opcode ≡ false → (i : ℕ) → comes_in_grant i (rest' Channel.D) ≡ comes_in_grant i
-        (unfinished_at sys c Channel.D)
-    none_came e i = comes i ∙ with_false (not b) (is_grant m.opcode && (m.sink == i)) (first_false (is_grant m.opcode)
-        (m.sink == i) e) ∙ sym (came i ∙ with_false (not (is_empty (unfinished_at sys c Channel.D)))
-        (is_grant m.opcode && (m.sink == i)) (first_false (is_grant m.opcode) (m.sink == i) e))
-
     none_granted : is_grant m.opcode ≡ false → (asked' : ℕ → Option (BeatA w)) (j : ℕ)
         → comes_granting j asked' (rest' Channel.D) ≡ comes_granting j before (unfinished_at sys c Channel.D)
     none_granted e asked' j = grants asked' j ∙ with_false (not b) (is_grant m.opcode && asks_for j (asked' m.source))
@@ -116,12 +100,10 @@ module _ {w : ℕ} {config : Config} {log : Log w} (h : AbstractState w) {sys : 
       (rests_y due.answer x ms queue here rests b last) (record {
         grant = kind.0;
         ack = kind.1;
-        comes = none_came due.answer x ms queue here rests b last kind.0;
         grants = none_granted due.answer x ms queue here rests b last kind.0 (asked_by h.mail (answered_if source b) c);
         blocks = λ k. if-part (λ (z : State (List ℕ)). z.block k) b refl refl;
         uses = λ i. answer_uses source b i due.answer.source due.from;
         lets = λ i. if-part (λ (z : State (List ℕ)). z.lets c i) b refl refl;
-        tracked = λ i. if-part (λ (z : State (List ℕ)). z.tracked i) b refl refl;
         asked_is = λ i e. answer_asks source b i due.answer.source due.from e;
       }) flowed)
 
@@ -144,13 +126,11 @@ module _ {w : ℕ} {config : Config} {log : Log w} (h : AbstractState w) {sys : 
         ack = refl;
         source = refl;
         letting = first-release_ack is.invariant tokens;
-        comes = none_came m x ms queue here rests true one.2 refl;
         grants = none_granted m x ms queue here rests true one.2 refl asked';
         asked_is = asks;
         elsewhere = λ k ne. set-other n k new s.block ne;
         uses = λ i. refl;
         lets = λ i. set_at-if c ((s.block n).release_source c) i None s.lets ((s.block n).release_source c) refl;
-        tracked = λ i. refl;
         held_is = ap (held_by c) now ∙ ap (λ p. if is_granting (view (s.block n).service c) then p.held
             else p.recorded) pair;
         service = ap (λ z. z.service) now;
@@ -226,12 +206,7 @@ module _ {w : ℕ} {config : Config} {log : Log w} (h : AbstractState w) {sys : 
         quiet = grant_quiet is.invariant due;
         use_is = λ i e. ap (s.uses c) (sym (eqb-true ((s.block n).source c) i e)) ∙ due.used;
         no_use = λ i e. unused-else c n i is.invariant.named e;
-        tracks = λ i e. cc (eqb-true (s.block n).tracker i e, grant_tracked is.invariant due);
-        tracks_not = λ i e. is.invariant.named.trackers i n ∙ with_false (is_busy (s.block n).service)
-            (i == (s.block n).tracker) (not_swapped (s.block n).tracker i e);
         asks = asks;
-        came = λ i. cc (came m x ms queue here rests b last i, grants-so due.data_too);
-        comes = λ i. cc (comes m x ms queue here rests b last i, grants-so due.data_too);
         granted = λ j. cc (granted m x ms queue here rests b last j, grants-so due.data_too, asks j);
         grants = λ j. let fact = grants m x ms queue here rests b last (asked_by h.mail (s_if b) c) j in
             cc (grants-so due.data_too, asks_now b j);
@@ -239,7 +214,6 @@ module _ {w : ℕ} {config : Config} {log : Log w} (h : AbstractState w) {sys : 
         elsewhere = λ k ne. if-part (λ (z : State (List ℕ)). z.block k) b (set-other n k new s.block ne) refl;
         uses = uses b;
         lets = λ i. if-part (λ (z : State (List ℕ)). z.lets c i) b refl refl;
-        tracked = λ i. if-part (λ (z : State (List ℕ)). z.tracked i) b refl refl;
         held_is = held_is b;
         seen_is = seen_is b;
         wants_is = wants_is b;

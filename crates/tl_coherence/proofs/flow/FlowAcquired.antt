@@ -1,13 +1,13 @@
 -- What is delivered on a link, as a beat of an access is.
 -- What is delivered on a link, as the beat of an Acquire is.
 use Rattle.std.proofs.Common.{◌≡◌, ℕ, Bool, true, false, not, ◌&&◌, ◌||◌, ◌==◌, if◌then◌else◌, List, ◌∷◌, Option, Some}
-use Rattle.std.proofs.Common.{None, refl, sym, ◌∙◌, ap, arith, ne_eqb}
+use Rattle.std.proofs.Common.{refl, sym, ◌∙◌, ap, arith, ne_eqb}
 use Rattle.tl_coherence.proofs
 use proofs.Imports.{and_from, and_right, Beat, BeatA, Channel, History, Perm, comes_in_request, begins, block_at, ends}
 use proofs.Imports.{is_acquire, grant_sink, probe_of, release_of, request_of, grant_sink-a, probe_of-a, acquires_of}
 use proofs.Imports.{Idle, Acquires, Asked, Block, InService, Replied, SourceFree, SourceState, State, view}
 use proofs.Imports.{is_acknowledging, is_answered, is_granting, is_unserved, is_wanting, comes_granting}
-use proofs.Imports.{MonitorRelation, is_let_by, is_requested, is_sunk, probe_beat, cap_waited}
+use proofs.Imports.{MonitorRelation, is_let_by, is_requested, probe_beat, cap_waited}
 use proofs.flow.FlowAlone.{AreRests, let_by-same, no_coming, IsComing}
 use proofs.flow.FlowGranted.{begun, requested-apart}
 use proofs.flow.FlowReleased.{with_true, AreElsewhere, each-block, part-block}
@@ -46,7 +46,6 @@ pub record IsAccess {w : ℕ} {X : Type 0} (c : ℕ) (y : BeatA w) (first last :
   pub blocks : (m : ℕ) → s'.block m ≡ s.block m
   pub uses : (i : ℕ) → s'.uses c i ≡ (if last && (y.source == i) then Replied else s.uses c i)
   pub lets : (i : ℕ) → s'.lets c i ≡ s.lets c i
-  pub tracked : (i : ℕ) → s'.tracked i ≡ s.tracked i
 
 requested-rest : {w : ℕ} {X : Type 0} (c i : ℕ) (rest rest' : List (Beat w)) (u : SourceState) (s s' : State X)
     → ((m : ℕ) → s'.block m ≡ s.block m)
@@ -62,8 +61,6 @@ pub flowed-access : {w : ℕ} {X : Type 0} {c : ℕ} {y : BeatA w} {first last :
     → ends (Beat.A y) t ≡ last → AreRests (Beat.A y) rest rest' → IsAccess c y first last asked rest rest' s s'
     → MonitorRelation asked rest c s t → MonitorRelation asked rest' c s' (Beat.A y ∷ t)
 flowed-access {w} {X} {c} {y} {first} {last} {asked} {rest} {rest'} {s} {s'} {t} first_is last_is rests is before =
-    let sinks : (i : ℕ) (o : Option ℕ) → is_sunk c i (rest Channel.D) o s' ≡ is_sunk c i (rest Channel.D) o s =
-    λ i. elim [ None ↦ refl | Some m ↦ cc (is.blocks m) ] in
     let grants : (m : ℕ) → granted_by c m asked (rest' Channel.D) (s'.block m) ≡ granted_by c m asked (rest Channel.D)
     (s.block m) = λ m. cc (rests Channel.D, is.blocks m) in
     flowed-next first_is last_is rests (record {
@@ -75,9 +72,6 @@ flowed-access {w} {X} {c} {y} {first} {last} {asked} {rest} {rest'} {s} {s'} {t}
       released = λ i m e f. let_still before i m (released-of i y t) (cc (is.lets i))
           (cc (before.release_sources i, lets i));
       releases = λ m. cc (rests Channel.C, is.blocks m, step_quiet first last (let_of c (rest Channel.C) (s.block m)));
-      sinks = λ i. ap (λ l. is_sunk c i l (s'.tracked i) s') (rests Channel.D)
-          ∙ ap (λ o. is_sunk c i (rest Channel.D) o s') (is.tracked i) ∙ sinks i (s.tracked i)
-          ∙ sym (step_quiet first last (is_sunk c i (rest Channel.D) (s.tracked i) s));
       grants = λ m. grants m ∙ sym (step_quiet first last (granted_by c m asked (rest Channel.D) (s.block m)));
       probes = λ m. cc (is.blocks m, step_quiet first last (is_answered ((s.block m).pair c).probing));
       probed = λ m e. probe_of-a m y t ∙ before.probed m (sym (ap (λ z. is_answered (z.pair c).probing)
@@ -137,7 +131,6 @@ pub record IsAcquired {w : ℕ} {X : Type 0} (c n : ℕ) (y : BeatA w) (asked as
   pub elsewhere : AreElsewhere n s s'
   pub uses : (i : ℕ) → s'.uses c i ≡ s.uses c i
   pub lets : (i : ℕ) → s'.lets c i ≡ s.lets c i
-  pub sinks : (i : ℕ) → is_sunk c i (rest Channel.D) (s'.tracked i) s' ≡ is_sunk c i (rest Channel.D) (s.tracked i) s
   pub held_is : held_by c (s'.block n) ≡ held_by c (s.block n)
   pub served : is_unserved (view (s'.block n).service c) ≡ false
   pub waits : is_acknowledging (view (s'.block n).service c) ≡ false
@@ -191,7 +184,6 @@ flowed-acquire {w} {X} {c} {n} {y} {asked} {asked'} {rest} {rest'} {s} {s'} {t} 
           (cc (before.release_sources i, lets i));
       releases = λ m. ap (λ l. let_of c l (s'.block m)) (rests Channel.C) ∙ part-block
           (let_of c (rest Channel.C)) n s s' is.elsewhere (rw (is.release_source, is.letting_is) refl) m;
-      sinks = λ i. ap (λ l. is_sunk c i l (s'.tracked i) s') (rests Channel.D) ∙ is.sinks i;
       grants = grants;
       probes = answered;
       probed = λ m e. probe_of-a m y t ∙ probed m e;

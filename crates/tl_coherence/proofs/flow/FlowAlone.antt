@@ -2,21 +2,21 @@
 -- What is delivered on a link, as an event leaves it alone: each value of it is as before.
 -- What is delivered on a link, as a Probe or a GrantAck is: messages of one beat, which leave requests and Releases
 -- alone.
-use Rattle.std.proofs.Common.{◌≡◌, ℕ, Bool, true, false, not, ◌&&◌, ◌||◌, ◌==◌, if◌then◌else◌, List, ◌∷◌, Option, Some}
+use Rattle.std.proofs.Common.{◌≡◌, ℕ, Bool, true, false, not, ◌&&◌, ◌||◌, if◌then◌else◌, List, ◌∷◌, Option, Some}
 use Rattle.std.proofs.Common.{None, refl, sym, ◌∙◌, ap, arith, ◌⊎◌, inl, inr, ne_eqb, eqb-true}
 use Rattle.tl_coherence.proofs
-use proofs.Imports.{cases_eq, Beat, BeatA, BeatE, Channel, History, grown, comes_in_grant, begins, ends, grant_sink}
+use proofs.Imports.{Beat, BeatA, BeatE, Channel, History, grown, begins, ends, grant_sink}
 use proofs.Imports.{probe_of, release_of, request_of-e, AreNamed, is_busy, is_of, Packet, Acknowledging, View, Acquires}
 use proofs.Imports.{Block, Free, InService, Replied, Service, SourceState, State, freed_block, grant_ack_taken, view}
 use proofs.Imports.{is_acknowledging, is_answered, is_granting, is_unserved, is_wanting, comes_granting}
-use proofs.Imports.{MonitorRelation, is_let_by, is_release_pending, is_requested, is_sunk, probe_beat, cap_waited}
+use proofs.Imports.{MonitorRelation, is_let_by, is_release_pending, is_requested, probe_beat, cap_waited}
 use Rattle.tl_burst.specs.statement.Messages.{on}
 use Rattle.tl_rules.specs.statement.History.{is_sink}
 use Rattle.tl_client.proofs.pending.AccountedResponse.{is_own_sink}
 use Rattle.tl_manager.proofs.pending.Acked.{probe_of-e, grant_sink-e}
 use proofs.flow.FlowStep.{held_by, acquired_by, let_of, granted_by, flowed-next, step, let_still}
 use proofs.client.ClientEnd.{comes-same}
-use proofs.queues.Tokens.{same_number, set-same, set-other, set-each, set-part}
+use proofs.queues.Tokens.{same_number, set-each, set-part}
 
 -- each value is as before
 pub record IsUntouched {w : ℕ} {X : Type 0} (asked asked' : ℕ → Option (BeatA w)) (rest : Channel → List (Beat w))
@@ -31,7 +31,6 @@ pub record IsUntouched {w : ℕ} {X : Type 0} (asked asked' : ℕ → Option (Be
   pub lets : (i n : ℕ) → is_let_by c i (rest Channel.C) (s.lets c i) s ≡ true → s'.lets c i ≡ Some n
       → s.lets c i ≡ Some n
   pub releases : (n : ℕ) → let_of c (rest Channel.C) (s'.block n) ≡ let_of c (rest Channel.C) (s.block n)
-  pub sinks : (i : ℕ) → is_sunk c i (rest Channel.D) (s'.tracked i) s' ≡ is_sunk c i (rest Channel.D) (s.tracked i) s
   pub grants : (n : ℕ) → granted_by c n asked' (rest Channel.D) (s'.block n) ≡ granted_by c n asked (rest Channel.D)
       (s.block n)
   pub probes : (n : ℕ) → is_answered ((s'.block n).pair c).probing ≡ is_answered ((s.block n).pair c).probing
@@ -53,7 +52,6 @@ flowed-untouched is before = record {
   released = λ i n e f. before.released i n (is.lets i n (sym (before.release_sources i) ∙ f) e) f;
   sizes = λ i n e f. before.sizes i n (is.lets i n (sym (before.release_sources i) ∙ f) e) f;
   releases = λ n. before.releases n ∙ sym (is.releases n);
-  sinks = λ i. before.sinks i ∙ sym (is.sinks i);
   grants = λ n. before.grants n ∙ sym (is.grants n);
   probes = λ n. before.probes n ∙ sym (is.probes n);
   probed = λ n e. cc (before.probed n (sym (is.probes n) ∙ e), is.caps n (sym (is.probes n) ∙ e));
@@ -74,7 +72,6 @@ flowed-rests {w} {asked} rest' {c} {s} same before = record {
   released = before.released;
   sizes = before.sizes;
   releases = λ n. before.releases n ∙ ap (λ l. let_of c l (s.block n)) (sym (same Channel.C));
-  sinks = λ i. before.sinks i ∙ ap (λ l. is_sunk c i l (s.tracked i) s) (sym (same Channel.D));
   grants = λ n. before.grants n ∙ ap (λ l. granted_by c n asked l (s.block n)) (sym (same Channel.D));
   probes = before.probes;
   probed = before.probed;
@@ -110,7 +107,7 @@ same-block d b = record {
 abbrev pub AreSame : {X : Type 0} → ℕ → State X → State X → Type 0
 AreSame d s s' = (n : ℕ) → IsSameBlock d (s.block n) (s'.block n)
 
--- ---- requests, Releases and sinks
+-- ---- requests and Releases
 
 -- the requests of both uses were delivered, and their responses weren't
 abbrev pub is_heard : SourceState → Bool
@@ -156,7 +153,6 @@ pub record IsAside {w : ℕ} {X : Type 0} (asked asked' : ℕ → Option (BeatA 
   pub blocks : AreSame d s s'
   pub uses : (i : ℕ) → IsSameUse (s.uses d i) (s'.uses d i)
   pub lets : (i : ℕ) → s'.lets d i ≡ s.lets d i
-  pub sinks : (i : ℕ) → is_sunk d i (rest Channel.D) (s'.tracked i) s' ≡ is_sunk d i (rest Channel.D) (s.tracked i) s
   pub asked_is : (i : ℕ) → asked' i ≡ asked i
   pub coming : IsComing asked (rest Channel.D) d s
 
@@ -175,7 +171,6 @@ flowed-aside {w} {X} {asked} {asked'} {rest} {d} {s} {s'} {t} is = flowed-untouc
       (rest Channel.C) (s.lets d i) s s' (λ n. (is.blocks n).letting);
   lets = λ i n e f. sym (is.lets i) ∙ f;
   releases = λ n. cc ((is.blocks n).source, (is.blocks n).letting);
-  sinks = is.sinks;
   grants = λ n. rw ((is.blocks n).acknowledging, (comes-same n asked asked' (rest Channel.D) is.asked_is)) refl;
   probes = λ n. (is.blocks n).answered;
   caps = λ n e. (is.blocks n).cap ((is.blocks n).answered ∙ e);
@@ -202,7 +197,6 @@ flowed-asks {asked} asked' {rest} {d} {s} asks = flowed-untouched (record {
   release_sources = λ i. refl;
   lets = λ i n e f. f;
   releases = λ n. refl;
-  sinks = λ i. refl;
   grants = λ n. ap (λ z. is_acknowledging (view (s.block n).service d) || z)
       (comes-same n asked asked' (rest Channel.D) asks);
   probes = λ n. refl;
@@ -269,7 +263,6 @@ flowed-grant_ack {w} {X} {c} n toks y {asked} asked' {rest} rest' {s}
       release_sources = lets;
       released = λ i m e f. let_still before i m (released-of i y t) e (cc (before.release_sources i, lets i));
       releases = λ m. cc (rests Channel.C, set-part (let_of c (rest Channel.C)) n new s.block refl m);
-      sinks = sinks;
       grants = grants;
       probes = set-part (λ z. is_answered (z.pair c).probing) n new s.block refl;
       probed = λ m e. probe_of-e m y t ∙ probed m e;
@@ -325,26 +318,3 @@ flowed-grant_ack {w} {X} {c} n toks y {asked} asked' {rest} rest' {s}
         → is_sink y.sink (grant_sink m t) ≡ false
     other_closed m ne e = rw sink (other_sink b.tracker (s.block m).tracker (grant_sink m t)
         (before.sunk m (before.grants m ∙ e)) (apart m (of_block m e) ne))
-
-    sinks : (i : ℕ) → is_sunk c i (rest' Channel.D) (s'.tracked i) s' ≡ step true true false (y.sink == i)
-        (is_sunk c i (rest Channel.D) (s.tracked i) s)
-    sinks i = ap (λ r. is_sunk c i r (s'.tracked i) s') (rests Channel.D) ∙ go (cases_eq i b.tracker)
-      where
-        others : (o : Option ℕ) → is_of n o ≡ false → is_sunk c i (rest Channel.D) o s' ≡ is_sunk c i (rest Channel.D) o
-            s
-        others None f = refl
-        others (Some m) f = ap (λ z. is_sunk_with z) (set-other n m new s.block (λ e. let g : true ≡ false =
-            sym (rw e (same_number n)) ∙ f in cc))
-          where
-            is_sunk_with : Block X → Bool
-            is_sunk_with z = is_acknowledging (view z.service c) || (is_granting (view z.service c) && comes_in_grant i
-                (rest Channel.D))
-
-        go : (i ≡ b.tracker) ⊎ (i ≡ b.tracker → ⊥) → is_sunk c i (rest Channel.D) (s'.tracked i) s' ≡ step true true
-            false (y.sink == i) (is_sunk c i (rest Channel.D) (s.tracked i) s)
-        go (inl same) = let fact = closes_it (is_sunk c i (rest Channel.D) (s.tracked i) s) (y.sink == i)
-            (rw (sink, same) (same_number b.tracker)) in cc (same, set-same b.tracker None s.tracked)
-        go (inr other) = let fact =
-            others _ (named.trackers i n ∙ rw (busy, ne_eqb i b.tracker other) refl) in let other_fact =
-            leaves_it (is_sunk c i (rest Channel.D) (s.tracked i) s) (y.sink == i)
-            (λ e. rw sink (ne_eqb b.tracker i (λ f. other (sym f)))) in cc (set-other b.tracker i None s.tracked other)

@@ -2,13 +2,13 @@
 use Rattle.std.proofs.Common.{◌≡◌, ℕ, Bool, true, false, not, ◌&&◌, ◌||◌, ◌==◌, if◌then◌else◌, List, ◌∷◌, Option, Some}
 use Rattle.std.proofs.Common.{None, refl, sym, ◌∙◌, ap, arith, ne_eqb, eqb-true, unwrap_or, option_map}
 use Rattle.tl_coherence.proofs
-use proofs.Imports.{Beat, BeatA, BeatC, BeatD, Channel, History, ReleaseSource, Perm, comes_in_grant, asks_for, begins}
+use proofs.Imports.{Beat, BeatA, BeatC, BeatD, Channel, History, ReleaseSource, Perm, asks_for, begins}
 use proofs.Imports.{block_at, capped, ends, is_grant, is_release_ack, grant_sink, pending, probe_of, release_of}
 use proofs.Imports.{request_of, release_of-d, request_of-d, is_of, releases_with, NoRelease, ReleaseAcked, Block}
 use proofs.Imports.{SourceFree, SourceState, State, view, is_acknowledging, is_answered, is_unserved, comes_granting}
-use proofs.Imports.{MonitorRelation, is_let_by, is_release_pending, is_requested, is_sunk, probe_beat, cap_waited}
+use proofs.Imports.{MonitorRelation, is_let_by, is_release_pending, is_requested, probe_beat, cap_waited}
 use Rattle.tl_rules.specs.statement.History.{releases}
-use proofs.flow.{FlowAlone.AreRests, FlowAlone.requested-blocks, FlowAlone.let_by-same, FlowOthers.unopened}
+use proofs.flow.{FlowAlone.AreRests, FlowAlone.requested-blocks, FlowAlone.let_by-same}
 use proofs.flow.FlowReleased.{AreElsewhere, each-block, part-block}
 use proofs.flow.FlowStep.{flowed-next, held_by, acquired_by, let_of, granted_by, step, step_quiet, let_still}
 use proofs.queues.Tokens.{same_number}
@@ -42,12 +42,10 @@ pub record IsAnswering {w : ℕ} {X : Type 0} (c : ℕ) (y : BeatD w) (last : Bo
     (rest rest' : Channel → List (Beat w)) (s s' : State X) : Type 0 where
   pub grant : is_grant y.opcode ≡ false
   pub ack : is_release_ack y.opcode ≡ false
-  pub comes : (i : ℕ) → comes_in_grant i (rest' Channel.D) ≡ comes_in_grant i (rest Channel.D)
   pub grants : (m : ℕ) → comes_granting m asked' (rest' Channel.D) ≡ comes_granting m asked (rest Channel.D)
   pub blocks : (m : ℕ) → s'.block m ≡ s.block m
   pub uses : (i : ℕ) → s'.uses c i ≡ (if last && (y.source == i) then SourceFree else s.uses c i)
   pub lets : (i : ℕ) → s'.lets c i ≡ s.lets c i
-  pub tracked : (i : ℕ) → s'.tracked i ≡ s.tracked i
   pub asked_is : (i : ℕ) → (last && (y.source == i)) ≡ false → asked' i ≡ asked i
 
 pub flowed-answer : {w : ℕ} {X : Type 0} {c : ℕ} {y : BeatD w} (first : Bool) {last : Bool}
@@ -57,8 +55,6 @@ pub flowed-answer : {w : ℕ} {X : Type 0} {c : ℕ} {y : BeatD w} (first : Bool
     → MonitorRelation asked' rest' c s' (Beat.D y ∷ t)
 flowed-answer {w} {X} {c} {y} first {last} {asked} {asked'} {rest} {rest'} {s} {s'} {t} first_is last_is rests is
     before =
-    let sinks : (i : ℕ) (o : Option ℕ) → is_sunk c i (rest' Channel.D) o s' ≡ is_sunk c i (rest Channel.D) o s =
-    λ i. elim [ None ↦ refl | Some m ↦ cc (is.comes i, is.blocks m) ] in
     flowed-next first_is last_is rests (record {
       held_is = λ m. ap (held_by c) (is.blocks m) ∙ sym (unsaid last (is_grant y.opcode)
           (asks_for m (request_of y.source t)) (capped y.param) (held_by c (s.block m)) is.grant);
@@ -73,8 +69,6 @@ flowed-answer {w} {X} {c} {y} first {last} {asked} {asked'} {rest} {rest'} {s} {
           (cc (before.release_sources i, lets i));
       releases =
           λ m. cc (rests Channel.C, is.blocks m, is.ack, step_quiet first last (let_of c (rest Channel.C) (s.block m)));
-      sinks = λ i. ap (λ o. is_sunk c i (rest' Channel.D) o s') (is.tracked i) ∙ sinks i (s.tracked i) ∙ sym (unopened
-          first last (is_grant y.opcode) (y.sink == i) (is_sunk c i (rest Channel.D) (s.tracked i) s) is.grant);
       grants = λ m. cc (grants m, is.grant, step_quiet first last (granted_by c m asked (rest Channel.D) (s.block m)));
       probes = λ m. cc (is.blocks m, step_quiet first last (is_answered ((s.block m).pair c).probing));
       probed = λ m e. probed-of m y t ∙ before.probed m (sym (ap (λ z. is_answered (z.pair c).probing)
@@ -124,13 +118,11 @@ pub record IsLetGo {w : ℕ} {X : Type 0} (c n : ℕ) (y : BeatD w) (asked asked
   pub ack : is_release_ack y.opcode ≡ true
   pub source : y.source ≡ (s.block n).release_source c
   pub letting : ((s.block n).pair c).letting ≡ ReleaseAcked
-  pub comes : (i : ℕ) → comes_in_grant i (rest' Channel.D) ≡ comes_in_grant i (rest Channel.D)
   pub grants : (m : ℕ) → comes_granting m asked' (rest' Channel.D) ≡ comes_granting m asked (rest Channel.D)
   pub asked_is : (i : ℕ) → asked' i ≡ asked i
   pub elsewhere : AreElsewhere n s s'
   pub uses : (i : ℕ) → s'.uses c i ≡ s.uses c i
   pub lets : (i : ℕ) → s'.lets c i ≡ (if y.source == i then None else s.lets c i)
-  pub tracked : (i : ℕ) → s'.tracked i ≡ s.tracked i
   pub held_is : held_by c (s'.block n) ≡ held_by c (s.block n)
   pub service : (s'.block n).service ≡ (s.block n).service
   pub tracker : (s'.block n).tracker ≡ (s.block n).tracker
@@ -190,8 +182,6 @@ flowed-let_go {w} {X} {c} {n} {y} {asked} {asked'} {rest} {rest'} {s} {s'} {t} f
       released = λ i m e f. let_still before i m (release_of-d i y t) (is_another i m e (y.source == i) refl).1
           (still_pending i m e f);
       releases = λ m. ap (λ l. let_of c l (s'.block m)) (rests Channel.C) ∙ releases_at m;
-      sinks = λ i. ap (λ o. is_sunk c i (rest' Channel.D) o s') (is.tracked i) ∙ sinks i (s.tracked i) ∙ sym (unopened
-          true true (is_grant y.opcode) (y.sink == i) (is_sunk c i (rest Channel.D) (s.tracked i) s) is.grant);
       grants = λ m. cc (grants m, is.grant);
       probes = answered;
       probed = λ m e. probed-of m y t ∙ before.probed m (sym (answered m) ∙ e) ∙ sym (ap (λ k. Some (probe_beat m k))
@@ -202,10 +192,6 @@ flowed-let_go {w} {X} {c} {n} {y} {asked} {asked'} {rest} {rest'} {s} {s'} {t} f
   where
     b : Block X
     b = s.block n
-
-    sinks : (i : ℕ) (o : Option ℕ) → is_sunk c i (rest' Channel.D) o s' ≡ is_sunk c i (rest Channel.D) o s
-    sinks i None = refl
-    sinks i (Some m) = cc (is.comes i, part-block (λ z. z.service) n s s' is.elsewhere is.service m)
 
     grants : (m : ℕ) → granted_by c m asked' (rest' Channel.D) (s'.block m) ≡ granted_by c m asked (rest Channel.D)
         (s.block m)

@@ -15,10 +15,10 @@ use proofs.client.AsideAll.{set_at-else, Leaves, leaves-asked}
 use proofs.deliveries.AskedAfter.{reply-cases, IsPlain}
 use proofs.memory.BesideAsked.{IsReply}
 use proofs.queues.{Facts.unserved_calm, Tokens.set-same, Tokens.set-part, Tokens.same_number, Tokens.set_at-same}
+use proofs.client.HalfTaken.{coming-granting}
 use proofs.flow.{FlowStep.held_by, FlowStep.acquired_by, FlowStep.let_of, FlowStep.granted_by, FlowResponses.waits_on_a}
-use proofs.flow.{FlowResponses.not-coming_a, NextOnD.coming-granting, NextOnD.coming-asked, NextOnD.coming-free}
-use proofs.flow.FlowApart.{left-access_asked, left-acquire_asked, left-release_asked, left-block_stored, sunk_in}
-use proofs.flow.FlowApart.{sunk-as}
+use proofs.flow.{FlowResponses.not-coming_a, NextOnD.coming-asked, NextOnD.coming-free}
+use proofs.flow.FlowApart.{left-access_asked, left-acquire_asked, left-release_asked, left-block_stored}
 use proofs.flow.FlowAlone.{flowed-untouched, IsAside, flowed-aside, IsUntouched, requested-blocks, let_by-same}
 use proofs.protocol.FollowKept.{IsAskable}
 use proofs.simulation.Owned.{unfinished_at}
@@ -58,7 +58,6 @@ untouched-access_asked c source asked asked' rest s closed none asks grants = re
   release_sources = λ i. let_by-same c i (rest Channel.C) (s.lets c i) s (access_asked c source s) (λ m. refl);
   lets = λ i m e f. f;
   releases = λ m. refl;
-  sinks = λ i. sunk-as c i (rest Channel.D) (s.tracked i) s (access_asked c source s) (λ m. refl);
   grants = λ m. ap (λ z. is_acknowledging (view (s.block m).service c) || z) (grants m);
   probes = λ m. refl;
   caps = λ m e. refl;
@@ -93,7 +92,6 @@ untouched-acquire_asked {w} {X} c n source whole g bytes asked asked' rest s clo
       lets = λ i m e f. f;
       releases = set-part (let_of c (rest Channel.C)) n new s.block
           (ap (is_release_pending (b.release_source c) (rest Channel.C)) letting_same);
-      sinks = λ i. sunk-as c i _ (s.tracked i) s s' (set-part (sunk_in c i (rest Channel.D)) n new s.block refl);
       grants = λ m. cc (grants m, set-part (granted_by c m asked (rest Channel.D)) n new s.block refl m);
       probes = set-part (λ z. is_answered (z.pair c).probing) n new s.block (ap (λ p. is_answered p.probing) pair);
       caps = λ m e. set-part (λ z. cap_waited z.service) n new s.block refl m;
@@ -125,7 +123,6 @@ untouched-release_asked {w} {X} c n source r asked asked' rest s free none kept 
       lets = λ i m e f. still i m e f;
       releases = set-part (let_of c (rest Channel.C)) n new s.block
           (cc (letting_is, set-same c source b.release_source, none, kept));
-      sinks = λ i. sunk-as c i _ (s.tracked i) s s' (set-part (sunk_in c i (rest Channel.D)) n new s.block refl);
       grants = λ m. let fact = set-part (granted_by c m asked (rest Channel.D)) n new s.block refl m in
           cc (comes-same m asked asked' (rest Channel.D) asks);
       probes = set-part (λ z. is_answered (z.pair c).probing) n new s.block (ap (λ p. is_answered p.probing) pair);

@@ -4,32 +4,34 @@
 -- What is delivered on a link, as a Probe is.
 -- What is delivered on a link, as the beat of a Probe is, for a whole that is that of the protocol.
 use Rattle.std.proofs.Common.{◌≡◌, ℕ, zero, suc, ◌*◌, Bool, true, false, not, ◌&&◌, ◌==◌, if◌then◌else◌, List, [], ◌∷◌}
-use Rattle.std.proofs.Common.{Option, Some, None, refl, sym, ◌∙◌, ap, subst, arith, inl, inr, ne_eqb, map}
+use Rattle.std.proofs.Common.{eqb-true, Option, Some, None, refl, sym, ◌∙◌, ap, subst, arith, inl, inr, ne_eqb}
 use Rattle.tl_coherence.proofs
-use proofs.Imports.{and_right, cases_eq, same_Some, Beat, BeatA, BeatB, BeatE, Channel, IsWidth, Message, MessageA}
-use proofs.Imports.{MessageD, beats_of, begun, History, channel_of, grown, unfinished, completes, is_empty, Config}
+use proofs.Imports.{and_right, cases_eq, Beat, BeatA, BeatB, BeatE, Channel, IsWidth, Message, MessageA}
+use proofs.Imports.{beats_of, begun, History, channel_of, grown, unfinished, completes, is_empty, Config}
 use proofs.Imports.{Level, Cap, Perm, comes_in_grant, same_perm, broken_after, on_link, begins, block_at, ends}
-use proofs.Imports.{is_grant, is_probe, grant_sink, probe_of, release_of, illegal, same_block, grant_opcode, level_of}
-use proofs.Imports.{AreNamed, acquires_of, Answer, Grant, GrantAck, Kind, Packet, Probe, ReleaseAck, set, set_at}
-use proofs.Imports.{ClientBlock, Other, ProbeSent, View, same_cap, ok, after_probe, Block, GrantSent, GrantTaken}
-use proofs.Imports.{Service, State, is_on, packet, probe_taken, probed_block, view, is_answered, is_unserved}
-use proofs.Imports.{is_wanting, AbstractState, IsCarried, comes_granting, MonitorRelation, is_let_by}
-use proofs.Imports.{is_release_pending, is_requested, is_sunk, AccessMessages, cap_sent, message_of, message_of_kind}
+use proofs.Imports.{is_grant, is_probe, grant_sink, probe_of, release_of, illegal, same_block, level_of}
+use proofs.Imports.{AreNamed, acquires_of, GrantAck, Packet, Probe, set, set_at}
+use proofs.Imports.{ClientBlock, Other, ProbeSent, View, same_cap, ok, after_probe, Block, GrantTaken}
+use proofs.Imports.{State, packet, probe_taken, probed_block, view, is_answered, is_unserved}
+use proofs.Imports.{is_wanting, AbstractState, comes_granting, MonitorRelation, is_let_by}
+use proofs.Imports.{is_release_pending, is_requested, AccessMessages, cap_sent}
 use proofs.Imports.{probe_beat, block_message, MonitorRelations, SimulationRelation, asked_by, is_caching, cap_waited}
 use proofs.Imports.{flow, Log, System}
 use Rattle.tl_coherence.specs.protocol.Phase.{fits_service}
 use Rattle.tl_client.proofs.pending.Opens.{request_of-b}
 use proofs.protocol.BothParts.{cap-waited, first-probe, acknowledging-is, first-shown}
-use proofs.protocol.HeadOfD.{ack_message, answer-due, grant-due, grant-rendered, grant_message}
-use proofs.queues.{Carried.IsNext, Phases.and_left, Codes.access_kind, FirstToken.first-token, FirstToken.own_kind}
+use proofs.queues.{Carried.IsNext, Phases.and_left, FirstToken.first-token}
 use proofs.queues.Tokens.{same_number, set-same, set-each, set-part, set_at-same}
 use proofs.flow.FlowStep.{flowed-next, held_by, acquired_by, let_of, granted_by, step, whole_opened, whole_unopened}
 use proofs.flow.FlowStep.{let_still}
 use proofs.flow.FlowLawful.{lawful-beat, next-flows, grant_ack-flows}
+use proofs.client.HalfTaken.{half-granted}
+use proofs.queues.Phases.{and_right as both_right}
+use proofs.links.Acknowledged.{AreSunk, sunk-first, trackers-apart}
 use proofs.flow.FlowAlone.{AreRests, requested-blocks, let_by-same}
 use proofs.client.{ProbeDelivered.probe-beat, ProbeDelivered.first_beat, ClientEnd.comes-same, AsideAll.set_at-else}
 use proofs.simulation.Owned.{unfinished_at}
-use proofs.manager.{ManagedGrants.tracker-of, ManagerTakes.by-first_e}
+use proofs.manager.{ManagerTakes.by-first_e}
 
 -- a test of what was delivered, which no beats pass, and all beginnings of the message alike
 pub came-so : {w : ℕ} (f : List (Beat w) → Bool) {m : Message w} {x : Beat w} {rest : List (Beat w)}
@@ -79,104 +81,53 @@ unused-else c n i {s} named e = named.acquires c i n ∙ and_right (is_wanting (
     apart : i ≡ (s.block n).source c → ⊥
     apart same = grind (arith, same_number)
 
--- the message is no Grant with this sink
-IsElse : {w : ℕ} → ℕ → Message w → Type 0
-IsElse {w} sink m = (x : MessageD w) × (m ≡ Message.D x) × ((is_grant x.opcode && (x.sink == sink)) ≡ false)
-
-comes_else : {w : ℕ} (sink : ℕ) (m : Message w) (k : ℕ) (rest : List (Beat w)) → rest ≡ begun m k → IsElse sink m
-    → comes_in_grant sink rest ≡ false
-unfolding IsElse
-comes_else sink m k rest e is = grind arith
-
-not_both : (c : ℕ) (d : Bool) (k : Cap) (q : Service) → q ≡ GrantSent c d k → q ≡ GrantTaken c → ⊥
-not_both c d k q e f = let g : GrantSent c d k ≡ GrantTaken c = sym e ∙ f in cc
-
-else_answer : {w : ℕ} {config : Config} {log : Log w} {mail : AccessMessages w} {request : ℕ → MessageA w}
-    {s : State (List ℕ)} {sys : System w} (c sink i : ℕ)
-    (rest : List Packet) → SimulationRelation config log mail request s sys → (s.link c).d ≡ packet Answer i ∷ rest
-    → IsElse sink (mail.answer c i)
-unfolding IsElse
-else_answer {config} {mail} {s} c sink i rest h first =
-    let due = answer-due (is_caching config) c i rest mail s h.invariant (h.answered c i) first in let fact =
-    first_false (is_grant due.answer.opcode) (due.answer.sink == sink)
-    (access_kind due.answer.opcode due.answers_access).0 in (due.answer, due.answer_is, fact)
-
--- a Grant that is on its way has another block's tracker for its sink
-else_grant : {w : ℕ} {config : Config} {log : Log w} {mail : AccessMessages w} {request : ℕ → MessageA w}
-    {s : State (List ℕ)} {sys : System w} (c n i : ℕ)
-    (rest : List Packet) → SimulationRelation config log mail request s sys → (s.link c).d ≡ packet Grant i ∷ rest
-    → (s.block n).service ≡ GrantTaken c
-    → IsElse {w = w} (s.block n).tracker (block_message {w = w} Grant c i (s.block i))
-unfolding IsElse
-else_grant {config} {s} c n i rest h first taken =
-    let due = grant-due (is_caching config) c i rest s h.invariant first in
-    let mine : s.tracked (s.block i).tracker ≡ Some i = tracker-of i h.invariant.named (rw due.service refl) in
-    let theirs : s.tracked (s.block n).tracker ≡ Some n = tracker-of n h.invariant.named (rw taken refl) in
-    let apart : (s.block i).tracker ≡ (s.block n).tracker → ⊥ = λ e. not_both c due.data_too due.k _ due.service
-    (ap (λ j. (s.block j).service) (same_Some i n (sym mine ∙ ap s.tracked e ∙ theirs)) ∙ taken) in
-    let fact = grant_message due.data_too due.k ((s.block i).source c) (s.block i).tracker (s.block i).truth in
-    let other_fact = and_right (is_grant (grant_opcode due.data_too)) ((s.block i).tracker == (s.block n).tracker)
-    (ne_eqb (s.block i).tracker (s.block n).tracker apart) in (fact, grant-rendered c i s due, other_fact)
-
-else_ack : {w : ℕ} (mail : AccessMessages w) (s : State (List ℕ)) (c sink i : ℕ)
-    → IsElse {w = w} sink (block_message {w = w} ReleaseAck c i (s.block i))
-unfolding IsElse block_message
-else_ack mail s c sink i = (ack_message ((s.block i).release_source c), refl, refl)
-
+-- no Grant with the sink of one whose GrantAck is missing has begun to come
 no_grant_coming : {w : ℕ} {config : Config} {log : Log w} {mail : AccessMessages w} {request : ℕ → MessageA w}
     {s : State (List ℕ)} {sys : System w} (c n : ℕ)
     → SimulationRelation config log mail request s sys → (s.block n).service ≡ GrantTaken c
     → comes_in_grant (s.block n).tracker (unfinished Channel.D (sys.clients c).past) ≡ false
-no_grant_coming {w} {config} {log} {mail} {request} {s} {sys} c n h taken = go (s.link c).d refl (h.carried c Channel.D)
+no_grant_coming {w} {s} {sys} c n h taken = go (unfinished Channel.D (sys.clients c).past) refl
   where
-    rest_now : List (Beat w)
-    rest_now = unfinished Channel.D (sys.clients c).past
-
     sink : ℕ
     sink = (s.block n).tracker
 
-    elses : (k : Kind) (i : ℕ) (rest : List Packet) → (s.link c).d ≡ packet k i ∷ rest → is_on Channel.D k ≡ true
-        → IsElse sink (message_of_kind k mail s c i)
-    elses Answer i rest first own = else_answer c sink i rest h first
-    elses Grant i rest first own = else_grant c n i rest h first taken
-    elses ReleaseAck i rest first own = else_ack mail s c sink i
-    elses k i rest first own = absurd cc
-
-    go : (xs : List Packet) → (s.link c).d ≡ xs → IsCarried rest_now (map (message_of mail s c) (s.link c).d)
-        (sys.channels c Channel.D) → comes_in_grant sink rest_now ≡ false
-    go [] first carried =
-        let none : IsCarried rest_now [] (sys.channels c Channel.D) =
-        rw (ap (map (message_of mail s c)) first) at carried in
-        ap (comes_in_grant sink) none.0
-    go (x ∷ xs) first carried =
-        let some : IsCarried rest_now (message_of mail s c x ∷ map (message_of mail s c) xs)
-        (sys.channels c Channel.D) = rw (ap (map (message_of mail s c)) first) at carried in
-        comes_else sink _ some.0 _ some.2 (elses x.kind x.number xs first (own_kind (is_caching config) s c Channel.D
-        x.kind x.number xs h.invariant first))
+    go : (beats : List (Beat w)) → unfinished Channel.D (sys.clients c).past ≡ beats → comes_in_grant sink beats ≡ false
+    go (Beat.D x ∷ more) e = by (is_grant x.opcode && (x.sink == sink)) refl
+      where
+        by : (b : Bool) → (is_grant x.opcode && (x.sink == sink)) ≡ b → b ≡ false
+        by false f = refl
+        by true f =
+            let of = half-granted c x more h e (and_left (is_grant x.opcode) (x.sink == sink) f) in
+            absurd (trackers-apart h.invariant.named of.1.service taken
+            (sym (eqb-true x.sink sink (both_right (is_grant x.opcode) (x.sink == sink) f)) ∙ of.3))
+    go beats e = refl
 
 ack-lawful : {w : ℕ} {config : Config} {log : Log w} {mail : AccessMessages w} {request : ℕ → MessageA w}
     {s : State (List ℕ)} {sys : System w} (c n : ℕ) (toks : List Packet) (l : Level) {x : Beat w}
     {ms : List (Message w)} {queue : List (Beat w)} → SimulationRelation config log mail request s sys
-    → MonitorRelations log mail s sys → illegal l (channel_of x) x ≡ None → (s.link c).e ≡ packet GrantAck n ∷ toks
+    → MonitorRelations log mail s sys → AreSunk (flow c log) (sys.clients c).past (sys.channels c Channel.E)
+    → sys.channels c Channel.E ≡ x ∷ queue → illegal l (channel_of x) x ≡ None
+    → (s.link c).e ≡ packet GrantAck n ∷ toks
     → IsNext x (unfinished Channel.E (on_link c sys.manager.trace)) (block_message GrantAck c n (s.block n)) ms queue
     → broken_after l config.profile x (flow c log) ≡ None
 unfolding block_message
-ack-lawful {config} {s} c n toks l is flowed lawful tokens next =
+ack-lawful {config} {s} c n toks l {queue} is flowed sunk beats lawful tokens next =
     let y : BeatE = record { sink = (s.block n).tracker } in
     let shows = first-shown is.invariant c GrantAck refl tokens in
     let taken : (s.block n).service ≡ GrantTaken c = acknowledging-is _ c shows in
-    next-flows l config.profile _ lawful next ((flowed c).rest_is Channel.E) (λ none. grant_ack-flows config.profile n y
-    (flowed c) none (tracker-of n is.invariant.named (rw taken refl)) shows (no_grant_coming c n is taken))
+    next-flows l config.profile _ lawful next ((flowed c).rest_is Channel.E) (λ none. grant_ack-flows config.profile y
+    (flowed c) none (sunk-first y queue sunk (beats ∙ ap (λ z. z ∷ queue) next.beat_is)) (no_grant_coming c n is taken))
 
 pub flows-e : {w : ℕ} {config : Config} {log : Log w} {mail : AccessMessages w} {request : ℕ → MessageA w}
     {s : State (List ℕ)} {sys : System w} (c : ℕ) (l : Level) (x : Beat w) (queue : List (Beat w)) → IsWidth w
     → SimulationRelation config log mail request s sys → MonitorRelations log mail s sys
-    → sys.channels c Channel.E ≡ x ∷ queue → level_of config c ≡ Some l → broken_after l config.profile x (flow c log)
+    → AreSunk (flow c log) (sys.clients c).past (sys.channels c Channel.E) → sys.channels c Channel.E ≡ x ∷ queue
+    → level_of config c ≡ Some l → broken_after l config.profile x (flow c log)
     ≡ None
-flows-e {w} {config} {log} {mail} {request} {s} {sys} c l x queue width is flowed beats level =
+flows-e {w} {config} {log} {mail} {request} {s} {sys} c l x queue width is flowed sunk beats level =
     cc (by-first_e (λ i. broken_after l config.profile x (flow c log) ≡ None) (first-token (is_caching config) Channel.E
     c mail s sys x queue width is.invariant is.carried beats) (λ n rest tokens next. ack-lawful c n rest l is flowed
-    (lawful-beat c Channel.E l x queue is beats level) tokens next))
+    sunk beats (lawful-beat c Channel.E l x queue is beats level) tokens next))
 
 released-of : {w : ℕ} (i : ℕ) (y : BeatB w) (t : History w) → release_of i (Beat.B y ∷ t) ≡ release_of i t
 unfolding release_of
@@ -206,8 +157,6 @@ pub flowed-probe : {w : ℕ} {X : Type 0} {c : ℕ} (n : ℕ) (k : Cap) (toks : 
     (Beat.B (probe_beat n k) ∷ t)
 flowed-probe {w} {X} {c} n k toks {asked} asked' {rest} rest' {s} {t} first last rests asks at seen waited comes
     before =
-    let sunk_same : (i : ℕ) (o : Option ℕ) → is_sunk c i (rest Channel.D) o s' ≡ is_sunk c i (rest Channel.D) o s =
-    λ i. elim [ None ↦ refl | Some m ↦ cc (set-part (λ z. z.service) n new s.block refl m) ] in
     let part_true = ap (λ p. is_answered p.probing) (set-same c (after_probe k (b.pair c)) b.pair) in
     let requests : (i : ℕ) → is_requested c i (rest' Channel.A) (s'.uses c i) s' ≡ is_requested c i (rest Channel.A)
     (s.uses c i) s = λ i. cc (
@@ -230,7 +179,6 @@ flowed-probe {w} {X} {c} n k toks {asked} asked' {rest} rest' {s} {t} first last
       released = λ i m e f. let_still before i m (released-of i y t) e (cc (before.release_sources i, lets i));
       releases = λ m. ap (λ r. let_of c r (s'.block m)) (rests Channel.C) ∙ set-part (let_of c (rest Channel.C)) n new
           s.block (ap (is_release_pending (b.release_source c) (rest Channel.C)) letting_same) m;
-      sinks = λ i. ap (λ r. is_sunk c i r (s.tracked i) s') (rests Channel.D) ∙ sunk_same i (s.tracked i);
       grants = grants;
       probes = set-each (λ m z. is_answered (z.pair c).probing ≡ step true true (block_at (64 * n) == m) false
           (is_answered ((s.block m).pair c).probing)) n new s.block (part_true ∙ sym (whole_opened (block_at

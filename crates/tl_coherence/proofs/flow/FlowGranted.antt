@@ -3,11 +3,11 @@ use Rattle.std.proofs.Common.{◌≡◌, ℕ, Bool, true, false, not, ◌&&◌, 
 use Rattle.std.proofs.Common.{None, refl, sym, ◌∙◌, ap, arith, ne_eqb, unwrap_or}
 use Rattle.tl_coherence.proofs
 use proofs.Imports.{and_right, Beat, BeatA, BeatD, Channel, History, RequestSource, Cap, Perm, cap_right}
-use proofs.Imports.{comes_in_grant, comes_in_request, asks_for, begins, capped, ends, is_grant, is_release_ack}
+use proofs.Imports.{comes_in_request, asks_for, begins, capped, ends, is_grant, is_release_ack}
 use proofs.Imports.{grant_sink, pending, probe_of, release_of, request_of, release_of-d, request_of-d, acquires_of}
-use proofs.Imports.{is_of, Acknowledging, Granting, View, Acquires, Asked, Block, InService, Replied, SourceFree}
-use proofs.Imports.{SourceState, State, view, is_acknowledging, is_answered, is_granting, is_unserved, is_wanting}
-use proofs.Imports.{comes_granting, MonitorRelation, is_let_by, is_requested, is_sunk, probe_beat, cap_waited}
+use proofs.Imports.{Acknowledging, Granting, View, Acquires, Asked, Block, InService, Replied, SourceFree}
+use proofs.Imports.{SourceState, State, view, is_acknowledging, is_answered, is_unserved, is_wanting}
+use proofs.Imports.{comes_granting, MonitorRelation, is_let_by, is_requested, probe_beat, cap_waited}
 use Rattle.tl_rules.specs.statement.History.{releases}
 use proofs.flow.{FlowAlone.AreRests, FlowAlone.let_by-same, FlowOthers.unclosed as not_last}
 use proofs.flow.FlowAnswered.{probed-of, unclosed, closes_last}
@@ -31,18 +31,13 @@ pub record IsGranting {w : ℕ} {X : Type 0} (c n : ℕ) (d : Bool) (k : Cap) (y
   pub quiet : is_answered ((s.block n).pair c).probing ≡ false
   pub use_is : (i : ℕ) → (y.source == i) ≡ true → s.uses c i ≡ Acquires n
   pub no_use : (i : ℕ) → (y.source == i) ≡ false → acquires_of n (s.uses c i) ≡ false
-  pub tracks : (i : ℕ) → (y.sink == i) ≡ true → s.tracked i ≡ Some n
-  pub tracks_not : (i : ℕ) → (y.sink == i) ≡ false → is_of n (s.tracked i) ≡ false
   pub asks : (m : ℕ) → asks_for m (asked y.source) ≡ (n == m)
-  pub came : (i : ℕ) → comes_in_grant i (rest Channel.D) ≡ (not first && (y.sink == i))
-  pub comes : (i : ℕ) → comes_in_grant i (rest' Channel.D) ≡ (not last && (y.sink == i))
   pub granted : (m : ℕ) → comes_granting m asked (rest Channel.D) ≡ (not first && (n == m))
   pub grants : (m : ℕ) → comes_granting m asked' (rest' Channel.D) ≡ (not last && (n == m))
   pub asked_is : (i : ℕ) → (last && (y.source == i)) ≡ false → asked' i ≡ asked i
   pub elsewhere : AreElsewhere n s s'
   pub uses : (i : ℕ) → s'.uses c i ≡ (if last && (y.source == i) then SourceFree else s.uses c i)
   pub lets : (i : ℕ) → s'.lets c i ≡ s.lets c i
-  pub tracked : (i : ℕ) → s'.tracked i ≡ s.tracked i
   pub held_is : held_by c (s'.block n) ≡ (if last then cap_right k else held_by c (s.block n))
   pub seen_is : view (s'.block n).service c ≡ seen_after last d k
   pub wants_is : is_wanting ((s'.block n).pair c).acquiring ≡ not last
@@ -108,10 +103,6 @@ now_granted : (last d : Bool) (k : Cap) (v : View) (a : Bool) → v ≡ seen_aft
     → (is_acknowledging v || a) ≡ true
 now_granted last d k v a e f = grind arith
 
-now_sunk : (last d : Bool) (k : Cap) (v : View) (a : Bool) → v ≡ seen_after last d k → a ≡ not last
-    → (is_acknowledging v || (is_granting v && a)) ≡ true
-now_sunk last d k v a e f = grind arith
-
 pub flowed-grant : {w : ℕ} {X : Type 0} {c n : ℕ} {d : Bool} {k : Cap} {y : BeatD w} {first last : Bool}
     {asked asked' : ℕ → Option (BeatA w)} {rest rest' : Channel → List (Beat w)} {s s' : State X} {t : History w}
     → begins (Beat.D y) t ≡ first → ends (Beat.D y) t ≡ last → AreRests (Beat.D y) rest rest'
@@ -162,8 +153,6 @@ flowed-grant {w} {X} {c} {n} {d} {k} {y} {first} {last} {asked} {asked'} {rest} 
       releases = λ m. ap (λ l. let_of c l (s'.block m)) (rests Channel.C) ∙ (part-block (let_of c (rest Channel.C)) n
           s s' is.elsewhere (rw (is.release_source, is.letting_is) refl)) m ∙ sym (unclosed first last (is_release_ack
           y.opcode) (releases m (release_of y.source t)) (let_of c (rest Channel.C) (s.block m)) is.ack);
-      sinks = λ i. ap (λ o. is_sunk c i (rest' Channel.D) o s') (is.tracked i) ∙ sinks i (y.sink == i)
-          (s.tracked i) refl refl;
       grants = each-block (λ m z. granted_by c m asked' (rest' Channel.D) z ≡ step first last (is_grant y.opcode
           && asks_for m (request_of y.source t)) false (granted_by c m asked (rest Channel.D) (s.block m))) n s
           s' is.elsewhere (now_granted last d k (view new.service c) (comes_granting n asked' (rest' Channel.D))
@@ -219,24 +208,3 @@ flowed-grant {w} {X} {c} {n} {d} {k} {y} {first} {last} {asked} {asked'} {rest} 
     lets : (i : ℕ) → is_let_by c i (rest' Channel.C) (s'.lets c i) s' ≡ is_let_by c i (rest Channel.C) (s.lets c i) s
     lets i = let fact = let_by-same c i (rest Channel.C) (s.lets c i) s s' (part-block
         (λ z. (z.pair c).letting) n s s' is.elsewhere is.letting_is) in cc (rests Channel.C, is.lets i)
-
-    sinks : (i : ℕ) (z : Bool) (o : Option ℕ) → (y.sink == i) ≡ z → s.tracked i ≡ o → is_sunk c i (rest' Channel.D) o s'
-        ≡ step first last (is_grant y.opcode && (y.sink == i)) false (is_sunk c i (rest Channel.D) o s)
-    sinks i true o e f =
-        let at_n : o ≡ Some n = sym f ∙ is.tracks i e in
-        let fact = now_sunk last d k _ (comes_in_grant i (rest' Channel.D)) is.seen_is
-        (is.comes i ∙ with_true (not last) (y.sink == i) e) in let other_fact =
-        opened first last (is_grant y.opcode) (y.sink == i) (is_sunk c i (rest Channel.D) o s) is.grant e
-        (cc (at_n, is.seen, is.came i, with_true (not first) (y.sink == i) e)) in cc at_n
-    sinks i false None e f = sym (unbegun first last (is_grant y.opcode && (y.sink == i)) false
-        (and_right (is_grant y.opcode) (y.sink == i) e))
-    sinks i false (Some m) e f = cc (
-      is.elsewhere m (λ g. let h : (n == n) ≡ false = sym (rw (f, g) refl) ∙ is.tracks_not i e in
-          let j : true ≡ false = sym (same_number n) ∙ h in cc),
-      is.comes i,
-      and_right (not last) (y.sink == i) e,
-      is.came i,
-      and_right (not first) (y.sink == i) e,
-      unbegun first last (is_grant y.opcode && (y.sink == i))
-          (is_sunk c i (rest Channel.D) (Some m) s) (and_right (is_grant y.opcode) (y.sink == i) e),
-    )

@@ -3,20 +3,21 @@
 use Rattle.std.proofs.Common.{◌≡◌, ℕ, Bool, true, false, List, ◌∷◌, Option, Some, None, refl, sym, ◌∙◌, ap, inl, length}
 use Rattle.std.proofs.Common.{ne_eqb}
 use Rattle.tl_coherence.proofs
-use proofs.Imports.{same_Some, Beat, BeatA, Channel, History, Config, Cap, Grow, comes_in_grant, block_at, cap_asked}
+use proofs.Imports.{Beat, BeatA, Channel, History, Config, Cap, Grow, block_at, cap_asked}
 use proofs.Imports.{Answer, GrantAck, Kind, Packet, Probe, ProbeAck, Release, ReleaseAck, Request, AcquireOpen, Own}
 use proofs.Imports.{is_unprobed, is_unreleased, is_granted_data, Free, GrantSent, State, Waits, acquire_granted}
 use proofs.Imports.{acquire_served, on, packet, report_taken, view, is_answered, AbstractState, access_taken, gift}
 use proofs.Imports.{granted_after, is_unheld, kind_taken, last_taken, performs, taken_by_client, with_state}
 use proofs.Imports.{MonitorRelation, report_told, SimulationRelation, asked_by, is_caching, Log, System}
 use proofs.client.AsideAll.{Leaves, is_for_manager, leaves-at_manager, leaves-at_client}
-use proofs.manager.{Accounts.plain-past, ManagedGrants.tracker-of}
+use proofs.manager.{Accounts.plain-past}
 use proofs.protocol.RequestsKept.{settled_all}
 use proofs.protocol.BothParts.{quiet_unanswered, first-grant_ack, first-report}
 use proofs.protocol.HeadOfD.{grant-due, IsReady, ready-access, told, true-taken, waits_for_others, never-idle}
 use proofs.queues.{Phases.and_right, Tokens.same_number}
 use proofs.queues.Facts.{answered_other, is_other, quiet_at_rest, own_alone}
-use proofs.flow.{FlowAsked.asks-left, FlowBeats.same_perms, NextOnD.coming-granting, NextOnD.coming-sink}
+use proofs.client.HalfTaken.{coming-granting}
+use proofs.flow.{FlowAsked.asks-left, FlowBeats.same_perms}
 use proofs.flow.FlowAlone.{is_heard, IsComing, flowed-aside, flowed-asks}
 use proofs.flow.FlowApart.{replied, left-replied, left-served, left-acquire_granted, left-probe_taken}
 use proofs.flow.FlowApart.{left-report_taken, left-release_taken, left-answer_taken, left-grant_taken}
@@ -79,8 +80,8 @@ module _ {w : ℕ} {config : Config} {log : Log w} (h : AbstractState w) {sys : 
         let after = last_taken (length config.clients.items) config.profile c n (told config c h n)
         (Waits q false source k) toks h in
         flowed-aside (left-report_answers d before (asked_by after.mail after.state d) rest s (asks-left d h after l)
-        coming c n (told config c h n) toks q source k (performs (h.request n)) waits (unanswered n last) (tracker-of n
-        is.invariant.named (rw waits refl)) (ap is_heard (serving-use n q source k is.invariant waits))) known.2
+        coming c n (told config c h n) toks q source k (performs (h.request n)) waits (unanswered n last)
+        (ap is_heard (serving-use n q source k is.invariant waits))) known.2
 
     -- and of an Acquire
     grants-report : (n : ℕ) (toks : List Packet) (q source : ℕ) (k : Cap) (whole : Bool) (g : Grow)
@@ -95,7 +96,7 @@ module _ {w : ℕ} {config : Config} {log : Log w} (h : AbstractState w) {sys : 
         let after = granted_after (length config.clients.items) config.profile c q n (told config c h n)
         (AcquireOpen whole g) toks h in
         flowed-aside (left-report_grants d before (asked_by after.mail after.state d) rest s (asks-left d h after l)
-        coming c n (told config c h n) toks q source k _ _ waits (unanswered n last) apart even none_comes) known.2
+        coming c n (told config c h n) toks q source k _ _ waits (unanswered n last) apart even) known.2
       where
         own : view (s.block n).service q ≡ Own
         own = rw (waits, same_number q) refl
@@ -104,18 +105,6 @@ module _ {w : ℕ} {config : Config} {log : Log w} (h : AbstractState w) {sys : 
         apart same = let no : is_other Own ≡ true = sym (ap is_other own)
             ∙ ap (λ i. is_other (view (s.block n).service i)) same ∙ (answered_other _ ((s.block n).pair c)
             (view (s.block n).service c) ((is.invariant.blocks n).phases c) (first-report is.invariant known.0)) in cc
-
-        -- no Grant that was delivered in part is of a block that waits
-        none_comes : (i : ℕ) → s.tracked i ≡ Some n → comes_in_grant i (rest Channel.D) ≡ false
-        none_comes i tracks = cc (same_d, go (comes_in_grant i (unfinished_at sys d Channel.D)) refl)
-          where
-            go : (b : Bool) → comes_in_grant i (unfinished_at sys d Channel.D) ≡ b → b ≡ false
-            go false f = refl
-            go true f =
-                let of = coming-sink d i is f in
-                let here : of.0 ≡ n = same_Some of.0 n (sym of.2 ∙ tracks) in
-                absurd (let no : GrantSent d of.1.data_too of.1.k ≡ Waits q true source k =
-                sym of.1.service ∙ ap (λ j. (s.block j).service) here ∙ waits in cc)
 
     pub settled : (k : Kind) (i : ℕ) (toks : List Packet) → on k (s.link c) ≡ packet k i ∷ toks
         → IsReady tracker c k i h → Begins toks k i → Leaves d h (kind_taken config tracker c k i toks h)
@@ -130,7 +119,7 @@ module _ {w : ℕ} {config : Config} {log : Log w} (h : AbstractState w) {sys : 
           let after = access_taken c source m tracker true (Some j) toks h in
           let may = ready-access tracker c source m h known.1 from in
           flowed-aside (left-access_served d before (asked_by after.mail after.state d) rest s (asks-left d h after l)
-          coming c (block_at m.address) source tracker j toks may.1 (free_quiet (block_at m.address) may.1 d) may.2)
+          coming c (block_at m.address) source tracker j toks may.1 (free_quiet (block_at m.address) may.1 d))
           known.2;
       acquire_granted = λ n whole g known wants none l. absurd known.2;
       acquire_served = λ n whole g known wants some l. absurd known.2;
@@ -182,13 +171,13 @@ module _ {w : ℕ} {config : Config} {log : Log w} (h : AbstractState w) {sys : 
               (gift config.profile whole g (is_unheld (length config.clients.items) (s.block n).pair)) toks s in
               flowed-aside (left-acquire_granted d then_asked (asked_by h.mail after d) (unfinished_at sys d) s
               (asks-left d h (with_state after h) l) comes c n tracker _ _ toks ne taken.1.0
-              (quiet_unanswered ((s.block n).pair d).probing (free_quiet n taken.1.0 d)) taken.1.1) flowed;
+              (quiet_unanswered ((s.block n).pair d).probing (free_quiet n taken.1.0 d))) flowed;
           acquire_served = λ n whole g taken wants some l.
               let after = acquire_served c n ((s.block n).source c) tracker (cap_asked (AcquireOpen whole g)) toks s in
               flowed-aside (left-served d then_asked (asked_by h.mail after d) (unfinished_at sys d) s
               (asks-left d h (with_state after h) l) comes c n ((s.block n).source c) tracker true
               (cap_asked (AcquireOpen whole g)) after (λ m. refl) (ne_eqb d c ne) taken.1.0
-              (free_quiet n taken.1.0 d) (λ j. inl refl) (λ j. refl) taken.1.1 (λ j. refl)) flowed;
+              (free_quiet n taken.1.0 d) (λ j. inl refl) (λ j. refl)) flowed;
           probe = λ n taken l. flowed-aside (left-probe_taken d then_asked _ (unfinished_at sys d) s
               (asks-left d h (kind_taken config tracker c Probe n toks h) l) comes c n _ toks ne) flowed;
           report = λ n taken more l. absurd cc;
@@ -209,8 +198,7 @@ module _ {w : ℕ} {config : Config} {log : Log w} (h : AbstractState w) {sys : 
           grant_ack = λ n taken l.
               let acks = first-grant_ack is.invariant taken.0 in
               flowed-aside (left-grant_ack_taken d then_asked _ (unfinished_at sys d) s
-              (asks-left d h (kind_taken config tracker c GrantAck n toks h) l) comes c n toks ne acks
-              (tracker-of n is.invariant.named (rw acks refl))) flowed;
+              (asks-left d h (kind_taken config tracker c GrantAck n toks h) l) comes c n toks ne acks) flowed;
         }) known
 
     -- a message of client c's link that is taken

@@ -116,13 +116,11 @@ release-flows {w} p {c} n r x {asked} {rest} {s} {t} flowed whole is block param
 
 -- ---- channel E
 
-pub grant_ack-flows : {w : ℕ} {X : Type 0} (p : Profile) {c : ℕ} (n : ℕ) (x : BeatE) {asked : ℕ → Option (BeatA w)}
+pub grant_ack-flows : {w : ℕ} {X : Type 0} (p : Profile) {c : ℕ} (x : BeatE) {asked : ℕ → Option (BeatA w)}
     {rest : Channel → List (Beat w)} {s : State X} {t : History w} → MonitorRelation asked rest c s t
-    → rest Channel.E ≡ [] → s.tracked x.sink ≡ Some n → is_acknowledging (view (s.block n).service c) ≡ true
-    → comes_in_grant x.sink (rest Channel.D) ≡ false → broken_in_order p (Beat.E x) t ≡ None
+    → rest Channel.E ≡ [] → pending (Key.GrantSink x.sink) t ≡ true → comes_in_grant x.sink (rest Channel.D) ≡ false → broken_in_order p (Beat.E x) t ≡ None
 unfolding broken_order
-grant_ack-flows {w} p n x {t} flowed whole tracked acknowledging none_comes =
-    let sunk : pending (Key.GrantSink x.sink) t ≡ true = cc (flowed.sinks x.sink, tracked, acknowledging) in
+grant_ack-flows {w} p x {t} flowed whole sunk none_comes =
     let apart : comes_in_grant x.sink (unfinished Channel.D t) ≡ false = cc (flowed.rest_is Channel.D, none_comes) in
     rw (flowed.rest_is Channel.E ∙ whole, sunk, apart) refl
 

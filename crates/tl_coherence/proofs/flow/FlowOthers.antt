@@ -13,7 +13,7 @@ use proofs.Imports.{after_served, is_above, Block, Free, GrantSent, GrantTaken, 
 use proofs.Imports.{ended_block, freed_block, granted_at_once, granted_block, let_block, let_go_block, performed_block}
 use proofs.Imports.{probed_block, releasing_block, report_taken, reported_block, served_block, served_pair}
 use proofs.Imports.{stored_block, taken_block, view, is_acknowledging, is_answered, is_granting, is_unserved}
-use proofs.Imports.{is_wanting, MonitorRelation, is_let_by, is_release_pending, is_requested, is_sunk, probe_beat}
+use proofs.Imports.{is_wanting, MonitorRelation, is_let_by, is_release_pending, is_requested, probe_beat}
 use proofs.Imports.{cap_waited}
 use proofs.flow.FlowBeats.{part_of}
 use proofs.flow.FlowStep.{flowed-next, let_of, granted_by, step, step_quiet, held_by, acquired_by, let_still}
@@ -235,8 +235,6 @@ flowed-report_part {w} {X} {c} y first {asked} {rest} rest' {s} {t} first_is las
       releases = λ n. let_rest ((s.block n).release_source c) (rest Channel.C) (rest' Channel.C)
           ((s.block n).pair c).letting (comes ((s.block n).release_source c)) ∙ sym (unopened first false
           (is_release y.opcode) (block_at y.address == n) (let_of c (rest Channel.C) (s.block n)) other);
-      sinks = λ i. ap (λ r. is_sunk c i r (s.tracked i) s) (rests Channel.D) ∙ sym
-          (step_quiet first false (is_sunk c i (rest Channel.D) (s.tracked i) s));
       grants = λ n. grants n ∙ sym (step_quiet first false (granted_by c n asked (rest Channel.D) (s.block n)));
       probes = λ n. sym (unclosed first (is_probe_ack y.opcode && (block_at y.address == n))
           (is_answered ((s.block n).pair c).probing));
@@ -275,8 +273,6 @@ flowed-report {w} {X} {c} n r toks y first {asked} {rest} rest' {s}
     let probed = set-each (λ m z. is_answered (z.pair c).probing ≡ true → probe_of m t
     ≡ Some (probe_beat m (cap_waited z.service))) n new s.block (λ e. absurd cc) (λ m ne e. before.probed m e) in
     let recorded = ap (λ p. p.recorded) (set-same c (after_report r (b.pair c)) b.pair) in
-    let sunk_same : (i : ℕ) (o : Option ℕ) → is_sunk c i (rest Channel.D) o s' ≡ is_sunk c i (rest Channel.D) o s =
-    λ i. elim [ None ↦ refl | Some m ↦ cc (set-part (λ z. z.service) n new s.block refl m) ] in
     let apart : (m : ℕ) → (m ≡ n → ⊥) → (block_at y.address == m) ≡ false =
     λ m ne. rw at (ne_eqb n m (λ e. ne (sym e))) in
     let requests : (i : ℕ) → is_requested c i (rest' Channel.A) (s'.uses c i) s' ≡ is_requested c i (rest Channel.A)
@@ -308,8 +304,6 @@ flowed-report {w} {X} {c} n r toks y first {asked} {rest} rest' {s}
           (is_let_by c i (rest Channel.C) (s.lets c i) s) other);
       released = λ i m e f. let_still before i m (released-of i y t other) e (cc (before.release_sources i, lets i));
       releases = λ m. cc (releases m, other, step_quiet first true (let_of c (rest Channel.C) (s.block m)));
-      sinks = λ i. ap (λ l. is_sunk c i l (s.tracked i) s') (rests Channel.D)
-          ∙ sunk_same i (s.tracked i) ∙ sym (step_quiet first true (is_sunk c i (rest Channel.D) (s.tracked i) s));
       grants = λ m. grants m ∙ sym (step_quiet first true (granted_by c m asked (rest Channel.D) (s.block m)));
       probes = set-each (λ m z. is_answered (z.pair c).probing ≡ step first true false
           (is_probe_ack y.opcode && (block_at y.address == m)) (is_answered ((s.block m).pair c).probing)) n new s.block

@@ -98,10 +98,10 @@ module _ {w : ℕ} {config : Config} {log : Log w} (h : AbstractState w) {sys : 
 
             either : (z : Bool) → Leaves c h (with_state (if z then served else granted) h)
                 → FlowsWith x (with_state (if z then served else granted) h)
-            either true l = own-acquire_served h is flowed rest' wanted r.0 tracker r.1
+            either true l = own-acquire_served h is flowed rest' wanted r.0 tracker
                 (asked_by h.mail served c) (asks-left c h (with_state served h) l)
                 (cap_asked (AcquireOpen wanted.whole wanted.grow)) toks x ms queue here rests
-            either false l = own-acquire_granted h is flowed rest' wanted r.0 tracker r.1 (asked_by h.mail granted c)
+            either false l = own-acquire_granted h is flowed rest' wanted r.0 tracker (asked_by h.mail granted c)
                 (asks-left c h (with_state granted h) l) (is_granted_data wanted.whole wanted.grow
                 ((s.block i).pair c).recorded) (gift config.profile wanted.whole wanted.grow
                 (is_unheld (length config.clients.items) (s.block i).pair)) toks x ms queue here rests

@@ -6,7 +6,7 @@ use proofs.Imports.{and_right, cases_eq, Beat, BeatA, BeatC, Channel, History, R
 use proofs.Imports.{comes_in_release, begins, block_at, ends, is_probe_ack, is_release, reported, pending, release_of}
 use proofs.Imports.{grant_sink-c, probe_of-c, request_of-c, is_of, releases_with, ReleaseAcked, ReleasePhase}
 use proofs.Imports.{ReleaseSent, is_unreleased, Block, State, view, is_acknowledging, is_answered, is_unserved}
-use proofs.Imports.{comes_granting, MonitorRelation, is_let_by, is_release_pending, is_requested, is_sunk, probe_beat}
+use proofs.Imports.{comes_granting, MonitorRelation, is_let_by, is_release_pending, is_requested, probe_beat}
 use proofs.Imports.{cap_waited}
 use proofs.flow.{FlowAlone.AreRests, FlowAlone.requested-blocks, FlowOthers.unsaid}
 use proofs.flow.FlowStep.{flowed-next, held_by, acquired_by, let_of, granted_by, step, step_quiet, let_still}
@@ -52,7 +52,6 @@ pub record IsReleased {w : ℕ} {X : Type 0} (c n : ℕ) (r : Prune) (y : BeatC 
   pub elsewhere : AreElsewhere n s s'
   pub uses : (i : ℕ) → s'.uses c i ≡ s.uses c i
   pub lets : (i : ℕ) → s'.lets c i ≡ s.lets c i
-  pub tracked : (i : ℕ) → s'.tracked i ≡ s.tracked i
   pub held_is : held_by c (s'.block n) ≡ (if last then prune_right r else held_by c (s.block n))
   pub service : (s'.block n).service ≡ (s.block n).service
   pub tracker : (s'.block n).tracker ≡ (s.block n).tracker
@@ -165,7 +164,6 @@ flowed-release {w} {X} {c} {n} {r} {y} {first} {last} {asked} {rest} {rest'} {s}
           (rw (is.release_source, is.source) (same_number (b.release_source c)))) ∙ sym (opened first last
           (is_release y.opcode) (block_at y.address == n) (let_of c (rest Channel.C) b) is.release here_at then_here))
           (λ m ne. cc (let_rest m ne, apart m ne, step_quiet first last (let_of c (rest Channel.C) (s.block m))));
-      sinks = λ i. sinks i ∙ sym (step_quiet first last (is_sunk c i (rest Channel.D) (s.tracked i) s));
       grants = λ m. grants m ∙ sym (step_quiet first last (granted_by c m asked (rest Channel.D) (s.block m)));
       probes = λ m. answered m ∙ sym (not_closed m);
       probed = λ m e. probe_of-c m y t ∙ before.probed m (sym (answered m) ∙ e) ∙ sym (ap (λ k. Some (probe_beat m k))
@@ -194,13 +192,6 @@ flowed-release {w} {X} {c} {n} {r} {y} {first} {last} {asked} {rest} {rest'} {s}
         (rest Channel.C)
     comes_other i ne = is.comes i ∙ and_right (not last) (y.source == i) (another i ne) ∙ sym
         (is.came i ∙ and_right (not first) (y.source == i) (another i ne))
-
-    sinks : (i : ℕ) → is_sunk c i (rest' Channel.D) (s'.tracked i) s' ≡ is_sunk c i (rest Channel.D) (s.tracked i) s
-    sinks i = cc (rests Channel.D, is.tracked i, same (s.tracked i))
-      where
-        same : (o : Option ℕ) → is_sunk c i (rest Channel.D) o s' ≡ is_sunk c i (rest Channel.D) o s
-        same None = refl
-        same (Some m) = cc (part-block (λ z. z.service) n s s' is.elsewhere is.service m)
 
     then_by : (i : ℕ) (o : Option ℕ) → s.lets c i ≡ o → i ≡ y.source → is_let_by c i (rest Channel.C) o s ≡ not first
     then_by i o e same = let fact = let_then i first r (rest Channel.C) _ is.letting

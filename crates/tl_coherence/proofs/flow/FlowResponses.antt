@@ -1,31 +1,34 @@
 -- What is half taken on channel A while a response is on its way.
 -- A response that is delivered breaks no rule of order after what was delivered on its link.
-use Rattle.std.proofs.Common.{◌≡◌, ℕ, zero, suc, Bool, true, false, not, ◌&&◌, ◌||◌, ◌==◌, List, [], ◌∷◌, Some, None}
-use Rattle.std.proofs.Common.{refl, sym, ◌∙◌, ap, subst, arith, eqb-true, map}
+use Rattle.std.proofs.Common.{◌≡◌, ℕ, Bool, true, false, not, ◌&&◌, List, [], ◌∷◌, Some, None}
+use Rattle.std.proofs.Common.{refl, sym, ◌∙◌, ap, subst, arith, map}
 use Rattle.tl_coherence.proofs
-use proofs.Imports.{and_from, same_Some, Beat, BeatA, Channel, OpB, OpC, IsWidth, Message, MessageA, MessageC, MessageD}
+use proofs.Imports.{Beat, BeatA, Channel, IsWidth, Message, MessageA, MessageD}
 use proofs.Imports.{a_beat_of, beat_of, begun, History, channel_of, unfinished, Config, ReleaseSource, RequestSource}
-use proofs.Imports.{Level, Prune, Report, Perm, Profile, prune_code, report_code, report_left, broken_in_order}
-use proofs.Imports.{comes_in_release, comes_in_request, same_perm, broken_after, on_link, is_release, held, pending}
-use proofs.Imports.{request_of, illegal, same_block, zeros, about, acquisition, probe_ack, release, no_ack_grant}
-use proofs.Imports.{grant_opcode, level_of, IsInvariant, is_busy, Acquire, Answer, Grant, Kind, Packet, ProbeAck}
-use proofs.Imports.{Release, ReleaseAck, Request, AcquireOpen, ReleaseAcked, ReleasePhase, ReleaseSent, is_unreleased}
-use proofs.Imports.{Acquires, Asked, GrantSent, SourceState, State, is_on, packet, view, is_acked, is_acknowledging}
-use proofs.Imports.{is_answered, is_granting, is_releasing, is_unserved, is_wanting, acquire_opcode, IsCarried}
-use proofs.Imports.{is_release_pending, is_requested, is_sunk, AccessMessages, message_of, message_of_kind, prune_told}
-use proofs.Imports.{report_told, block_message, IsGivenAsked, MonitorRelations, SimulationRelation, gives_asked}
+use proofs.Imports.{Level, Perm, Profile, broken_in_order}
+use proofs.Imports.{comes_in_release, comes_in_request, same_perm, broken_after, on_link, held, pending}
+use proofs.Imports.{request_of, illegal, same_block, acquisition, no_ack_grant}
+use proofs.Imports.{grant_opcode, level_of, IsInvariant, Acquire, Answer, Grant, Kind, Packet}
+use proofs.Imports.{ReleaseAck, Request, AcquireOpen, ReleaseAcked, ReleasePhase}
+use proofs.Imports.{Acquires, Asked, GrantSent, SourceState, State, is_on, packet, view, is_acked}
+use proofs.Imports.{is_answered, is_unserved, is_wanting, acquire_opcode}
+use proofs.Imports.{is_release_pending, is_requested, AccessMessages, message_of, message_of_kind}
+use proofs.Imports.{block_message, IsGivenAsked, MonitorRelations, SimulationRelation, gives_asked}
 use proofs.Imports.{is_caching, flow, Log, System}
 use Rattle.tl_rules.specs.statement.Conformance as rules
 use proofs.protocol.HeadOfD.{acquire-used, IsAnswerDue, answer-due, IsGrantDue, grant-due, grant-rendered, ack-due}
 use proofs.protocol.HeadOfD.{grant_message, ack_message, own_view}
-use proofs.protocol.BothParts.{wanting-is, first-shown, is_of-is, quiet_unanswered}
+use proofs.protocol.BothParts.{wanting-is, first-shown, quiet_unanswered}
 use proofs.protocol.Room.{asked-first, rendered-acquire}
-use proofs.queues.{FirstToken.own_kind, FirstToken.IsFirst, FirstToken.first-token, Phases.and_left, Phases.and_right}
-use proofs.queues.{Carried.IsNext, Facts.granting_alone, Tokens.same_number, Codes.access_kind}
+use proofs.queues.{FirstToken.IsFirst, FirstToken.first-token, Phases.and_left, Phases.and_right}
+use proofs.queues.{Carried.IsNext, Facts.granting_alone, Codes.access_kind}
 use proofs.client.{ClientDelivered.ack_next, Waiting.answer-legal, Waiting.grant-legal, Waiting.ack-legal}
 use proofs.client.ClientEnd.{is_access, asks-access, asks-acquire, answers_acquire, fits_asked, fitting, has_data}
 use proofs.client.ClientEnd.{next-legal}
+use proofs.client.HalfTaken.{half-taken}
+use proofs.flow.NextOnD.{coming-acked}
 use proofs.flow.FlowLawful.{lawful-beat}
+use proofs.links.Acknowledged.{AreSunk, unsunk-due}
 
 -- ---- what is half taken on channel A
 
@@ -71,28 +74,14 @@ pub not-coming_a : {w : ℕ} {config : Config} {log : Log w} {mail : AccessMessa
     {s : State (List ℕ)} {sys : System w} (c source : ℕ)
     → SimulationRelation config log mail request s sys → waits_on_a c (s.uses c source) s ≡ false
     → comes_in_request source (unfinished Channel.A (on_link c sys.manager.trace)) ≡ false
-not-coming_a {w} {config} {mail} {s} {sys} c source h none = go (s.link c).a refl (h.carried c Channel.A)
+not-coming_a {mail} {s} c source h none = half-taken c Channel.A (λ beats. comes_in_request source beats ≡ false) h refl
+    (λ k i rest j first own. comes_not c source s _ j _ refl (each k i rest first own) none)
   where
-    rest_now : List (Beat w)
-    rest_now = unfinished Channel.A (on_link c sys.manager.trace)
-
     each : (k : Kind) (i : ℕ) (rest : List Packet) → (s.link c).a ≡ packet k i ∷ rest → is_on Channel.A k ≡ true
         → IsWaiting c s (message_of_kind k mail s c i)
     each Request i rest first own = waiting_request c i rest h first
     each Acquire i rest first own = waiting_acquire c i rest h first
     each k i rest first own = absurd cc
-
-    go : (xs : List Packet) → (s.link c).a ≡ xs → IsCarried rest_now (map (message_of mail s c) (s.link c).a)
-        (sys.channels c Channel.A) → comes_in_request source rest_now ≡ false
-    go [] first carried =
-        let nothing : IsCarried rest_now [] (sys.channels c Channel.A) =
-        rw (ap (map (message_of mail s c)) first) at carried in
-        ap (comes_in_request source) nothing.0
-    go (x ∷ xs) first carried =
-        let some : IsCarried rest_now (message_of mail s c x ∷ map (message_of mail s c) xs)
-        (sys.channels c Channel.A) = rw (ap (map (message_of mail s c)) first) at carried in
-        comes_not c source s _ some.0 _ some.2 (each x.kind x.number xs first (own_kind (is_caching config) s c
-        Channel.A x.kind x.number xs h.invariant first)) none
 
 -- ---- an answer
 
@@ -121,9 +110,6 @@ flow-answer {w} {config} {log} {mail} {request} {s} {sys} {c} {source} h flowed 
 
 -- ---- a Grant
 
-abbrev none_of : (w : ℕ) → List (Beat w)
-none_of w = []
-
 -- what the client of a Grant has of its block
 pub grant_quiet : {caching : ℕ → Bool} {c n : ℕ} {s : State (List ℕ)} → IsInvariant caching s → (due : IsGrantDue c n s)
     → is_answered ((s.block n).pair c).probing ≡ false
@@ -132,22 +118,16 @@ grant_quiet {c} {n} {s} inv due =
     ((inv.blocks n).phases c) (own_view c due.data_too due.k (s.block n).service due.service) in
     quiet_unanswered _ (and_left _ _ alone)
 
--- the tracker of a Grant is of its block
-pub grant_tracked : {caching : ℕ → Bool} {c n : ℕ} {s : State (List ℕ)} → IsInvariant caching s → IsGrantDue c n s
-    → s.tracked (s.block n).tracker ≡ Some n
-grant_tracked {n} {s} inv due = is_of-is n _ (inv.named.trackers (s.block n).tracker n
-    ∙ ap (λ x. is_busy x && ((s.block n).tracker == (s.block n).tracker)) due.service ∙ same_number (s.block n).tracker)
-
 flow-grant : {w : ℕ} {config : Config} {log : Log w} {mail : AccessMessages w} {request : ℕ → MessageA w}
     {s : State (List ℕ)} {sys : System w} {c n : ℕ} → SimulationRelation config log mail request s sys
-    → MonitorRelations log mail s sys → (due : IsGrantDue c n s)
+    → MonitorRelations log mail s sys → AreSunk (flow c log) (sys.clients c).past (sys.channels c Channel.E)
+    → (due : IsGrantDue c n s)
     → gives_asked config.profile (AcquireOpen due.whole due.g) due.k ≡ true → unfinished Channel.D (sys.clients c).past
     ≡ [] → broken_in_order config.profile
     (beat_of (Message.D (grant_message due.data_too due.k ((s.block n).source c) (s.block n).tracker (s.block n).truth))
     0) (flow c log) ≡ None
-flow-grant {w} {config} {log} {mail} {request} {s} {sys} {c} {n} h flowed due given whole =
+flow-grant {w} {config} {log} {mail} {request} {s} {sys} {c} {n} h flowed sunk due given whole =
     let source = (s.block n).source c in
-    let sink = (s.block n).tracker in
     let r : BeatA w = a_beat_of (acquisition (acquire_opcode due.whole) due.g source n) 0 in
     let fits = fitting _ _ due.data_too due.k due.whole due.g due.fits in
     let asks = asks-acquire c _ n source due.whole due.g mail s due.used due.wants refl in
@@ -168,109 +148,18 @@ flow-grant {w} {config} {log} {mail} {request} {s} {sys} {c} {n} h flowed due gi
     }) (same_block n) (fits_asked config.profile due.whole due.g due.k fits.cap_is given)
     (ap (λ q. rules.is_grant_without_data (grant_opcode due.data_too)
     && (rules.is_acquire_block (acquire_opcode due.whole) && not (same_perm q Perm.Branch))) held_now ∙ has_data
-    due.whole due.data_too _ fits.carried) ((flowed c).probes n ∙ grant_quiet h.invariant due) ((flowed c).sinks
-    sink ∙ ap (λ b. is_sunk c sink b (s.tracked sink) s) whole ∙ ap (λ o. is_sunk c sink (none_of w) o s)
-    (grant_tracked h.invariant due) ∙ ap (λ v. is_acknowledging v || (is_granting v && false)) mine)
+    due.whole due.data_too _ fits.carried) ((flowed c).probes n ∙ grant_quiet h.invariant due)
+    (unsunk-due c n h due whole sunk)
 
 -- ---- a ReleaseAck
 
--- the message is no Release with this source
-IsUnreleased : {w : ℕ} → ℕ → Message w → Type 0
-IsUnreleased {w} source m = (r : MessageC w) × (m ≡ Message.C r)
-    × ((is_release r.opcode && (r.source == source)) ≡ false)
-
-unreleased : {w : ℕ} (source : ℕ) (m : Message w) (k : ℕ) (rest : List (Beat w)) → rest ≡ begun m k
-    → IsUnreleased source m → comes_in_release source rest ≡ false
-unfolding IsUnreleased
-unreleased {w} source m k rest e is =
-    let go : (i : ℕ) → comes_in_release source (begun (Message.C is.0) i) ≡ false =
-    elim [ zero ↦ refl | suc i ↦ is.2 ] in
-    cc (e, is.1, go k)
-
-unreleased_report : (w : ℕ) (source : ℕ) (p : Perm) (r : Report) (n : ℕ) (copy : List ℕ)
-    → IsUnreleased {w = w} source (probe_ack OpB.ProbeBlock p r n copy)
-unfolding IsUnreleased
-unreleased_report w source Perm.Trunk r n copy = (about OpC.ProbeAckData (report_code r) 0 n copy, refl, refl)
-unreleased_report w source p r n copy = (about OpC.ProbeAck (report_code r) 0 n zeros, refl, refl)
-
-unreleased_prune : (w : ℕ) (source : ℕ) (p : Prune) (i n : ℕ) (copy : List ℕ) → (i == source) ≡ false
-    → IsUnreleased {w = w} source (release p i n copy)
-unfolding IsUnreleased
-unreleased_prune w source Prune.BtoN i n copy e = (about OpC.Release (prune_code Prune.BtoN) i n zeros, refl, e)
-unreleased_prune w source p i n copy e = (about OpC.ReleaseData (prune_code p) i n copy, refl, e)
-
-rendered_report : (w : ℕ) (c n source : ℕ) (s : State (List ℕ))
-    → IsUnreleased {w = w} source (block_message ProbeAck c n (s.block n))
-unfolding block_message
-rendered_report w c n source s = unreleased_report w source (report_left (report_told ((s.block n).pair c).probing))
-    (report_told ((s.block n).pair c).probing) n (s.block n).truth
-
-rendered_release : (w : ℕ) (c n source : ℕ) (s : State (List ℕ)) → ((s.block n).release_source c == source) ≡ false
-    → IsUnreleased {w = w} source (block_message Release c n (s.block n))
-unfolding block_message
-rendered_release w c n source s e = unreleased_prune w source (prune_told ((s.block n).pair c).letting)
-    _ n (s.block n).truth e
-
--- no Release is half taken with the source of one that was acknowledged
-not-coming_c : {w : ℕ} {config : Config} {log : Log w} {mail : AccessMessages w} {request : ℕ → MessageA w}
-    {s : State (List ℕ)} {sys : System w} (c n : ℕ) → SimulationRelation config log mail request s sys
-    → s.lets c ((s.block n).release_source c) ≡ Some n → is_acked ((s.block n).pair c).letting ≡ true
-    → comes_in_release ((s.block n).release_source c) (unfinished Channel.C (on_link c sys.manager.trace)) ≡ false
-not-coming_c {w} {config} {mail} {s} {sys} c n h let_ acked = go (s.link c).c refl (h.carried c Channel.C)
-  where
-    source : ℕ
-    source = (s.block n).release_source c
-
-    rest_now : List (Beat w)
-    rest_now = unfinished Channel.C (on_link c sys.manager.trace)
-
-    apart : (x : ReleasePhase) → is_acked x ≡ true → is_releasing x ≡ true → ⊥
-    apart ReleaseAcked e f = cc
-    apart x e f = cc
-
-    open_release : (x : ReleasePhase) → is_releasing x ≡ true → not (is_unreleased x) ≡ true
-    open_release (ReleaseSent r) e = refl
-    open_release x e = absurd cc
-
-    differ : (i : ℕ) → is_releasing ((s.block i).pair c).letting ≡ true → (b : Bool)
-        → ((s.block i).release_source c == source) ≡ b → b ≡ false
-    differ i releasing false e = refl
-    differ i releasing true e =
-        let open_ = open_release _ releasing in
-        let lets = is_of-is i _ (h.invariant.named.releases c ((s.block
-        i).release_source c) i ∙ and_from (not (is_unreleased ((s.block i).pair c).letting)) ((s.block
-        i).release_source c == (s.block i).release_source c) open_ (same_number ((s.block i).release_source c))) in
-        let same = same_Some i n (sym lets ∙ ap (s.lets c) (eqb-true ((s.block i).release_source c) source e) ∙ let_) in
-        absurd (apart ((s.block n).pair c).letting acked
-        (sym (ap (λ j. is_releasing ((s.block j).pair c).letting) same) ∙ releasing))
-
-    each : (k : Kind) (i : ℕ) (rest : List Packet) → (s.link c).c ≡ packet k i ∷ rest → is_on Channel.C k ≡ true
-        → IsUnreleased source (message_of_kind k mail s c i)
-    each ProbeAck i rest first own = rendered_report w c i source s
-    each Release i rest first own = rendered_release w c i source s
-        (differ i (first-shown h.invariant c Release refl first) ((s.block i).release_source c == source) refl)
-    each k i rest first own = absurd cc
-
-    go : (xs : List Packet) → (s.link c).c ≡ xs → IsCarried rest_now (map (message_of mail s c) (s.link c).c)
-        (sys.channels c Channel.C) → comes_in_release source rest_now ≡ false
-    go [] first carried =
-        let nothing : IsCarried rest_now [] (sys.channels c Channel.C) = subst (λ ms. IsCarried rest_now ms
-        (sys.channels c Channel.C)) (ap (map (message_of mail s c)) first) carried in
-        ap (comes_in_release source) nothing.0
-    go (x ∷ xs) first carried =
-        let some : IsCarried rest_now (message_of mail s c x ∷ map (message_of mail s c) xs)
-        (sys.channels c Channel.C) = subst (λ ms. IsCarried rest_now ms (sys.channels c Channel.C))
-        (ap (map (message_of mail s c)) first) carried in
-        unreleased source _ some.0 _ some.2 (each x.kind x.number xs first (own_kind (is_caching config) s c Channel.C
-        x.kind x.number xs h.invariant first))
-
 flow-ack : {w : ℕ} {config : Config} {log : Log w} {mail : AccessMessages w} {request : ℕ → MessageA w}
-    {s : State (List ℕ)} {sys : System w} (c n : ℕ) → SimulationRelation config log mail request s sys
+    {s : State (List ℕ)} {sys : System w} (c n : ℕ) → IsWidth w → SimulationRelation config log mail request s sys
     → MonitorRelations log mail s sys → s.lets c ((s.block n).release_source c) ≡ Some n
     → is_acked ((s.block n).pair c).letting ≡ true → unfinished Channel.D (sys.clients c).past ≡ []
     → broken_in_order config.profile (beat_of (Message.D (ack_message ((s.block n).release_source c))) 0) (flow c log)
     ≡ None
-flow-ack {w} {config} {log} {mail} {request} {s} {sys} c n h flowed let_ acked whole =
+flow-ack {w} {config} {log} {mail} {request} {s} {sys} c n width h flowed let_ acked whole =
     let let_acked : (x : ReleasePhase) (source : ℕ) (rest : List (Beat w)) → is_acked x ≡ true → is_release_pending
     source rest x ≡ true = elim [ ReleaseAcked ↦ λ source rest e. refl | x ↦ λ source rest e. absurd cc ] in
     let source = (s.block n).release_source c in
@@ -278,7 +167,7 @@ flow-ack {w} {config} {log} {mail} {request} {s} {sys} c n h flowed let_ acked w
     let live : pending (ReleaseSource source) (flow c log) ≡ true =
     cc ((flowed c).release_sources source, let_, let_acked ((s.block n).pair c).letting source rest acked) in
     ack-legal config.profile _ _ ((flowed c).rest_is Channel.D ∙ whole) (ap (λ b. comes_in_release source b)
-    ((flowed c).rest_is Channel.C) ∙ not-coming_c c n h let_ acked) refl live ((flowed c).sizes source n let_ live)
+    ((flowed c).rest_is Channel.C) ∙ coming-acked c n source width h let_ acked) refl live ((flowed c).sizes source n let_ live)
 
 -- ---- all of channel D
 
@@ -297,8 +186,9 @@ legal_next {config} {log} c m h flowed next first =
 legal_d : {w : ℕ} {config : Config} {log : Log w} {mail : AccessMessages w} {request : ℕ → MessageA w}
     {s : State (List ℕ)} {sys : System w} (c : ℕ) (x : Beat w) (queue : List (Beat w)) → IsWidth w
     → SimulationRelation config log mail request s sys → MonitorRelations log mail s sys
-    → sys.channels c Channel.D ≡ x ∷ queue → broken_in_order config.profile x (flow c log) ≡ None
-legal_d {w} {config} {log} {mail} {request} {s} {sys} c x queue width h flowed beats =
+    → AreSunk (flow c log) (sys.clients c).past (sys.channels c Channel.E) → sys.channels c Channel.D ≡ x ∷ queue
+    → broken_in_order config.profile x (flow c log) ≡ None
+legal_d {w} {config} {log} {mail} {request} {s} {sys} c x queue width h flowed sunk beats =
     go first.kind first.number first.tokens first.own first.next
   where
     first : IsFirst Channel.D c mail s sys x queue
@@ -330,14 +220,14 @@ legal_d {w} {config} {log} {mail} {request} {s} {sys} c x queue width h flowed b
         let due = grant-due (is_caching config) c n _ s h.invariant tokens in
         legal_next c (grant_message due.data_too due.k ((s.block n).source c) (s.block n).tracker (s.block n).truth)
         h flowed (subst (λ m. IsNext x rest_now m ms queue) (grant-rendered c n s due) next)
-        (flow-grant h flowed due (given n due))
+        (flow-grant h flowed sunk due (given n due))
 
     go : (k : Kind) (i : ℕ) → (s.link c).d ≡ packet k i ∷ first.rest → is_on Channel.D k ≡ true
         → IsNext x rest_now (message_of_kind k mail s c i) ms queue
         → broken_in_order config.profile x (flow c log) ≡ None
     go Answer i tokens own next = answer i tokens next
     go Grant i tokens own next = grant i tokens next
-    go ReleaseAck i tokens own next = legal_next c _ h flowed (ack_next c i s next) (flow-ack c i h flowed
+    go ReleaseAck i tokens own next = legal_next c _ h flowed (ack_next c i s next) (flow-ack c i width h flowed
         (ack-due c i first.rest h.invariant tokens) (first-shown h.invariant c ReleaseAck refl tokens))
     go k i tokens own next = absurd cc
 
@@ -349,7 +239,8 @@ in_order l p x t lawful order = rw lawful order
 pub flows-d : {w : ℕ} {config : Config} {log : Log w} {mail : AccessMessages w} {request : ℕ → MessageA w}
     {s : State (List ℕ)} {sys : System w} (c : ℕ) (l : Level) (x : Beat w) (queue : List (Beat w)) → IsWidth w
     → SimulationRelation config log mail request s sys → MonitorRelations log mail s sys
-    → sys.channels c Channel.D ≡ x ∷ queue → level_of config c ≡ Some l → broken_after l config.profile x (flow c log)
+    → AreSunk (flow c log) (sys.clients c).past (sys.channels c Channel.E) → sys.channels c Channel.D ≡ x ∷ queue
+    → level_of config c ≡ Some l → broken_after l config.profile x (flow c log)
     ≡ None
-flows-d {config} {log} c l x queue width h flowed beats level = in_order l _ x
-    _ (lawful-beat c Channel.D l x queue h beats level) (legal_d c x queue width h flowed beats)
+flows-d {config} {log} c l x queue width h flowed sunk beats level = in_order l _ x
+    _ (lawful-beat c Channel.D l x queue h beats level) (legal_d c x queue width h flowed sunk beats)

@@ -3,10 +3,10 @@ use Rattle.std.proofs.Common.{◌≡◌, ℕ, Bool, true, false, not, ◌&&◌, 
 use Rattle.std.proofs.Common.{arith, if◌then◌else◌, option_map, unwrap_or}
 use Rattle.tl_coherence.proofs
 use proofs.Imports.{Beat, BeatA, BeatC, Channel, History, unfinished, grown, Key, RequestSource, ReleaseSource}
-use proofs.Imports.{AcquireOf, ReleaseOf, GrantSink, GrantAckOf, ProbeOf, Perm, begins, ends, pending, held, block_at}
+use proofs.Imports.{AcquireOf, ReleaseOf, GrantAckOf, ProbeOf, Perm, begins, ends, pending, held, block_at}
 use proofs.Imports.{request_of, release_of, probe_of, grant_sink, opens, closes, Block, State, view, is_granting}
 use proofs.Imports.{is_acknowledging, is_answered, is_wanting, is_unserved, comes_granting, MonitorRelation}
-use proofs.Imports.{is_requested, is_release_pending, is_let_by, is_sunk, probe_beat, cap_waited}
+use proofs.Imports.{is_requested, is_release_pending, is_let_by, probe_beat, cap_waited}
 use Rattle.tl_burst.specs.statement.Messages.{on}
 use Rattle.tl_rules.specs.statement.History.{says_held}
 
@@ -73,8 +73,6 @@ pub record IsStepped {w : ℕ} {X : Type 0} (x : Beat w) (first last : Bool) (as
       → IsReleaseOf n (release_of i (x ∷ t))
   pub releases : (n : ℕ) → let_of c (rest' Channel.C) (s'.block n) ≡ step first last (opens (ReleaseOf n) x t)
       (closes (ReleaseOf n) x t) (let_of c (rest Channel.C) (s.block n))
-  pub sinks : (i : ℕ) → is_sunk c i (rest' Channel.D) (s'.tracked i) s' ≡ step first last (opens (GrantSink i) x t)
-      (closes (GrantSink i) x t) (is_sunk c i (rest Channel.D) (s.tracked i) s)
   pub grants : (n : ℕ) → granted_by c n asked' (rest' Channel.D) (s'.block n) ≡ step first last
       (opens (GrantAckOf n) x t) (closes (GrantAckOf n) x t) (granted_by c n asked (rest Channel.D) (s.block n))
   pub probes : (n : ℕ) → is_answered ((s'.block n).pair c).probing ≡ step first last (opens (ProbeOf n) x t)
@@ -109,7 +107,6 @@ flowed-next {w} {X} {x} {last} {asked'} {rest'} {c} {s'} {t} first_is last_is re
   released = λ i n e f. (is.released i n e (sym (lets i) ∙ f)).0;
   sizes = λ i n e f. (is.released i n e (sym (lets i) ∙ f)).1;
   releases = λ n. stepped (ReleaseOf n) x t first_is last_is (before.releases n) (is.releases n);
-  sinks = λ i. stepped (GrantSink i) x t first_is last_is (before.sinks i) (is.sinks i);
   grants = grants;
   probes = λ n. stepped (ProbeOf n) x t first_is last_is (before.probes n) (is.probes n);
   probed = is.probed;

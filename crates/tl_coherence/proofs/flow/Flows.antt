@@ -16,6 +16,7 @@ use Rattle.tl_manager.specs.statement.Offer as manager_offer
 use Rattle.tl_rules.specs.statement.Conformance.{is_legal}
 use Rattle.tl_client.specs.statement.Ask as ask
 use proofs.links.{FromInvariant.flow_moved, FromInvariant.taken_at, FromInvariant.flow_still, HeadsOfLinks.first-of}
+use proofs.links.FromInvariant.{IsPassing, passing}
 use proofs.queues.{FirstToken.IsFirst, FirstToken.first-token, Tokens.same_number, Moves.on_same}
 use proofs.queues.Steps.{IsOn, landed-client, landed-manager, on_own_channel, clients-with_messages}
 use proofs.queues.Steps.{manager-with_messages, handed-client, stepped-asked}
@@ -255,19 +256,20 @@ legal_more l p x t e f = rw (e, f) refl
 unbroken : {w : ℕ} {config : Config} {log : Log w} (h : AbstractState w) (link : Link) (ch : Channel) (l : Level)
     (x : Beat w) (queue : List (Beat w)) → IsWidth w → SimulationRelation config log h.mail h.request h.state
     (system_after config log) → MonitorRelations log h.mail h.state (system_after config log)
+    → IsPassing (system_after config log) (λ d. flow d log)
     → is_moving (stepped config (Deliver link ch) (system_after config log)).outcome ≡ true
     → (system_after config log).channels link.0 ch ≡ x ∷ queue → level_of config link.0 ≡ Some l
     → broken_after l config.profile x (flow link.0 log) ≡ None
-unbroken h link Channel.A l x queue width is values moving beats level = flows-a link.0 l x queue width is values beats
+unbroken h link Channel.A l x queue width is values passes moving beats level = flows-a link.0 l x queue width is values beats
     level (request-moves link is moving beats (arrival-first h link.0 x queue width is beats))
-unbroken h link Channel.B l x queue width is values moving beats level =
+unbroken h link Channel.B l x queue width is values passes moving beats level =
     flows-b link.0 l x queue width is values beats level
-unbroken h link Channel.C l x queue width is values moving beats level =
+unbroken h link Channel.C l x queue width is values passes moving beats level =
     flows-c link.0 l x queue width is values beats level
-unbroken h link Channel.D l x queue width is values moving beats level =
-    flows-d link.0 l x queue width is values beats level
-unbroken h link Channel.E l x queue width is values moving beats level =
-    flows-e link.0 l x queue width is values beats level
+unbroken h link Channel.D l x queue width is values passes moving beats level =
+    flows-d link.0 l x queue width is values (passes.sinks link.0) beats level
+unbroken h link Channel.E l x queue width is values passes moving beats level =
+    flows-e link.0 l x queue width is values (passes.sinks link.0) beats level
 
 -- who is asked moves no beat
 pub asked-still : {w : ℕ} (config : Config) (log : Log w) (c : ℕ) (o : Op w)
@@ -281,13 +283,13 @@ asked-still {w} config log c o = go (terms_at config c) refl
 
 legal-event : {w : ℕ} {config : Config} {log : Log w} (h : AbstractState w) (event : Event w) (d : ℕ) (l : Level)
     → IsWidth w → SimulationRelation config log h.mail h.request h.state (system_after config log)
-    → MonitorRelations log h.mail h.state (system_after config log) → level_of config d ≡ Some l
-    → is_legal l config.profile (flow d log) ≡ true
+    → MonitorRelations log h.mail h.state (system_after config log)
+    → IsPassing (system_after config log) (λ d. flow d log) → level_of config d ≡ Some l → is_legal l config.profile (flow d log) ≡ true
     → is_legal l config.profile (flow d ((event, (stepped config event (system_after config log)).outcome) ∷ log))
     ≡ true
-legal-event {config} {log} h (Ask c o) d l width is values level legal = ap (is_legal l config.profile) (flow_still
+legal-event {config} {log} h (Ask c o) d l width is values passes level legal = ap (is_legal l config.profile) (flow_still
     (Ask c o) (stepped config (Ask c o) (system_after config log)).outcome log d (asked-still config log c o)) ∙ legal
-legal-event {w} {config} {log} h (Deliver link ch) d l width is values level legal =
+legal-event {w} {config} {log} h (Deliver link ch) d l width is values passes level legal =
     go (is_moving (stepped config (Deliver link ch) sys).outcome) refl
   where
     sys : System w
@@ -307,7 +309,7 @@ legal-event {w} {config} {log} h (Deliver link ch) d l width is values level leg
         (is_to_client ch) refl).delivered d) ∙ with_beat at.0 (link.0 == d) (λ same.
         let here : link.0 ≡ d = eqb-true link.0 d same in
         subst (λ i. broken_after l config.profile at.0 (flow i log) ≡ None) here
-        (unbroken h link ch l at.0 at.1 width is values moving at.3.0 (ap (level_of config) here ∙ level)))
+        (unbroken h link ch l at.0 at.1 width is values passes moving at.3.0 (ap (level_of config) here ∙ level)))
     go false still = cc (flow_still (Deliver link ch) (stepped config (Deliver link ch) sys).outcome log d still, legal)
 
 legal : {w : ℕ} (config : Config) (log : Log w) (d : ℕ) (l : Level) → IsWidth w → AreTyped log → IsLog config log
@@ -316,7 +318,7 @@ unfolding AreTyped IsLog flow is_legal
 legal config [] d l width typed is level = refl
 legal config (x ∷ log) d l width typed is level =
     rw is.0 (legal-event (shadow config log) x.0 d l width (matched config log width typed.1 is.1)
-    (flowed config log width typed.1 is.1) level (legal config log d l width typed.1 is.1 level))
+    (flowed config log width typed.1 is.1) (passing config log width typed.1 is.1) level (legal config log d l width typed.1 is.1 level))
 
 -- A monitor in the middle of a link finds no fault in what is delivered there.
 pub flows : {w : ℕ} {config : Config} {log : Log w} → IsGiven config log → (link : ℕ) (l : Level)

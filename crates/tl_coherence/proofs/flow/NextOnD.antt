@@ -1,20 +1,21 @@
 -- The beat that is next on channel D of a client's link: one of an answer, of a Grant, or of a ReleaseAck.
 -- What was delivered in part on a link: of which Grant, and of which Release.
-use Rattle.std.proofs.Common.{◌≡◌, ℕ, zero, suc, ◌*◌, Bool, true, false, not, ◌&&◌, ◌==◌, List, [], ◌∷◌, Option, Some}
-use Rattle.std.proofs.Common.{None, refl, sym, ◌∙◌, ap, subst, length, eqb-true, map}
+use Rattle.std.proofs.Common.{◌≡◌, ℕ, zero, suc, Bool, true, false, not, ◌&&◌, ◌==◌, List, ◌∷◌, Option, Some}
+use Rattle.std.proofs.Common.{arith, None, refl, sym, ◌∙◌, ap, subst, length, eqb-true, map}
 use Rattle.tl_coherence.proofs
 use proofs.Imports.{Beat, BeatA, BeatC, BeatD, Channel, IsWidth, length-begun, Message, MessageA, MessageC, MessageD}
-use proofs.Imports.{beat_of, begun, d_beat_of, unfinished, Config, comes_in_grant, comes_in_release, on_link, asks_for}
-use proofs.Imports.{block_at, grants, is_grant, is_release, request_of, same_block, Answer, Grant, Kind, Packet}
-use proofs.Imports.{ProbeAck, Release, ReleaseAck, Acquires, Block, State, is_on, packet, view, is_granting}
-use proofs.Imports.{is_releasing, is_unserved, AbstractState, IsCarried, comes_granting, is_requested, AccessMessages}
+use proofs.Imports.{beat_of, begun, d_beat_of, unfinished, Config, comes_in_release, on_link, asks_for}
+use proofs.Imports.{grants, is_grant, is_release, request_of, same_block, Answer, Grant, Kind, Packet}
+use proofs.Imports.{ProbeAck, Release, ReleaseAck, Acquires, Block, State, is_on, packet}
+use proofs.Imports.{is_releasing, is_unserved, AbstractState, comes_granting, is_requested, AccessMessages}
 use proofs.Imports.{message_of, message_of_kind, prune_told, report_told, block_message, MonitorRelations}
 use proofs.Imports.{SimulationRelation, asked_by, is_caching, receiver, flow, Log, system_after, System}
 use proofs.client.ClientEnd.{asks-acquire}
 use proofs.queues.{Phases.and_left, Phases.and_right, Tokens.same_number, Codes.access_kind, Carried.IsNext}
-use proofs.queues.FirstToken.{own_kind, IsFirst, first-token}
-use proofs.flow.FlowAlone.{IsComing}
-use proofs.manager.{ManagedGrants.tracker-of, Reporting.report-about, Reporting.release-about}
+use proofs.queues.FirstToken.{IsFirst, first-token}
+use proofs.client.HalfTaken.{never_grant, half-granted, half-taken}
+use proofs.Imports.{same_Some, ReleasePhase, is_acked}
+use proofs.manager.{Reporting.report-about, Reporting.release-about}
 use proofs.protocol.HeadOfD.{IsGrantDue, answer-due, grant-due, grant-rendered, grant_message, ack_message, own_view}
 use proofs.protocol.HeadOfD.{IsAnswerDue}
 use proofs.protocol.BothParts.{is_of-is, releasing-is, first-shown}
@@ -115,129 +116,6 @@ module _ {w : ℕ} (config : Config) (log : Log w) (h : AbstractState w) (c : �
 
 -- ---- a Grant
 
--- the beat is one of the Grant of this block, which is due to client c
-abbrev pub IsOfGrant : {w : ℕ} → ℕ → State (List ℕ) → BeatD w → Type 0
-IsOfGrant c s x = (n : ℕ) × IsGrantDue c n s × (x.source ≡ (s.block n).source c) × (x.sink ≡ (s.block n).tracker)
-
--- a beat of this message is, if it is one of a Grant
-IsGrantAlone : {w : ℕ} → ℕ → State (List ℕ) → Message w → Type 0
-IsGrantAlone {w} c s m = (y : MessageD w) × (m ≡ Message.D y) × (is_grant y.opcode ≡ true → (n : ℕ) × IsGrantDue c n s
-    × (y.source ≡ (s.block n).source c) × (y.sink ≡ (s.block n).tracker))
-
-never_grant : {A : Type 0} (b : Bool) → b ≡ false → b ≡ true → A
-never_grant b e f = absurd (let no : false ≡ true = sym e ∙ f in cc)
-
-alone_answer : {w : ℕ} {config : Config} {log : Log w} {mail : AccessMessages w} {request : ℕ → MessageA w}
-    {s : State (List ℕ)} {sys : System w} (c i : ℕ)
-    (rest : List Packet) → SimulationRelation config log mail request s sys → (s.link c).d ≡ packet Answer i ∷ rest
-    → IsGrantAlone c s (mail.answer c i)
-unfolding IsGrantAlone
-alone_answer {config} {mail} {s} c i rest h first =
-    let due = answer-due (is_caching config) c i rest mail s h.invariant (h.answered c i) first in (
-      due.answer,
-      due.answer_is,
-      never_grant (is_grant due.answer.opcode) (access_kind due.answer.opcode due.answers_access).0,
-    )
-
-alone_grant : {w : ℕ} {config : Config} {log : Log w} {mail : AccessMessages w} {request : ℕ → MessageA w}
-    {s : State (List ℕ)} {sys : System w} (c n : ℕ)
-    (rest : List Packet) → SimulationRelation config log mail request s sys → (s.link c).d ≡ packet Grant n ∷ rest
-    → IsGrantAlone {w = w} c s (block_message Grant c n (s.block n))
-unfolding IsGrantAlone
-alone_grant {config} {s} c n rest h first =
-    let due = grant-due (is_caching config) c n rest s h.invariant first in (
-      grant_message due.data_too due.k ((s.block n).source c) (s.block n).tracker (s.block n).truth,
-      grant-rendered c n s due,
-      λ e. (n, due, refl, refl),
-    )
-
-alone_ack : (w : ℕ) (s : State (List ℕ)) (c n : ℕ) → IsGrantAlone {w = w} c s (block_message ReleaseAck c n (s.block n))
-unfolding IsGrantAlone block_message
-alone_ack w s c n = (ack_message ((s.block n).release_source c), refl, λ e. absurd cc)
-
-begun_alone : {w : ℕ} (c : ℕ) (s : State (List ℕ)) (m : Message w) (k : ℕ) (x : BeatD w) (more : List (Beat w))
-    → IsGrantAlone c s m → Beat.D x ∷ more ≡ begun m k → is_grant x.opcode ≡ true → IsOfGrant c s x
-unfolding IsGrantAlone
-begun_alone {w} c s m k x more is e grants = go k (e ∙ ap (λ y. begun y k) is.1)
-  where
-    go : (i : ℕ) → Beat.D x ∷ more ≡ begun (Message.D is.0) i → IsOfGrant c s x
-    go zero f = absurd cc
-    go (suc i) f =
-        let opcode : x.opcode ≡ is.0.opcode = cc in
-        let source : x.source ≡ is.0.source = cc in
-        let sink : x.sink ≡ is.0.sink = cc in
-        told source sink (is.2 (sym (ap is_grant opcode) ∙ grants))
-      where
-        told : x.source ≡ is.0.source → x.sink ≡ is.0.sink → (n : ℕ) × IsGrantDue c n s
-            × (is.0.source ≡ (s.block n).source c) × (is.0.sink ≡ (s.block n).tracker) → IsOfGrant c s x
-        told source sink (n, due, of_source, of_sink) = (n, due, source ∙ of_source, sink ∙ of_sink)
-
--- a Grant that was delivered in part is due
-half-granted : {w : ℕ} {config : Config} {log : Log w} {mail : AccessMessages w} {request : ℕ → MessageA w}
-    {s : State (List ℕ)} {sys : System w} (c : ℕ) (x : BeatD w)
-    (more : List (Beat w)) → SimulationRelation config log mail request s sys
-    → unfinished Channel.D (sys.clients c).past ≡ Beat.D x ∷ more → is_grant x.opcode ≡ true → IsOfGrant c s x
-half-granted {w} {config} {log} {mail} {request} {s} {sys} c x more h is grants =
-    go (s.link c).d refl (h.carried c Channel.D)
-  where
-    rest_now : List (Beat w)
-    rest_now = unfinished Channel.D (sys.clients c).past
-
-    each : (k : Kind) (i : ℕ) (rest : List Packet) → (s.link c).d ≡ packet k i ∷ rest → is_on Channel.D k ≡ true
-        → IsGrantAlone c s (message_of_kind k mail s c i)
-    each Answer i rest first own = alone_answer c i rest h first
-    each Grant i rest first own = alone_grant c i rest h first
-    each ReleaseAck i rest first own = alone_ack w s c i
-    each k i rest first own = absurd cc
-
-    go : (xs : List Packet) → (s.link c).d ≡ xs → IsCarried rest_now (map (message_of mail s c) (s.link c).d)
-        (sys.channels c Channel.D) → IsOfGrant c s x
-    go [] first carried =
-        let none : IsCarried rest_now [] (sys.channels c Channel.D) = subst (λ ms. IsCarried rest_now ms
-        (sys.channels c Channel.D)) (ap (map (message_of mail s c)) first) carried in
-        absurd (let no : [] ≡ Beat.D x ∷ more = sym none.0 ∙ is in cc)
-    go (y ∷ ys) first carried =
-        let some : IsCarried rest_now (message_of mail s c y ∷ map (message_of mail s c) ys)
-        (sys.channels c Channel.D) = subst (λ ms. IsCarried rest_now ms (sys.channels c Channel.D))
-        (ap (map (message_of mail s c)) first) carried in
-        begun_alone c s _ some.0 x more (each y.kind y.number ys first (own_kind (is_caching config) s c Channel.D
-        y.kind y.number ys h.invariant first)) (sym is ∙ some.2) grants
-
--- the block of a Grant with this sink that was delivered in part
-pub coming-sink : {w : ℕ} {config : Config} {log : Log w} {mail : AccessMessages w} {request : ℕ → MessageA w}
-    {s : State (List ℕ)} {sys : System w} (c i : ℕ) → SimulationRelation config log mail request s sys
-    → comes_in_grant i (unfinished Channel.D (sys.clients c).past) ≡ true → (n : ℕ) × IsGrantDue c n s
-    × (s.tracked i ≡ Some n)
-coming-sink {w} {config} {log} {mail} {request} {s} {sys} c i h = go (unfinished Channel.D (sys.clients c).past) refl
-  where
-    go : (beats : List (Beat w)) → unfinished Channel.D (sys.clients c).past ≡ beats → comes_in_grant i beats ≡ true
-        → (n : ℕ) × IsGrantDue c n s × (s.tracked i ≡ Some n)
-    go (Beat.D x ∷ more) e f =
-        let of = half-granted c x more h e (and_left (is_grant x.opcode) (x.sink == i) f) in
-        let same : i ≡ (s.block of.0).tracker = sym (eqb-true x.sink i (and_right (is_grant x.opcode) (x.sink == i) f))
-        ∙ of.3 in
-        (of.0, of.1, ap s.tracked same ∙ tracker-of of.0 h.invariant.named (rw of.1.service refl))
-    go beats e f = absurd cc
-
--- a Grant of a block that was delivered in part is due
-pub coming-granting : {w : ℕ} {config : Config} {log : Log w} {mail : AccessMessages w} {request : ℕ → MessageA w}
-    {s : State (List ℕ)} {sys : System w} (c : ℕ) → SimulationRelation config log mail request s sys
-    → IsComing (asked_by mail s c) (unfinished Channel.D (sys.clients c).past) c s
-coming-granting {w} {config} {log} {mail} {request} {s} {sys} c h n =
-    go (unfinished Channel.D (sys.clients c).past) refl
-  where
-    go : (beats : List (Beat w)) → unfinished Channel.D (sys.clients c).past ≡ beats
-        → comes_granting n (asked_by mail s c) beats ≡ true → is_granting (view (s.block n).service c) ≡ true
-    go (Beat.D x ∷ more) e f =
-        let of = half-granted c x more h e (and_left (is_grant x.opcode) (asks_for n (asked_by mail s c x.source)) f) in
-        let asks = asks-acquire c _ of.0 ((s.block of.0).source c) of.1.whole of.1.g mail s of.1.used of.1.wants refl in
-        let here : (block_at (64 * of.0) == n) ≡ true =
-        cc (of.2, asks, and_right (is_grant x.opcode) (asks_for n (asked_by mail s c x.source)) f) in
-        let same : of.0 ≡ n = sym (same_block of.0) ∙ eqb-true (block_at (64 * of.0)) n here in
-        ap (λ i. is_granting (view (s.block i).service c)) (sym same) ∙ ap is_granting
-        (own_view c of.1.data_too of.1.k (s.block of.0).service of.1.service)
-    go beats e f = absurd cc
-
 -- requests that are asked with other first beats, but for sources that are open, change nothing of it
 pub coming-asked : {w : ℕ} {config : Config} {log : Log w} {mail : AccessMessages w} {request : ℕ → MessageA w}
     {s : State (List ℕ)} {sys : System w} (c m : ℕ) (asked asked' : ℕ → Option (BeatA w))
@@ -308,53 +186,56 @@ half-released : {w : ℕ} {config : Config} {log : Log w} {mail : AccessMessages
     (more : List (Beat w)) → IsWidth w → SimulationRelation config log mail request s sys
     → unfinished Channel.C (on_link c sys.manager.trace) ≡ Beat.C x ∷ more → is_release x.opcode ≡ true → (n : ℕ)
     × (is_releasing ((s.block n).pair c).letting ≡ true) × (x.source ≡ (s.block n).release_source c)
-half-released {w} {config} {log} {mail} {request} {s} {sys} c x more width h is releases =
-    go (s.link c).c refl (h.carried c Channel.C)
+half-released {w} {mail} {s} c x more width h is releases = half-taken c Channel.C (λ beats. beats ≡ Beat.C x ∷ more
+    → (n : ℕ) × (is_releasing ((s.block n).pair c).letting ≡ true) × (x.source ≡ (s.block n).release_source c)) h
+    (λ e. absurd cc) (λ k i rest j first own e. begun_release c s _ j x more (each k i rest first own) (sym e) releases)
+    is
   where
-    Here : Type 0
-    Here = (n : ℕ) × (is_releasing ((s.block n).pair c).letting ≡ true) × (x.source ≡ (s.block n).release_source c)
-
-    rest_now : List (Beat w)
-    rest_now = unfinished Channel.C (on_link c sys.manager.trace)
-
     each : (k : Kind) (i : ℕ) (rest : List Packet) → (s.link c).c ≡ packet k i ∷ rest → is_on Channel.C k ≡ true
         → IsReleaseAlone c s (message_of_kind k mail s c i)
     each ProbeAck i rest first own = alone_report c i width h
     each Release i rest first own = alone_release c i width h (first-shown h.invariant c Release refl first)
     each k i rest first own = absurd cc
 
-    go : (xs : List Packet) → (s.link c).c ≡ xs → IsCarried rest_now (map (message_of mail s c) (s.link c).c)
-        (sys.channels c Channel.C) → Here
-    go [] first carried =
-        let none : IsCarried rest_now [] (sys.channels c Channel.C) = subst (λ ms. IsCarried rest_now ms
-        (sys.channels c Channel.C)) (ap (map (message_of mail s c)) first) carried in
-        absurd (let no : [] ≡ Beat.C x ∷ more = sym none.0 ∙ is in cc)
-    go (y ∷ ys) first carried =
-        let some : IsCarried rest_now (message_of mail s c y ∷ map (message_of mail s c) ys)
-        (sys.channels c Channel.C) = subst (λ ms. IsCarried rest_now ms (sys.channels c Channel.C))
-        (ap (map (message_of mail s c)) first) carried in
-        begun_release c s _ some.0 x more (each y.kind y.number ys first (own_kind (is_caching config) s c Channel.C
-        y.kind y.number ys h.invariant first)) (sym is ∙ some.2) releases
+-- a Release that was delivered in part isn't answered, and is the one with its source
+coming-release : {w : ℕ} {config : Config} {log : Log w} {mail : AccessMessages w} {request : ℕ → MessageA w}
+    {s : State (List ℕ)} {sys : System w} (c source : ℕ) → IsWidth w → SimulationRelation config log mail request s sys
+    → comes_in_release source (unfinished Channel.C (on_link c sys.manager.trace)) ≡ true
+    → (n : ℕ) × (is_releasing ((s.block n).pair c).letting ≡ true) × (s.lets c source ≡ Some n)
+coming-release {w} {s} {sys} c source width h = go (unfinished Channel.C (on_link c sys.manager.trace)) refl
+  where
+    go : (beats : List (Beat w)) → unfinished Channel.C (on_link c sys.manager.trace) ≡ beats
+        → comes_in_release source beats ≡ true
+        → (n : ℕ) × (is_releasing ((s.block n).pair c).letting ≡ true) × (s.lets c source ≡ Some n)
+    go (Beat.C x ∷ more) e f =
+        let of = half-released c x more width h e (and_left (is_release x.opcode) (x.source == source) f) in
+        let same : source ≡ (s.block of.0).release_source c =
+        sym (eqb-true x.source source (and_right (is_release x.opcode) (x.source == source) f)) ∙ of.2 in
+        let letting = releasing-is _ of.1 in
+        let used = is_of-is of.0 _ (h.invariant.named.releases c ((s.block of.0).release_source c) of.0
+        ∙ rw (letting, same_number ((s.block of.0).release_source c)) refl) in
+        (of.0, of.1, ap (s.lets c) same ∙ used)
+    go beats e f = absurd cc
 
--- no Release is half delivered with a source that is free
+never_coming : (b : Bool) → (b ≡ true → ⊥) → b ≡ false
+never_coming b e = grind arith
+
+-- no Release is half delivered with a source that is free, or that of a Release that is acknowledged
 pub coming-free : {w : ℕ} {config : Config} {log : Log w} {mail : AccessMessages w} {request : ℕ → MessageA w}
     {s : State (List ℕ)} {sys : System w} (c source : ℕ) → IsWidth w → SimulationRelation config log mail request s sys
     → s.lets c source ≡ None → comes_in_release source (unfinished Channel.C (on_link c sys.manager.trace)) ≡ false
-coming-free {w} {config} {log} {mail} {request} {s} {sys} c source width h free =
-    go (unfinished Channel.C (on_link c sys.manager.trace)) refl
+coming-free c source width h free = never_coming _ (λ e. let of = coming-release c source width h e in
+    let no : None ≡ Some of.0 = sym free ∙ of.2 in cc)
+
+pub coming-acked : {w : ℕ} {config : Config} {log : Log w} {mail : AccessMessages w} {request : ℕ → MessageA w}
+    {s : State (List ℕ)} {sys : System w} (c n source : ℕ) → IsWidth w
+    → SimulationRelation config log mail request s sys → s.lets c source ≡ Some n
+    → is_acked ((s.block n).pair c).letting ≡ true
+    → comes_in_release source (unfinished Channel.C (on_link c sys.manager.trace)) ≡ false
+coming-acked {s} c n source width h let_ acked = never_coming _ (λ e.
+    let of = coming-release c source width h e in
+    let here : of.0 ≡ n = same_Some of.0 n (sym of.2 ∙ let_) in
+    apart ((s.block n).pair c).letting acked (sym (ap (λ j. is_releasing ((s.block j).pair c).letting) here) ∙ of.1))
   where
-    go : (beats : List (Beat w)) → unfinished Channel.C (on_link c sys.manager.trace) ≡ beats
-        → comes_in_release source beats ≡ false
-    go (Beat.C x ∷ more) e = by (is_release x.opcode && (x.source == source)) refl
-      where
-        by : (b : Bool) → (is_release x.opcode && (x.source == source)) ≡ b → b ≡ false
-        by false f = refl
-        by true f =
-            let of = half-released c x more width h e (and_left (is_release x.opcode) (x.source == source) f) in
-            let same : source ≡ (s.block of.0).release_source c =
-            sym (eqb-true x.source source (and_right (is_release x.opcode) (x.source == source) f)) ∙ of.2 in
-            let letting = releasing-is _ of.1 in
-            let used = is_of-is of.0 _ (h.invariant.named.releases c ((s.block of.0).release_source c) of.0
-            ∙ rw (letting, same_number ((s.block of.0).release_source c)) refl) in
-            absurd (let no : None ≡ Some of.0 = sym free ∙ ap (s.lets c) same ∙ used in cc)
-    go beats e = refl
+    apart : (x : ReleasePhase) → is_acked x ≡ true → is_releasing x ≡ true → ⊥
+    apart x e f = grind arith

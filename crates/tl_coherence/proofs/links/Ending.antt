@@ -4,6 +4,8 @@ use Rattle.std.proofs.Common.{◌≡◌, ℕ, zero, suc, Bool, true, false, not,
 use Rattle.std.proofs.Common.{Option, Some, None, Ok, refl, sym, ◌∙◌, ap, subst, arith, inl, inr, append_assoc, ne_eqb}
 use Rattle.std.proofs.Common.{reverse}
 use Rattle.tl_coherence.proofs
+use proofs.Imports.{Profile, begins, broken_in_order, channel_of, grown, is_empty}
+use proofs.links.Acknowledged.{AreSunk, IsNew, sunk-said, sunk-heard, sunk-taken}
 use proofs.Imports.{cases_eq, reverse-append, Beat, BeatD, Link, Channel, IsWidth, Message, MessageD, beat_of, beats_of}
 use proofs.Imports.{begun, burst_of, d_beat_of, History, unfinished, completes, Config, beats_from, Finish, Verdict}
 use proofs.Imports.{EndConfig, Endpoint, is_from_client, Deliver, Outcome, Answer, Grant, Kind, Packet, ReleaseAck}
@@ -12,7 +14,8 @@ use proofs.Imports.{block_message, SimulationRelation, is_caching, is_moving, Lo
 use proofs.Imports.{outcome_of, stepped, System, channel_of_message, same_channel, terms_at}
 use Rattle.tl_burst.specs.statement.Messages.{carried_on, on}
 use Rattle.tl_client.specs.statement.Offer as offer
-use proofs.queues.{Beats.reverse-beats_from, Steps.IsOn, Steps.stepped-empty, Tokens.same_number}
+use proofs.queues.{Beats.reverse-beats_from, Steps.IsOn, Steps.on_own_channel, Steps.same_channel-refl}
+use proofs.queues.{Steps.stepped-empty, Tokens.same_number}
 use proofs.queues.{Channels.same_channel-is, FirstToken.IsFirst, FirstToken.first-token}
 use proofs.deliveries.{ManagersAfter.on_message, DeliverDUnmoved.followed-moving}
 use proofs.deliveries.Matching.{not_moving, stepped-nobody}
@@ -204,6 +207,34 @@ sends : {w : ℕ} (m : Message w) (b : Bool) → is_from_client (beat_of m 0) �
     → is_to_client (channel_of_message m) ≡ b
 sends m b e = grind arith
 
+-- a beat of a channel to clients isn't one of theirs
+is_channel : {w : ℕ} (ch : Channel) (x : Beat w) → IsOn ch x → ch ≡ channel_of x
+is_channel ch x on =
+    sym (same_channel-is (channel_of x) ch (sym (on (channel_of x)) ∙ on_own_channel x (channel_of x)
+    ∙ same_channel-refl (channel_of x)))
+
+is_theirs : {w : ℕ} (ch : Channel) (x : Beat w) (b : Bool) → IsOn ch x → is_to_client ch ≡ b
+    → is_from_client x ≡ not b
+is_theirs {w} ch x b own e =
+    let by_channel : (y : Beat w) → is_from_client y ≡ not (is_to_client (channel_of y)) = grind arith in
+    by_channel x ∙ ap (λ i. not (is_to_client i)) (sym (is_channel ch x own)) ∙ ap not e
+
+-- what a history has of a channel's first message is what the beats of the channel have
+carried-rest : {w : ℕ} (ch : Channel) (t : History w) → unfinished ch (carried_on ch t) ≡ unfinished ch t
+unfolding carried_on unfinished
+carried-rest ch [] = refl
+carried-rest {w} ch (x ∷ t) =
+    let go : (b : Bool) → on ch x ≡ b → unfinished ch (carried_on ch t) ≡ unfinished ch t
+    → unfinished ch (if b then x ∷ carried_on ch t else carried_on ch t)
+    ≡ (if b then grown x (unfinished ch t) else unfinished ch t) =
+    elim [ true ↦ λ e same. rw (e, same) refl | false ↦ λ e same. same ] in
+    go (on ch x) refl (carried-rest ch t)
+
+pub begins-alike : {w : ℕ} (ch : Channel) (x : Beat w) (t u : History w) → IsOn ch x → carried_on ch t ≡ carried_on ch u
+    → begins x t ≡ begins x u
+begins-alike ch x t u own same = rw (← is_channel ch x own)
+    (ap is_empty (sym (carried-rest ch t) ∙ ap (unfinished ch) same ∙ carried-rest ch u))
+
 -- ---- the two ends of each link
 
 -- `p` is the history of each client's end, `t` that of the manager's end of each link, `q` what is on each channel,
@@ -213,6 +244,7 @@ pub record ArePassing {w : ℕ} (p t : ℕ → History w) (q : ℕ → Channel �
       → IsInOrder (carried_on at (t d)) (q d at) (carried_on at (p d)) × (carried_on at (p d) ≡ carried_on at (f d))
   pub up : (d : ℕ) (at : Channel) → is_to_client at ≡ false
       → IsInOrder (carried_on at (p d)) (q d at) (carried_on at (t d)) × (carried_on at (t d) ≡ carried_on at (f d))
+  pub sinks : (d : ℕ) → AreSunk (f d) (p d) (q d Channel.E)
 
 -- with a message, or a beat, at one end
 abbrev pub said_at : {w : ℕ} → ℕ → Message w → (ℕ → History w) → ℕ → History w
@@ -250,13 +282,18 @@ unsaid_queue : {w : ℕ} (l : ℕ) (m : Message w) (q : ℕ → Channel → List
 unsaid_queue {w} l m q d at differs = grind arith
 
 pub client-says : {w : ℕ} (l : ℕ) (m : Message w) {p t : ℕ → History w} {q : ℕ → Channel → List (Beat w)} {f : ℕ
-    → History w}
-    → is_from_client (beat_of m 0) ≡ true → ArePassing p t q f → ArePassing (said_at l m p) t (queued_at l m q) f
-client-says l m {p} {t} {q} ours is = record {
+    → History w} → is_from_client (beat_of m 0) ≡ true → (r : Profile)
+    → broken_in_order r (beat_of m 0) (p l) ≡ None → ArePassing p t q f
+    → ArePassing (said_at l m p) t (queued_at l m q) f
+client-says l m {p} {t} {q} {f} ours r legal is = record {
   down = λ d at e.
       let differs = apart at _ true e (sends m false ours) in
       rw (unsaid_queue l m q d at differs, unsaid_history l m p d at differs) (is.down d at e);
   up = λ d at e. (said_here l m p q d at (carried_on at (t d)) (is.up d at e).0, (is.up d at e).1);
+  sinks = λ d. elim (cases_eq d l) [
+    | inl same ↦ rw (same, same_number l) (sunk-said m (q l) ours r legal (is.sinks l))
+    | inr other ↦ rw (ne_eqb d l other, ne_eqb l d (λ e. other (sym e))) (is.sinks d)
+  ];
 }
 
 pub manager-says : {w : ℕ} (l : ℕ) (m : Message w) {p t : ℕ → History w} {q : ℕ → Channel → List (Beat w)} {f : ℕ
@@ -267,6 +304,7 @@ manager-says l m {p} {t} {q} ours is = record {
       let differs = apart at _ false e (sends m true ours) in
       rw (unsaid_queue l m q d at differs, unsaid_history l m t d at differs) (is.up d at e);
   down = λ d at e. (said_here l m t q d at (carried_on at (p d)) (is.down d at e).0, (is.down d at e).1);
+  sinks = λ d. rw (unsaid_queue l m q d Channel.E (apart Channel.E _ false refl (sends m true ours))) (is.sinks d);
 }
 
 -- the taking end hears a beat
@@ -302,13 +340,18 @@ unpopped {w} c ch queue q d at differs = grind arith
 
 pub client-hears : {w : ℕ} (c : ℕ) (ch : Channel) (x : Beat w) (queue : List (Beat w)) {p t : ℕ → History w} {q : ℕ
     → Channel → List (Beat w)} {f : ℕ → History w} → is_to_client ch ≡ true → IsOn ch x → q c ch ≡ x ∷ queue
-    → ArePassing p t q f → ArePassing (heard_at c x p) t (popped_at c ch queue q) (heard_at c x f)
-client-hears c ch x queue {p} {t} {q} {f} theirs on first is = record {
+    → IsNew x (f c) → ArePassing p t q f → ArePassing (heard_at c x p) t (popped_at c ch queue q) (heard_at c x f)
+client-hears c ch x queue {p} {t} {q} {f} theirs on first new is = record {
   down = λ d at e. heard_here c ch x queue p q f d at _ on first (is.down d at e);
   up = λ d at e.
       let differs = apart at ch false e theirs in
       rw (unheard c ch x p d at on differs, unheard c ch x f d at on differs, unpopped c ch queue q d at differs)
       (is.up d at e);
+  sinks = λ d. rw (unpopped c ch queue q d Channel.E (apart Channel.E ch false refl theirs)) (elim (cases_eq d c) [
+    | inl here ↦ rw (here, same_number c) (sunk-heard x (q c Channel.E) (is_theirs ch x true on theirs)
+        (begins-alike ch x (p c) (f c) on (is.down c ch theirs).1) new (is.sinks c))
+    | inr other ↦ rw (ne_eqb c d (λ e. other (sym e))) (is.sinks d)
+  ]);
 }
 
 pub manager-hears : {w : ℕ} (c : ℕ) (ch : Channel) (x : Beat w) (queue : List (Beat w)) {p t : ℕ → History w} {q : ℕ
@@ -320,6 +363,11 @@ manager-hears c ch x queue {p} {t} {q} {f} theirs on first is = record {
       let differs = apart at ch true e theirs in
       rw (unheard c ch x t d at on differs, unheard c ch x f d at on differs, unpopped c ch queue q d at differs)
       (is.down d at e);
+  sinks = λ d. elim (cases_eq d c) [
+    | inl here ↦ rw (here, same_number c, is_channel ch x on) (sunk-taken x (q c) queue (is_theirs ch x false on theirs)
+        (ap (q c) (sym (is_channel ch x on)) ∙ first) (is.sinks c))
+    | inr other ↦ rw (ne_eqb d c other, ne_eqb c d (λ e. other (sym e))) (is.sinks d)
+  ];
 }
 
 -- the same histories and channels

@@ -3,6 +3,10 @@
 use Rattle.std.proofs.Common.{◌≡◌, ℕ, ◌≤◌, Bool, true, false, ◌==◌, if◌then◌else◌, List, [], ◌∷◌, ◌++◌, Option, Some}
 use Rattle.std.proofs.Common.{None, Ok, refl, sym, ◌∙◌, ap, ap₂, subst, arith, inl, inr, length, ◌/◌, ne_eqb, All, map}
 use Rattle.tl_coherence.proofs
+use proofs.Imports.{Profile, channel_of, pending}
+use Rattle.tl_client.{proofs.messages.InOrder.asked-in_order, proofs.messages.InOrder.offered-in_order}
+use Rattle.tl_client.specs.laws.Sound.{IsInOrder}
+use proofs.links.Acknowledged.{new-next}
 use proofs.Imports.{cases_eq, All-head, ⊤, Beat, Link, Channel, IsWidth, Message, beat_of, burst_of, History, Config}
 use proofs.Imports.{Perm, Trace, on_link, Op, Verdict, op_block, EndConfig, Endpoint, held_at, reaction_handable}
 use proofs.Imports.{IsHandable, Each, Handed, with_handed, recorded, is_from_client, Event, Ask, Deliver, Outcome}
@@ -24,7 +28,7 @@ use Rattle.tl_manager.specs.statement.Reaction as manager_reaction
 use Rattle.tl_manager.specs.statement.Offer as manager_offer
 use proofs.links.{HeadsOfLinks.first-of, Granting.granted-holds, Granting.exact}
 use proofs.links.Ending.{ArePassing, heard_at, queued_at, client-says, manager-says, client-hears, manager-hears}
-use proofs.links.Ending.{passing-same}
+use proofs.links.Ending.{passing-same, begins-alike}
 use proofs.deliveries.DeliverDUnmoved.{unmoved}
 use proofs.deliveries.Matching.{shadow, matched, not_moving, stepped-nobody}
 use proofs.queues.{Steps.IsOn, Steps.on_own_channel, Steps.clients-with_messages, Steps.manager-with_messages}
@@ -52,21 +56,21 @@ IsOurs (Some m) = is_from_client (beat_of m 0) ≡ true
 
 -- the client's end is then with all beats of it
 says-passing : {w : ℕ} (c : ℕ) (m : Option (Message w)) (e : Endpoint w) (t : History w) (sys : System w) {p : ℕ
-    → History w} {f : ℕ → History w} → IsOurs m
+    → History w} {f : ℕ → History w} → IsOurs m → (r : Profile) → IsInOrder r m (p c)
     → e.past ≡ sent_if_any m (p c) → ((d : ℕ) → (d ≡ c → ⊥) → p d ≡ (sys.clients d).past)
     → ArePassing p (λ d. on_link d sys.manager.trace) sys.channels f
     → IsPassing (with_messages (handed_by c m) (with_client c e sys)) f
 unfolding with_messages
-says-passing c None e t sys {f} ours past others is = passing-same (λ d. ((with_client c e sys).clients d).past)
+says-passing c None e t sys {f} ours r legal past others is = passing-same (λ d. ((with_client c e sys).clients d).past)
     (λ d. on_link d sys.manager.trace) sys.channels f (λ d. elim (cases_eq d c) [
       | inl same ↦ rw (same, same_number c) past
       | inr other ↦ rw (ne_eqb d c other) (sym (others d other))
     ]) (λ d. refl) (λ d at. refl) (λ d. refl) is
-says-passing c (Some m) e t sys {f} ours past others is = passing-same (λ d. ((with_client c e sys).clients d).past)
+says-passing c (Some m) e t sys {f} ours r legal past others is = passing-same (λ d. ((with_client c e sys).clients d).past)
     (λ d. on_link d sys.manager.trace) (queued_at c m sys.channels) f (λ d. elim (cases_eq d c) [
       | inl same ↦ rw (same, same_number c) past
       | inr other ↦ rw (ne_eqb d c other, ne_eqb c d (λ i. other (sym i))) (sym (others d other))
-    ]) (λ d. refl) (λ d at. refl) (λ d. refl) (client-says c m ours is)
+    ]) (λ d. refl) (λ d at. refl) (λ d. refl) (client-says c m ours r legal is)
 
 -- ---- the manager hands out messages
 
@@ -135,7 +139,8 @@ asked-passing {w} {config} {log} c o matched typed is = go (terms_at config c) r
         let x = ask.asked terms o (sys.clients c) in
         subst (λ i. IsPassing i.after f) (sym (stepped-asked config c o sys terms known))
         (says-passing c x.message x.after (sys.clients c).past sys (ours x.message (fit-asked terms o
-        (sys.clients c) typed (copy-long matched c))) (past-asked terms o (sys.clients c)) (λ d other. refl) is)
+        (sys.clients c) typed (copy-long matched c))) terms.profile (asked-in_order terms o (sys.clients c)
+        (matched.kept c)) (past-asked terms o (sys.clients c)) (λ d other. refl) is)
       where
         ours : (m : Option (Message w)) → IsFitIfAny terms.blocks m → IsOurs m
         ours None fit = tt
@@ -162,9 +167,11 @@ moved-passing {w} config log link ch terms x queue width typed logged known beat
     h : SimulationRelation config log (shadow config log).mail (shadow config log).request (shadow config log).state sys
     h = matched config log width typed logged
 
+    is_ch : channel_of x ≡ ch
+    is_ch = (first-of config log (shadow config log) c terms ch x queue width h known beats).on
+
     on_ch : IsOn ch x
-    on_ch = rw (← (first-of config log (shadow config log) c terms ch x queue width h known beats).on)
-        (on_own_channel x)
+    on_ch = rw (← is_ch) (on_own_channel x)
 
     head : manager.IsSound config (record { 0 = c }, x)
     head = All-head (λ y. manager.IsSound config (record { 0 = c }, y)) x queue (same beats (h.sound c ch))
@@ -190,15 +197,27 @@ moved-passing {w} config log link ch terms x queue width typed logged known beat
                 → IsPassing (with_messages (handed_by c m) (with_client c (offer.taken x (sys.clients c)).after
                 (with_channel c ch queue sys))) (λ d. flow d ((Deliver link ch, outcome_of x v) ∷ log))
             took v m answer moves =
+                let new = new-next (shadow config log) c x queue width h (ap (sys.channels c) is_ch ∙ beats)
+                (begins-alike ch x _ (flow c log) on_ch (is.down c ch up).1) (is.sinks c) in
                 let handed_is : (v : Verdict) (m : Option (Message w)) → is_moving (outcome_of x v) ≡ true
                 → sent_if_any (client_after.handed (Ok (v, m))) (x ∷ (sys.clients c).past) ≡ sent_if_any m
                 (x ∷ (sys.clients c).past) = elim [ Verdict.Stalled ↦ λ m e. absurd cc | v ↦ λ m e. refl ] in
                 passing-same _ _ _ _ (λ d. refl) (λ d. refl) (λ d at. refl) (λ d. flow_moved link ch _ x log
                 d (taken_at link ch x v d moves)) (says-passing c m (offer.taken x (sys.clients c)).after
-                (sys.clients c).past (with_channel c ch queue sys) (ours v m answer)
+                (sys.clients c).past (with_channel c ch queue sys) (ours v m answer) terms.profile
+                (rw (same_number c) (in_order v m answer moves))
                 (cc (t.takes, past-offered terms ch x (sys.clients c), t.heard, handed_is v m moves, same_number c))
-                (λ d other. rw (ne_eqb c d (λ i. other (sym i))) refl) (client-hears c ch x queue up on_ch beats is))
+                (λ d other. rw (ne_eqb c d (λ i. other (sym i))) refl) (client-hears c ch x queue up on_ch beats new is))
               where
+                legal : IsInOrder terms.profile (client_after.handed (offer.taken x (sys.clients c)).answer)
+                    (x ∷ (sys.clients c).past)
+                legal = rw (← t.takes, ← t.heard) (offered-in_order terms ch x _ (h.kept c) (h.accounted c))
+
+                in_order : (v : Verdict) (m : Option (Message w)) → (offer.taken x (sys.clients c)).answer ≡ Ok (v, m)
+                    → is_moving (outcome_of x v) ≡ true → IsInOrder terms.profile m (x ∷ (sys.clients c).past)
+                in_order Verdict.Stalled m e f = absurd cc
+                in_order v m e f = rw e at legal
+
                 ours : (v : Verdict) (m : Option (Message w)) → (offer.taken x (sys.clients c)).answer ≡ Ok (v, m)
                     → IsOurs m
                 ours v None e = tt
@@ -225,8 +244,12 @@ moved-passing {w} config log link ch terms x queue width typed logged known beat
 -- ---- after every log
 
 first-passing : (w : ℕ) → IsPassing {w = w} fresh (λ d. flow d [])
-unfolding carried_on on_link flow
-first-passing w = record { down = λ d at e. (refl, refl); up = λ d at e. (refl, refl) }
+unfolding carried_on on_link flow pending
+first-passing w = record {
+  down = λ d at e. (refl, refl);
+  up = λ d at e. (refl, refl);
+  sinks = λ d. record { sinks = λ i. refl };
+}
 
 passing-event : {w : ℕ} (config : Config) (log : Log w) (event : Event w) → IsWidth w → AreTyped log → IsLog config log
     → IsTyped event → IsPassing (system_after config log) (λ d. flow d log)

@@ -1,25 +1,27 @@
 -- A beat of channel A that is delivered breaks no rule: it is taken, unless it has to wait.
 use Rattle.std.proofs.Common.{◌≡◌, ℕ, zero, suc, Bool, true, false, ◌&&◌, ◌==◌, List, [], ◌∷◌, Option, Some, None, refl}
-use Rattle.std.proofs.Common.{sym, ◌∙◌, ap, arith, eqb-true, All, map, is_some}
+use Rattle.std.proofs.Common.{sym, ◌∙◌, ap, arith, eqb-true, All, is_some}
 use Rattle.tl_coherence.proofs
 use proofs.Imports.{Beat, BeatA, Link, Channel, OpB, first_if, Message, MessageA, a_beat_of, begun, History, unfinished}
 use proofs.Imports.{Config, Key, Level, Grow, Prune, Report, Perm, Profile, H4, H5, grow_code, report_left, later-legal}
 use proofs.Imports.{is_outside, is_spoiled, Trace, broken_in_order, grows_from, same_perm, broken_order, on_link}
 use proofs.Imports.{is_acquire, held, pending, is_one_of, illegal, same_block, acquisition, probe_ack, release}
-use proofs.Imports.{judged-passes, tracker_among, IsSound, comes_of, one_if, End, Passes, before_stall, level_of}
+use proofs.Imports.{judged-passes, tracker_among, IsSound, comes_of, End, Passes, before_stall, level_of}
 use proofs.Imports.{must_wait, offered_as, open_level, reaction, is_in_service, service_of_block, trackers_of}
 use proofs.Imports.{least_untaken, services, IsInvariant, is_busy, tracks_with, Kind, Packet, ProbeAck, Release, is}
-use proofs.Imports.{count, AcquireOpen, ClientBlock, Idle, Own, ReleasePhase, View, grow_fits, is_unprobed}
+use proofs.Imports.{AcquireOpen, ClientBlock, Idle, Own, ReleasePhase, View, grow_fits, is_unprobed}
 use proofs.Imports.{is_unreleased, ok, Asked, Free, GrantSent, GrantTaken, Service, State, Waits, packet, view}
-use proofs.Imports.{is_releasing, is_unserved, acquire_opcode, IsCarried, ManagerRelation, client_in, is_own}
-use proofs.Imports.{service_with, AccessMessages, message_of, prune_told, report_told, block_message, AreLanes}
+use proofs.Imports.{is_releasing, is_unserved, acquire_opcode, ManagerRelation, client_in, is_own}
+use proofs.Imports.{service_with, AccessMessages, prune_told, report_told, block_message, AreLanes}
 use proofs.Imports.{SimulationRelation, is_served, Log, System}
 use Rattle.tl_manager.{proofs.messages.Sound.leveled, proofs.words_of_clients.Free.least_free-is_free}
 use Rattle.tl_manager.{specs.code.Kept.IsTyped}
 use Rattle.tl_manager.specs.statement.Offer.{judged, offered, taken, judged_at}
 use Rattle.tl_manager.specs.statement.Offer as manager
+use proofs.client.HalfTaken.{half-taken}
+use proofs.Imports.{is_on, message_of_kind}
 use proofs.manager.{Probing.link_of, ManagerTakes.acquire-legal}
-use proofs.queues.{Phases.and_left, Phases.and_right, Channels.same_kind_again, Tokens.same_number, Codes.acquires-so}
+use proofs.queues.{Phases.and_left, Phases.and_right, Tokens.same_number, Codes.acquires-so}
 use proofs.queues.Facts.{acquire_fits, asked_alone}
 use proofs.protocol.{Room.IsWanted, BothParts.first-shown}
 
@@ -35,41 +37,23 @@ release_comes : (w : ℕ) (r : Prune) (source i n k : ℕ) (payload : List ℕ) 
     → comes_of n (begun (release {w = w} r source i payload) k) ≡ false
 release_comes w r source i n k payload e = grind (arith, same_block)
 
--- the first token of a list stands there
-pub first_counts : (x : Packet) (xs : List Packet) → count x.kind x.number (x ∷ xs) ≡ 0 → ⊥
-unfolding count
-first_counts x xs none = let one : one_if (is x.kind x.number x) ≡ 1 =
-    rw (same_kind_again x.kind, same_number x.number) refl in absurd (omega (arith, none, one))
-
 release-comes : {w : ℕ} {config : Config} {log : Log w} {mail : AccessMessages w} {request : ℕ → MessageA w}
     {s : State (List ℕ)} {sys : System w} (c n : ℕ)
     → SimulationRelation config log mail request s sys → is_releasing ((s.block n).pair c).letting ≡ false
     → comes_of n (unfinished Channel.C (on_link c sys.manager.trace)) ≡ false
 unfolding block_message
-release-comes {w} {mail} {s} {sys} c n is kept = go (s.link c).c refl
+release-comes {w} {mail} {s} c n is kept = half-taken c Channel.C (λ beats. comes_of n beats ≡ false) is refl each
   where
-    t : List (Beat w)
-    t = unfinished Channel.C (on_link c sys.manager.trace)
-
-    carried : (xs : List Packet) → (s.link c).c ≡ xs
-        → IsCarried t (map (message_of mail s c) xs) (sys.channels c Channel.C)
-    carried xs e = rw e at (is.carried c Channel.C)
-
-    kinds : (k : Kind) (x : Packet) (xs : List Packet) → (s.link c).c ≡ x ∷ xs → x.kind ≡ k → (i : ℕ)
-        → comes_of n (begun (message_of mail s c x) i) ≡ false
-    kinds ProbeAck x xs e f i = rw f (ack_comes w (report_left (report_told ((s.block x.number).pair c).probing))
-        (report_told ((s.block x.number).pair c).probing) x.number n i (s.block x.number).truth)
-    kinds Release x xs e f i = rw f (release_comes w (prune_told ((s.block x.number).pair c).letting)
-        ((s.block x.number).release_source c) x.number n i (s.block x.number).truth (λ same.
-        let shows = first-shown is.invariant c Release refl (e ∙ ap (λ k. packet k x.number ∷ xs) f) in
+    each : (k : Kind) (m : ℕ) (rest : List Packet) (i : ℕ) → (s.link c).c ≡ packet k m ∷ rest
+        → is_on Channel.C k ≡ true → comes_of n (begun (message_of_kind k mail s c m) i) ≡ false
+    each ProbeAck m rest i first own = ack_comes w (report_left (report_told ((s.block m).pair c).probing))
+        (report_told ((s.block m).pair c).probing) m n i (s.block m).truth
+    each Release m rest i first own = release_comes w (prune_told ((s.block m).pair c).letting)
+        ((s.block m).release_source c) m n i (s.block m).truth (λ same.
+        let shows = first-shown is.invariant c Release refl first in
         let no : true ≡ false = sym shows ∙ ap (λ j. is_releasing ((s.block j).pair c).letting) same ∙ kept in
-        cc))
-    kinds k x xs e f i =
-        absurd (first_counts x xs (rw e at (is.invariant.own_kinds c Channel.C x.kind x.number (rw f refl))))
-
-    go : (xs : List Packet) → (s.link c).c ≡ xs → comes_of n t ≡ false
-    go [] e = rw (carried [] e).0 refl
-    go (x ∷ xs) e = let h = carried _ e in rw h.2 (kinds x.kind x xs e refl h.0)
+        cc)
+    each k m rest i first own = absurd cc
 
 -- ---- the order of messages
 

@@ -5,7 +5,7 @@
 use Rattle.std.proofs.Common.{◌≡◌, ℕ, suc, ◌*◌, Bool, true, false, ◌&&◌, ◌==◌, if◌then◌else◌, List, [], ◌∷◌, Option}
 use Rattle.std.proofs.Common.{Some, None, Result, Ok, refl, sym, ◌∙◌, ap, ap₂, subst, arith, inl, inr, length, eqb-true}
 use Rattle.tl_coherence.proofs
-use proofs.Imports.{cases_eq, true_from_ne_false, Beat, Link, Channel, Message, MessageA, a_beat_of, beats_of}
+use proofs.Imports.{cases_eq, Beat, Link, Channel, Message, MessageA, a_beat_of, beats_of}
 use proofs.Imports.{unfinished, Config, Cap, Grow, Perm, Rule, cap_right, Trace, same_perm, Memory, bytes_from}
 use proofs.Imports.{block_at, same_block, Op, Reply, Verdict, copy_stored, whole_grow, offered, access}
 use proofs.Imports.{performed-access, performed-acquire, End, cap_granted, cap_probed, recorded, level_of, reaction}
@@ -25,7 +25,9 @@ use Rattle.tl_manager.specs.statement.Holders as holders
 use Rattle.tl_manager.specs.statement.Service as manager
 use Rattle.tl_client.specs.statement.Ask as client_ask
 use Rattle.tl_client.specs.statement.Endpoint as client
-use proofs.manager.{Memories.performed-reply, Memories.IsManagerOf, Admitted.first_counts}
+use proofs.queues.FirstToken.{own_kind}
+use proofs.Imports.{is_caching}
+use proofs.manager.{Memories.performed-reply, Memories.IsManagerOf}
 use proofs.manager.RequestsTaken.{acquire_wanted, next_tracker, reaction-performed, unheld-same}
 use proofs.manager.Probing.{recorded-beat, link_of, with_beat, IsComing, service_for}
 use proofs.manager.Accounts.{waits-used, at_manager-matched, IsAtManager, at_manager-same}
@@ -253,8 +255,8 @@ manager-to-client {w} config link ch sys terms there up = go (sys.channels link.
         ∙ manager-judged o.answer link.0 ch x rest o.after sys
 
 -- the kinds of a channel to clients
-to_clients : (ch : Channel) (k : Kind) → is_to_client ch ≡ true → (is_on ch k ≡ false → ⊥) → is_to_clients k ≡ true
-to_clients ch k up on_it = ap is_to_client (kind_channel ch k (true_from_ne_false (is_on ch k) on_it)) ∙ up
+to_clients : (ch : Channel) (k : Kind) → is_to_client ch ≡ true → is_on ch k ≡ true → is_to_clients k ≡ true
+to_clients ch k up own = ap is_to_client (kind_channel ch k own) ∙ up
 
 -- where the invariant is kept, so is what is kept of the manager's end
 pub at_manager-to_client : {w : ℕ} {config : Config} {log : Log w} (h : AbstractState w) {sys : System w} (link : Link)
@@ -280,10 +282,9 @@ at_manager-to_client {config} h {sys} link ch terms is there up =
         → IsManagerOf config (packet_taken config (next_tracker sys) c xs h) sys.manager
     taken [] e = known
     taken (y ∷ ys) e =
-        let here : is_on ch y.kind ≡ false → ⊥ =
-        λ off. first_counts y ys (rw e at (is.invariant.own_kinds c ch y.kind y.number off)) in
-        at_manager-client_taken config (next_tracker sys) c y.kind y.number ys h _ (to_clients ch y.kind up here)
-        is.invariant (on_same ch y.kind (h.state.link c) (true_from_ne_false (is_on ch y.kind) here) ∙ e) known
+        let own = own_kind (is_caching config) h.state c ch y.kind y.number ys is.invariant e in
+        at_manager-client_taken config (next_tracker sys) c y.kind y.number ys h _ (to_clients ch y.kind up own)
+        is.invariant (on_same ch y.kind (h.state.link c) own ∙ e) known
 
 -- ---- an access that is answered
 

@@ -138,7 +138,6 @@ fresh-flowed {w} c = record {
   released = λ source n some more. absurd cc;
   sizes = λ source n some more. absurd cc;
   releases = λ n. refl;
-  sinks = λ sink. refl;
   grants = λ n. refl;
   probes = λ n. refl;
   probed = λ n some. absurd cc;

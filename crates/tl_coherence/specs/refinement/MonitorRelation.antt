@@ -6,9 +6,9 @@ use Rattle.tl_beat.specs.declared.beat.BeatA.{BeatA}
 use Rattle.tl_beat.specs.declared.channel.Channel.{Channel}
 use Rattle.tl_beat.specs.declared.channel.Channel.TheVariants as channel
 use Rattle.tl_burst.specs.statement.Messages.{History, unfinished}
-use Rattle.tl_params.specs.declared.key.Key.TheVariants.{RequestSource, ReleaseSource, AcquireOf, ReleaseOf, GrantSink}
+use Rattle.tl_params.specs.declared.key.Key.TheVariants.{RequestSource, ReleaseSource, AcquireOf, ReleaseOf}
 use Rattle.tl_params.specs.declared.key.Key.TheVariants.{GrantAckOf, ProbeOf}
-use Rattle.tl_rules.specs.statement.Conformance.{comes_in_request, comes_in_release, comes_in_grant}
+use Rattle.tl_rules.specs.statement.Conformance.{comes_in_request, comes_in_release}
 use Rattle.tl_rules.specs.statement.History.{held, pending, block_at, request_of, release_of, probe_of, grant_sink}
 use Rattle.tl_coherence.specs.protocol.Phase.{ReleasePhase, NoRelease, ReleaseSent, ReleaseAcked}
 use Rattle.tl_coherence.specs.protocol.Protocol.{State, SourceState, SourceFree, Asked, InService, Replied, Acquires}
@@ -37,13 +37,6 @@ abbrev pub is_let_by : {w : ℕ} {X : Type 0} → ℕ → ℕ → List (Beat w) 
 is_let_by c source rest None s = false
 is_let_by c source rest (Some n) s = is_release_pending source rest ((s.block n).pair c).letting
 
--- some of the Grant with this sink was delivered, where `rest` is that of channel D, and its GrantAck wasn't
-abbrev pub is_sunk : {w : ℕ} {X : Type 0} → ℕ → ℕ → List (Beat w) → Option ℕ → State X → Bool
-is_sunk c sink rest None s = false
-is_sunk c sink rest (Some n) s =
-    is_acknowledging (view (s.block n).service c) || (is_granting (view (s.block n).service c) && comes_in_grant sink
-    rest)
-
 -- The flow of client c's link: `asked` is the first beat of the open request of each source, and `rest` what of each
 -- channel's first message was delivered.
 pub record MonitorRelation {w : ℕ} {X : Type 0} (asked : ℕ → Option (BeatA w)) (rest : Channel → List (Beat w)) (c : ℕ)
@@ -64,7 +57,6 @@ pub record MonitorRelation {w : ℕ} {X : Type 0} (asked : ℕ → Option (BeatA
       → option_map (λ x. x.size) (release_of source t) ≡ Some 6
   pub releases : (n : ℕ) → pending (ReleaseOf n) t ≡ is_release_pending ((s.block n).release_source c) (rest channel.C)
       ((s.block n).pair c).letting
-  pub sinks : (sink : ℕ) → pending (GrantSink sink) t ≡ is_sunk c sink (rest channel.D) (s.tracked sink) s
   pub grants : (n : ℕ) → pending (GrantAckOf n) t ≡ (is_acknowledging (view (s.block n).service c) || comes_granting n
       asked (rest channel.D))
   pub probes : (n : ℕ) → pending (ProbeOf n) t ≡ is_answered ((s.block n).pair c).probing

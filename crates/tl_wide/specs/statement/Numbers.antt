@@ -1,6 +1,6 @@
 -- The state of a table of numbers.
 use Rattle.std.specs.Prelude.{ℕ, ◌≡◌, ◌==◌, ◌&&◌, Bool, true, false}
-use Rattle.std.specs.Prelude.{if◌then◌else◌, List, length, Option, Some, None, Result, Ok, Err, nat_lt}
+use Rattle.std.specs.Prelude.{if◌then◌else◌, List, length, Option, Some, None, Result, Ok, Err, nat_lt, slice_index_or}
 use Rattle.std.specs.BTreeMap.{is_at}
 use Rattle.std.specs.Map.{lookup}
 use Rattle.std.specs.Ordering.{nat_cmp}
@@ -20,11 +20,15 @@ found_in numbers k = if numbers.has_zero && (k == 0) then Some 0 else place_foun
 abbrev pub place_among : List ℕ → ℕ → Option ℕ
 place_among names k = if is_one_of k names then Some (place_in names k) else None
 
+-- the name that stands in a slot, and its number
+abbrev pub slot_in : Numbers → ℕ → Option (ℕ × ℕ)
+slot_in numbers i = slice_index_or numbers.recent.items i None
+
 -- the table has the numbers of these names, which are in the order of their first appearance
 pub record KnowsNumbers (numbers : Numbers) (names : List ℕ) : Type 0 where
   pub count_is : numbers.count ≡ length names
   pub places_are : (k : ℕ) → found_in numbers k ≡ place_among names k
-  pub recent_is : (k place : ℕ) → numbers.recent ≡ Some (k, place) → place_among names k ≡ Some place
+  pub recent_is : (i k place : ℕ) → slot_in numbers i ≡ Some (k, place) → place_among names k ≡ Some place
 
 -- more names than the limit, with this one among them
 abbrev pub is_past : ℕ → List ℕ → ℕ → Bool

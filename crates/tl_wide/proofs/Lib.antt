@@ -1,3 +1,4 @@
+pub mod Asking
 pub mod AtPlaces
 pub mod Cut
 pub mod Digits
@@ -5,6 +6,7 @@ pub mod Faults
 pub mod LineAt
 pub mod LongNumbers
 pub mod Made
+pub mod Names
 pub mod Naming
 pub mod Reached
 pub mod Numbering

@@ -10,6 +10,7 @@ pub mod Names
 pub mod Naming
 pub mod Reached
 pub mod Numbering
+pub mod OnePart
 pub mod Placed
 pub mod ReadLines
 pub mod SpelledLines

@@ -14,5 +14,6 @@ pub mod OnePart
 pub mod Placed
 pub mod ReadLines
 pub mod SpelledLines
+pub mod Trees
 pub mod WellSpelled
 mod Worked

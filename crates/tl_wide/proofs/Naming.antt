@@ -9,7 +9,7 @@ use Rattle.std.proofs.lemmas.List.{get_or-set_other, get_or-set_same, set_past}
 use Rattle.std.proofs.lemmas.Bool.{cases_eq, cases_lt, eq-eqb, eqb-true, le-ltb, lt-ltb}
 use Rattle.std.proofs.lemmas.List.{length-append}
 use Rattle.tl_rules.specs.statement.Legality.{is_one_of}
-use Rattle.tl_wide.specs.statement.Numbers.{KnowsNumbers, found_in, is_past, place_among, place_found, slot_in}
+use Rattle.tl_wide.specs.statement.Numbers.{KnowsNumbers, found_in, is_past, place_among, place_under, slot_in}
 use Rattle.tl_wide.specs.declared.numbers.Numbers.{Numbers}
 use Rattle.tl_wide.specs.statement.Naming.{place_in, with_number}
 
@@ -98,12 +98,12 @@ filled-more old before after at name place more is i = elim (filled before after
 ]
 
 -- of names of which 0 is the first
-pub zero-known : (numbers : Numbers) → numbers.places.entries ≡ [] → numbers.count ≡ 1 → numbers.has_zero ≡ true
+pub zero-known : (numbers : Numbers) → ((k : ℕ) → place_under numbers.places k ≡ None) → numbers.count ≡ 1 → numbers.has_zero ≡ true
     → numbers.recent.items ≡ [] → KnowsNumbers numbers (0 ∷ [])
 unfolding place_in
 zero-known numbers empty one zero_is none = record {
   count_is = one;
-  places_are = λ k. rw (empty, zero_is) (go (k == 0));
+  places_are = λ k. rw (empty k, zero_is) (go (k == 0));
   recent_is = λ i k place is. no-slot numbers i k place none is;
 }
   where
@@ -136,28 +136,28 @@ found-none o names name is none = go (is_one_of name names) refl (sym none ∙ i
 
 -- what is found once one name more has a number
 found-more : (old new : Numbers) (name : ℕ) → found_in old name ≡ None → new.has_zero ≡ old.has_zero
-    → ((k : ℕ) → place_found new.places.entries k
-    ≡ (if k == name then Some old.count else place_found old.places.entries k))
+    → ((k : ℕ) → place_under new.places k
+    ≡ (if k == name then Some old.count else place_under old.places k))
     → (k : ℕ) → found_in new k ≡ (if k == name then Some old.count else found_in old k)
 found-more old new name none same changed k = rw same (go (old.has_zero && (k == 0)) refl (k == name) refl)
   where
     go : (zero_is : Bool) → (old.has_zero && (k == 0)) ≡ zero_is → (own : Bool) → (k == name) ≡ own
-        → (if zero_is then Some 0 else place_found new.places.entries k)
-        ≡ (if own then Some old.count else (if zero_is then Some 0 else place_found old.places.entries k))
+        → (if zero_is then Some 0 else place_under new.places k)
+        ≡ (if own then Some old.count else (if zero_is then Some 0 else place_under old.places k))
     go true e true f =
         let is : k ≡ name = eqb-true k name f in
         let some : found_in old k ≡ Some 0 = rw e refl in
         let gone : found_in old k ≡ None = rw is none in
         absurd cc
     go true e false f = refl
-    go false e own f = changed k ∙ ap (λ b. if b then Some old.count else place_found old.places.entries k) f
+    go false e own f = changed k ∙ ap (λ b. if b then Some old.count else place_under old.places k) f
 
 -- one more, which was asked for last
 pub one-known : (old new : Numbers) (names : List ℕ) (name : ℕ) → KnowsNumbers old names → is_one_of name names ≡ false
     → found_in old name ≡ None → new.has_zero ≡ old.has_zero → new.count ≡ old.count + 1
     → IsFilled old new name old.count
-    → ((k : ℕ) → place_found new.places.entries k
-    ≡ (if k == name then Some old.count else place_found old.places.entries k))
+    → ((k : ℕ) → place_under new.places k
+    ≡ (if k == name then Some old.count else place_under old.places k))
     → KnowsNumbers new (names ++ name ∷ [])
 one-known old new names name knows fresh none same counted recent changed = record {
   count_is = omega (arith, counted, knows.count_is, length-append names (name ∷ []));
@@ -199,7 +199,7 @@ recent-known old new names name place knows found same counted zero_is recent = 
 
 -- what is found is as it was
 pub still-known : (old new : Numbers) (names : List ℕ) → KnowsNumbers old names
-    → ((k : ℕ) → place_found new.places.entries k ≡ place_found old.places.entries k) → new.has_zero ≡ old.has_zero
+    → ((k : ℕ) → place_under new.places k ≡ place_under old.places k) → new.has_zero ≡ old.has_zero
     → new.count ≡ old.count → ((i : ℕ) → slot_in new i ≡ slot_in old i) → KnowsNumbers new names
 still-known old new names knows same zero_is counted recent = record {
   count_is = counted ∙ knows.count_is;
@@ -211,7 +211,7 @@ still-known old new names knows same zero_is counted recent = record {
 pub without-newest : (old new : Numbers) (names : List ℕ) (name : ℕ) → KnowsNumbers old (names ++ name ∷ [])
     → is_one_of name names ≡ false → (old.has_zero && (name == 0)) ≡ false → new.has_zero ≡ old.has_zero
     → new.count ≡ length names → new.recent.items ≡ []
-    → ((k : ℕ) → place_found new.places.entries k ≡ (if k == name then None else place_found old.places.entries k))
+    → ((k : ℕ) → place_under new.places k ≡ (if k == name then None else place_under old.places k))
     → KnowsNumbers new names
 without-newest old new names name knows fresh no_zero zero_is counted none changed = record {
   count_is = counted;
@@ -220,7 +220,7 @@ without-newest old new names name knows fresh no_zero zero_is counted none chang
 }
   where
     go : (k : ℕ) (own : Bool) → (k == name) ≡ own
-        → (if old.has_zero && (k == 0) then Some 0 else place_found new.places.entries k) ≡ place_among names k
+        → (if old.has_zero && (k == 0) then Some 0 else place_under new.places k) ≡ place_among names k
     go k true e =
         let is : k ≡ name = eqb-true k name e in
         rw (is, no_zero, changed name, eq-eqb name name refl, fresh) refl

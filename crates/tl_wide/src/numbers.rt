@@ -1,34 +1,14 @@
 //! Numbers of names, by their first appearance.
 
 ghost use Rattle.std.specs.Prelude.{ℕ, List, Option, [], ◌∷◌, ◌++◌, ◌≡◌, ◌≤◌, ◌==◌, ◌&&◌};
-ghost use Rattle.std.specs.Prelude.{false, if◌then◌else◌, length, slice_index_or, slice_set, Some, None, IfSome, OnOk, OnErr, ◌%◌};
-ghost use Rattle.tl_wide.specs.statement.Numbers.{IsNumbered, KnowsNumbers, found_in, place_found};
+ghost use Rattle.std.specs.Prelude.{false, if◌then◌else◌, length, slice_index_or, slice_set, Some, None, IfSome, ◌%◌};
+ghost use Rattle.tl_wide.specs.statement.Numbers.{IsNumbered, KnowsNumbers, found_in};
 ghost use Rattle.tl_wide.specs.code.Numbers.{AreNumbered};
 ghost use Rattle.tl_rules.specs.statement.Legality.{is_one_of};
 ghost use Rattle.tl_wide.specs.statement.Naming.{place_in};
 
+use crate::places::Places;
 use std::alloc::{AllocError, Global};
-use std::collections::BTreeMap;
-
-/// Keeps the number of a name. The error means that there is no memory left; then no number changes.
-fn insert_place(places: &mut BTreeMap<u64, u32>, name: u64, place: u32) -> Result<(), AllocError>
-    ensures same { OnErr result ((k : ℕ) → place_found places.new.entries k ≡ place_found places.old.entries k) }
-    ensures more { OnOk result ((k : ℕ) → place_found places.new.entries k
-        ≡ (if k == name then Some place else place_found places.old.entries k)) }
-{
-    match places.insert(name, place) {
-        Ok(_) => Ok(()),
-        Err(_) => Err(AllocError),
-    }
-}
-
-/// Forgets the number of a name.
-fn remove_place(places: &mut BTreeMap<u64, u32>, name: u64)
-    ensures { (k : ℕ) → place_found places.new.entries k
-        ≡ (if k == name then None else place_found places.old.entries k) }
-{
-    let _ = places.remove(&name);
-}
 
 /// The number of slots for names that were asked for of late.
 const SLOTS: usize = 256;
@@ -65,31 +45,31 @@ fn fill_slot(slots: &mut Vec<Option<(u64, u32)>>, name: u64, place: u32)
 /// beside the table, by their low bits, since later beats often have them too.
 #[derive(Drop)]
 pub struct Numbers {
-    places: BTreeMap<u64, u32>,
+    places: Places,
     count: u32,
     has_zero: bool,
     recent: Vec<Option<(u64, u32)>>,
 }
 
 impl Numbers {
-    /// A table without names.
+    /// A table without names, for many of them.
     pub fn new(alloc: Global) -> Self
         ensures { KnowsNumbers result [] }
     {
         Numbers {
-            places: BTreeMap::new(alloc),
+            places: Places::new(alloc, 1023),
             count: 0,
             has_zero: false,
             recent: Vec::new(alloc),
         }
     }
 
-    /// A table whose first name is 0.
+    /// A table whose first name is 0, for few names.
     pub fn from_zero(alloc: Global) -> Self
         ensures { KnowsNumbers result (0 ∷ []) }
     {
         Numbers {
-            places: BTreeMap::new(alloc),
+            places: Places::new(alloc, 0),
             count: 1,
             has_zero: true,
             recent: Vec::new(alloc),
@@ -114,10 +94,7 @@ impl Numbers {
         if self.has_zero && name == 0 {
             return Some(0);
         }
-        match self.places.get(&name) {
-            None => None,
-            Some(place) => Some(*place),
-        }
+        self.places.get(name)
     }
 
     /// The number of a name that doesn't stand in its slot, if it has one.
@@ -158,7 +135,7 @@ impl Numbers {
         }
         make_slots(&mut self.recent)?;
         let place = self.count;
-        insert_place(&mut self.places, name, place)?;
+        self.places.insert(name, place)?;
         self.count = place.wrapping_add(1);
         fill_slot(&mut self.recent, name, place);
         Ok(Some(place))
@@ -169,7 +146,7 @@ impl Numbers {
         ensures { (names : List ℕ) → KnowsNumbers self.old (names ++ name ∷ []) → is_one_of name names ≡ false →
             (self.old.has_zero && (name == 0)) ≡ false → number ≡ length names → KnowsNumbers self.new names }
     {
-        remove_place(&mut self.places, name);
+        self.places.remove(name);
         self.count = number;
         self.recent.clear();
     }

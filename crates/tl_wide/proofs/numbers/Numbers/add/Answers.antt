@@ -26,5 +26,5 @@ returns-clause-numbered c = λ names knows none le.
       rw fresh (one-known c.args.self.now _ names c.args.name knows fresh none refl (mod-eq_of_lt fits)
           (filled-more c.args.self.now.recent.items c.make_slots.new.slots.items c.fill_slot.new.slots.items
           (c.args.name % 256) c.args.name c.args.self.now.count c.in_ok-make_slots.ensures c.fill_slot.ensures)
-          c.in_ok-insert_place.ensures.more),
+          c.in_ok-insert.ensures.more),
     )

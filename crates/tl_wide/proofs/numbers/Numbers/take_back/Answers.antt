@@ -5,4 +5,4 @@ use Rattle.tl_wide.proofs.numbers.Numbers.take_back.Goals as goal
 pub returns : goal.returns
 returns c = λ names knows fresh no_zero is.
     without-newest c.args.self.now _ names c.args.name knows fresh no_zero refl is (search rules)
-    c.remove_place.ensures
+    c.remove.ensures

@@ -1,12 +1,11 @@
 -- The names of a trace and one beat more.
-use Rattle.std.proofs.Common.{◌≡◌, ℕ, suc, ◌/◌, ◌^◌, ◌<◌, ◌≤◌, Bool, true, false, List, [], ◌∷◌, ◌++◌, length}
+use Rattle.std.proofs.Common.{◌≡◌, ℕ, ◌/◌, ◌^◌, ◌<◌, ◌≤◌, Bool, true, false, List, [], ◌∷◌, length}
 use Rattle.std.proofs.Common.{refl, sym, ap, ◌∙◌, arith, inl, inr}
-use Rattle.std.proofs.lemmas.Bool.{cases_eq, eq-eqb, eqb-true, le-ltb, ltb-false, ne_eqb}
-use Rattle.std.specs.Prelude.{◌==◌, ◌&&◌, ◌||◌, if◌then◌else◌, nat_lt, Option}
+use Rattle.std.proofs.lemmas.Bool.{cases_eq, le-ltb, ltb-false}
+use Rattle.std.specs.Prelude.{◌||◌, nat_lt, Option}
 use Rattle.std.specs.Prelude.{Some, None, Result, Ok, Err, slice_index_or}
 use Rattle.tl_beat.specs.declared.beat.Link.{Link}
 use Rattle.tl_rules.specs.statement.History.{block_at}
-use Rattle.tl_rules.specs.statement.Legality.{is_one_of}
 use Rattle.tl_wide.proofs.Asking.{asks-kept, nothing-asked}
 use Rattle.tl_wide.proofs.Names.{among-with, place-below, sources-other, sources-own}
 use Rattle.tl_wide.specs.statement.Narrowing.{Asks, Follows, KnowsNames}

@@ -1,22 +1,22 @@
 -- The one part of a beat of at most 16 bytes.
-use Rattle.std.proofs.Common.{◌≡◌, ℕ, ◌+◌, ◌-◌, ◌*◌, ◌/◌, ◌%◌, ◌^◌, ◌<◌, ◌≤◌, Bool, true, false, not, cond, List, [], ◌∷◌, map}
+use Rattle.std.proofs.Common.{◌≡◌, ℕ, ◌+◌, ◌-◌, ◌*◌, ◌/◌, ◌%◌, ◌^◌, ◌<◌, ◌≤◌, Bool, true, false, not, cond, List, [], ◌∷◌}
 use Rattle.std.proofs.Common.{refl, sym, ap, ◌∙◌, arith, inl, inr, lit<}
 use Rattle.std.proofs.lemmas.Bool.{cases_lt, lt-ltb, ne_eqb}
 use Rattle.std.proofs.lemmas.Nat.{and_mask, pow-add, pow_pos}
 use Rattle.std.proofs.Math.Bool.{or-true}
 use Rattle.std.proofs.Math.Nat.{div-div-eq-div-mul, div-eq_of_lt, mod-eq_of_lt, mod-lt, zero-div}
-use Rattle.std.specs.Prelude.{◌==◌, ◌||◌, filter, if◌then◌else◌}
+use Rattle.std.specs.Prelude.{◌||◌, if◌then◌else◌}
 use Rattle.tl_beat.specs.declared.beat.Beat.{Beat}
 use Rattle.tl_burst.specs.statement.Burst.{bit}
-use Rattle.tl_rules.specs.statement.Legality.{each_below, is_one_of}
-use Rattle.tl_wide.proofs.Cut.{alone-none, at}
+use Rattle.tl_rules.specs.statement.Legality.{is_one_of}
+use Rattle.tl_wide.proofs.Cut.{at}
 use Rattle.tl_wide.proofs.Reached.{by_width, each-cong, each-true, reaches-all, reaches-some}
 use Rattle.tl_wide.specs.statement.Pieces.{carries_of, from, left_of, mask_in, parts_from, piece_of, reached_at, size_in}
 use Rattle.tl_wide.specs.declared.beat.WideBeat.{WideBeat}
 use Rattle.tl_wide.specs.declared.parts.Named.{Named}
 use Rattle.tl_wide.specs.declared.parts.Parts.{Parts}
 use Rattle.tl_wide.specs.statement.Narrowed.{lone_mask}
-use Rattle.tl_wide.specs.statement.Parts.{below, common_mask, has_stray, part_mask, parts_of, reaches_part, shown_mask}
+use Rattle.tl_wide.specs.statement.Parts.{below, has_stray, part_mask, parts_of, reaches_part, shown_mask}
 use Rattle.tl_wide.specs.statement.Width.{IsWideWidth, part_width}
 
 -- there is one

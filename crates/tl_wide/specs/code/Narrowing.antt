@@ -1,5 +1,5 @@
 -- What the names of a wide beat become, before it is cut into its parts.
-use Rattle.std.specs.Prelude.{ℕ, ◌≡◌, Bool, false, true, is_some, List, ◌∷◌, Option, Some, None, Result, Ok, Err}
+use Rattle.std.specs.Prelude.{ℕ, ◌≡◌, false, true, ◌∷◌, Option, Some, None, Result, Ok, Err}
 use Rattle.tl_beat.specs.declared.beat.Link.{Link}
 use Rattle.tl_wide.specs.code.Pieces.{pieces_of}
 use Rattle.tl_wide.specs.declared.beat.WideBeat.{WideBeat}

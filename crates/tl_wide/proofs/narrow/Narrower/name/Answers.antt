@@ -1,4 +1,4 @@
-use Rattle.std.proofs.Common.{arith, refl, sym, ◌∙◌, ◌<◌, ◌^◌, ◌∷◌}
+use Rattle.std.proofs.Common.{refl, ◌∙◌, ◌∷◌}
 use Rattle.std.proofs.lemmas.Result.{err_from_is_err_and}
 use Rattle.tl_wide.proofs.Asking.{asked-is, asks-kept}
 use Rattle.tl_wide.proofs.Names.{among-sources}

@@ -41,8 +41,8 @@ fn fill_slot(slots: &mut Vec<Option<(u64, u32)>>, name: u64, place: u32)
     }
 }
 
-/// Numbers of names by their first appearance: 0, 1, 2 and so on. Names that were asked for of late stand in slots
-/// beside the table, by their low bits, since later beats often have them too.
+/// Numbers of names by their first appearance: 0, 1, 2 and so on. Names that were asked for of late are in slots beside
+/// the table, by their low bits, since later beats often have them too.
 #[derive(Drop)]
 pub struct Numbers {
     places: Places,
@@ -76,7 +76,7 @@ impl Numbers {
         }
     }
 
-    /// The number of a name, if it stands in its slot.
+    /// The number of a name, if it is in its slot.
     #[inline(always)]
     fn recent_place(&self, name: u64) -> Option<u32>
         ensures { IfSome result (λ place. slice_index_or self.now.recent.items (name % 256) None ≡ Some (name, place)) }
@@ -97,7 +97,7 @@ impl Numbers {
         self.places.get(name)
     }
 
-    /// The number of a name that doesn't stand in its slot, if it has one.
+    /// The number of a name that isn't in its slot, if it has one.
     #[inline(never)]
     fn seek(&mut self, name: u64) -> Option<u32>
         ensures { (names : List ℕ) → KnowsNumbers self.old names →

@@ -25,7 +25,7 @@ fn push_tree(trees: &mut Vec<BTreeMap<u64, u32>>, alloc: Global) -> Result<(), A
     }
 }
 
-/// Makes the trees of names with these low bits, where there are fewer. The error means that there is no memory left.
+/// Makes the trees of names with these low bits, if there are fewer. The error means that there is no memory left.
 fn make_trees(
     trees: &mut Vec<BTreeMap<u64, u32>>,
     alloc: Global,

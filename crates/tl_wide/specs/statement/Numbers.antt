@@ -29,7 +29,7 @@ found_in numbers k = if numbers.has_zero && (k == 0) then Some 0 else place_unde
 abbrev pub place_among : List ℕ → ℕ → Option ℕ
 place_among names k = if is_one_of k names then Some (place_in names k) else None
 
--- the name that stands in a slot, and its number
+-- the name in a slot, and its number
 abbrev pub slot_in : Numbers → ℕ → Option (ℕ × ℕ)
 slot_in numbers i = slice_index_or numbers.recent.items i None
 

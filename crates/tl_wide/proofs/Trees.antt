@@ -1,19 +1,11 @@
 -- Trees of numbers, of which one changes.
-use Rattle.std.proofs.Common.{◌≡◌, ℕ, zero, suc, ◌<◌, Bool, true, false, List, [], ◌∷◌, ◌++◌, length, map}
+use Rattle.std.proofs.Common.{◌≡◌, ℕ, ◌<◌, List, [], length, map}
 use Rattle.std.proofs.Common.{refl, sym, ap, ◌∙◌, inl, inr}
-use Rattle.std.proofs.lemmas.Bool.{cases_eq, eq-eqb, eqb-true, ne_eqb}
+use Rattle.std.proofs.lemmas.Bool.{cases_eq, eq-eqb, ne_eqb}
 use Rattle.std.proofs.lemmas.List.{get_or-map, get_or-set_other, get_or-set_same, length-map, map-set}
 use Rattle.std.specs.BTreeMap.{BTreeMap}
 use Rattle.std.specs.Prelude.{◌==◌, ◌&&◌, if◌then◌else◌, Option, slice_index_or, slice_set}
 use Rattle.tl_wide.specs.statement.Numbers.{place_found, tree_at}
-
--- one more tree, without entries
-pub one-more : (trees : List (BTreeMap ℕ ℕ)) (new : BTreeMap ℕ ℕ) (i : ℕ) → new.entries ≡ []
-    → tree_at (trees ++ new ∷ []) i ≡ tree_at trees i
-one-more [] new zero none = none
-one-more [] new (suc i) none = refl
-one-more (tree ∷ trees) new zero none = refl
-one-more (tree ∷ trees) new (suc i) none = one-more trees new i none
 
 -- the tree that changes
 at-own : (trees : List (BTreeMap ℕ ℕ)) (i : ℕ) (new : BTreeMap ℕ ℕ) → i < length trees
@@ -51,18 +43,3 @@ found-same trees i old new lt is same j k = elim (cases_eq j i) [
   | inl own ↦ rw (own, at-own trees i new lt, at-read trees i old lt is) (same k)
   | inr other ↦ rw (at-other trees i j new other) refl
 ]
-
--- names of one tree are those of equal low bits
-pub own-tree : (low : ℕ → ℕ) (name k : ℕ) {X : Type 0} (x y : X)
-    → (if (low k == low name) && (k == name) then x else y) ≡ (if k == name then x else y)
-own-tree low name k x y = go (k == name) refl
-  where
-    and_false : (a : Bool) → (a && false) ≡ false
-    and_false true = refl
-    and_false false = refl
-
-    go : (b : Bool) → (k == name) ≡ b → (if (low k == low name) && b then x else y) ≡ (if b then x else y)
-    go true e =
-        let same : low k ≡ low name = ap low (eqb-true k name e) in
-        rw (eq-eqb (low k) (low name) same) refl
-    go false e = rw (and_false (low k == low name)) refl

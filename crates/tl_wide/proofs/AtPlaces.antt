@@ -21,6 +21,18 @@ field_of_four c3 c2 c1 c0 v3 v2 v1 v0 cs d3 d2 d1 d0 =
       value,
     ) refl
 
+-- four digits and a space, each at its place
+pub id_places : (bytes : List ℕ) (s3 s2 s1 s0 : ℕ) → 5 ≤ length bytes → slice_index bytes 4 ≡ 32
+    → s3 ≡ value_or_16 (slice_index bytes 0) → s2 ≡ value_or_16 (slice_index bytes 1)
+    → s1 ≡ value_or_16 (slice_index bytes 2) → s0 ≡ value_or_16 (slice_index bytes 3)
+    → ((nat_lt s3 16 && nat_lt s2 16) && (nat_lt s1 16 && nat_lt s0 16)) ≡ true
+    → field_at 4 bytes ≡ Ok (256 * (16 * s3 + s2) + (16 * s1 + s0), take (length bytes - 5) (drop 5 bytes))
+id_places (x3 ∷ x2 ∷ x1 ∷ x0 ∷ x ∷ rest) s3 s2 s1 s0 long e v3 v2 v1 v0 small =
+    let (b3, b2, b1, b0) = are_pairs s3 s2 s1 s0 small in
+    rw (take_rest (x3 ∷ x2 ∷ x1 ∷ x0 ∷ x ∷ rest) 5, e) (field_of_four x3 x2 x1 x0 s3 s2 s1 s0 rest
+    (digit_is x3 s3 v3 b3) (digit_is x2 s2 v2 b2) (digit_is x1 s1 v1 b1) (digit_is x0 s0 v0 b0))
+id_places bytes s3 s2 s1 s0 long e v3 v2 v1 v0 small = absurd (omega arith)
+
 -- the values of the fields before the address are those of digits
 abbrev head_digits : ℕ → ℕ → ℕ → ℕ → ℕ → ℕ → ℕ → ℕ → ℕ → Bool
 head_digits l1 l0 o p z s3 s2 s1 s0 =

@@ -53,7 +53,7 @@ piece-d x y n stray mask part b is e1 e2 e3 e4 e5 e6 e7 e8 = rw is (ap beat.D (s
 
 -- ---- all parts
 
-abbrev at : Named → Bool → ℕ → Parts
+abbrev pub at : Named → Bool → ℕ → Parts
 at n stray next = record { named = n; stray = stray; next = next }
 
 pub all-left : {w p : ℕ} (x : WideBeat w) (n : Named) (stray : Bool)

@@ -2,11 +2,14 @@
 use Rattle.std.proofs.Common.{◌≡◌, ℕ, suc, Bool, true, false, cond, ◌||◌}
 use Rattle.std.proofs.Common.{◌<◌, ◌≤◌, List, [], ◌∷◌, ◌++◌, length}
 use Rattle.std.proofs.Common.{refl, sym, ap, ◌∙◌, arith}
-use Rattle.std.specs.Prelude.{◌+◌, ◌==◌, ◌&&◌, if◌then◌else◌, Option, Some, None}
-use Rattle.std.proofs.lemmas.Bool.{eq-eqb, eqb-true, le-ltb, lt-ltb}
+use Rattle.std.specs.Prelude.{◌+◌, ◌==◌, ◌&&◌, if◌then◌else◌, Option, Some, None, slice_index_or, slice_set}
+use Rattle.std.proofs.Common.{inl, inr}
+use Rattle.std.specs.Prelude.{◌⊎◌}
+use Rattle.std.proofs.lemmas.List.{get_or-set_other, get_or-set_same, set_past}
+use Rattle.std.proofs.lemmas.Bool.{cases_eq, cases_lt, eq-eqb, eqb-true, le-ltb, lt-ltb}
 use Rattle.std.proofs.lemmas.List.{length-append}
 use Rattle.tl_rules.specs.statement.Legality.{is_one_of}
-use Rattle.tl_wide.specs.statement.Numbers.{KnowsNumbers, found_in, is_past, place_among, place_found}
+use Rattle.tl_wide.specs.statement.Numbers.{KnowsNumbers, found_in, is_past, place_among, place_under, slot_in}
 use Rattle.tl_wide.specs.declared.numbers.Numbers.{Numbers}
 use Rattle.tl_wide.specs.statement.Naming.{place_in, with_number}
 
@@ -62,14 +65,46 @@ places-more names n k new = rw (among-more names n k) (go (k == n) refl (is_one_
 some_is : {A : Type 0} {x y : A} → Some x ≡ Some y → x ≡ y
 some_is e = cc
 
+-- without slots no name stands in one
+no-slot : {X : Type 0} (numbers : Numbers) (i k place : ℕ) → numbers.recent.items ≡ []
+    → slot_in numbers i ≡ Some (k, place) → X
+no-slot numbers i k place none is = absurd (let no : None ≡ Some (k, place) = rw none at is in cc)
+
+-- a slot is as it was, or has this name now
+abbrev IsFilled : Numbers → Numbers → ℕ → ℕ → Type 0
+IsFilled old new name place =
+    (i : ℕ) → (slot_in new i ≡ slot_in old i) ⊎ (slot_in new i ≡ Some (name, place))
+
+pub filled : (before after : List (Option (ℕ × ℕ))) (at name place : ℕ) → after ≡ slice_set before at (Some (name, place))
+    → (i : ℕ) → (slice_index_or after i None ≡ slice_index_or before i None)
+    ⊎ (slice_index_or after i None ≡ Some (name, place))
+filled before after at name place is i = rw is (elim (cases_eq i at) [
+  | inl same ↦ elim (cases_lt at (length before)) [
+    | inl lt ↦ inr (rw same (get_or-set_same before at (Some (name, place)) None lt))
+    | inr past ↦ inl (rw (set_past before at (Some (name, place)) past) refl)
+  ]
+  | inr other ↦ inl (get_or-set_other before at i (Some (name, place)) None other)
+])
+
+-- the same, if there may be slots more now
+pub filled-more : (old before after : List (Option (ℕ × ℕ))) (at name place : ℕ)
+    → ((i : ℕ) → slice_index_or before i None ≡ slice_index_or old i None)
+    → after ≡ slice_set before at (Some (name, place))
+    → (i : ℕ) → (slice_index_or after i None ≡ slice_index_or old i None)
+    ⊎ (slice_index_or after i None ≡ Some (name, place))
+filled-more old before after at name place more is i = elim (filled before after at name place is i) [
+  | inl same ↦ inl (same ∙ more i)
+  | inr own ↦ inr own
+]
+
 -- of names of which 0 is the first
-pub zero-known : (numbers : Numbers) → numbers.places.entries ≡ [] → numbers.count ≡ 1 → numbers.has_zero ≡ true
-    → numbers.recent ≡ None → KnowsNumbers numbers (0 ∷ [])
+pub zero-known : (numbers : Numbers) → ((k : ℕ) → place_under numbers.places k ≡ None) → numbers.count ≡ 1 → numbers.has_zero ≡ true
+    → numbers.recent.items ≡ [] → KnowsNumbers numbers (0 ∷ [])
 unfolding place_in
 zero-known numbers empty one zero_is none = record {
   count_is = one;
-  places_are = λ k. rw (empty, zero_is) (go (k == 0));
-  recent_is = λ k place is. absurd (let no : Some (k, place) ≡ None = sym is ∙ none in cc);
+  places_are = λ k. rw (empty k, zero_is) (go (k == 0));
+  recent_is = λ i k place is. no-slot numbers i k place none is;
 }
   where
     some_zero : Option ℕ
@@ -101,78 +136,91 @@ found-none o names name is none = go (is_one_of name names) refl (sym none ∙ i
 
 -- what is found once one name more has a number
 found-more : (old new : Numbers) (name : ℕ) → found_in old name ≡ None → new.has_zero ≡ old.has_zero
-    → ((k : ℕ) → place_found new.places.entries k
-    ≡ (if k == name then Some old.count else place_found old.places.entries k))
+    → ((k : ℕ) → place_under new.places k
+    ≡ (if k == name then Some old.count else place_under old.places k))
     → (k : ℕ) → found_in new k ≡ (if k == name then Some old.count else found_in old k)
 found-more old new name none same changed k = rw same (go (old.has_zero && (k == 0)) refl (k == name) refl)
   where
     go : (zero_is : Bool) → (old.has_zero && (k == 0)) ≡ zero_is → (own : Bool) → (k == name) ≡ own
-        → (if zero_is then Some 0 else place_found new.places.entries k)
-        ≡ (if own then Some old.count else (if zero_is then Some 0 else place_found old.places.entries k))
+        → (if zero_is then Some 0 else place_under new.places k)
+        ≡ (if own then Some old.count else (if zero_is then Some 0 else place_under old.places k))
     go true e true f =
         let is : k ≡ name = eqb-true k name f in
         let some : found_in old k ≡ Some 0 = rw e refl in
         let gone : found_in old k ≡ None = rw is none in
         absurd cc
     go true e false f = refl
-    go false e own f = changed k ∙ ap (λ b. if b then Some old.count else place_found old.places.entries k) f
+    go false e own f = changed k ∙ ap (λ b. if b then Some old.count else place_under old.places k) f
 
 -- one more, which was asked for last
 pub one-known : (old new : Numbers) (names : List ℕ) (name : ℕ) → KnowsNumbers old names → is_one_of name names ≡ false
     → found_in old name ≡ None → new.has_zero ≡ old.has_zero → new.count ≡ old.count + 1
-    → new.recent ≡ Some (name, old.count)
-    → ((k : ℕ) → place_found new.places.entries k
-    ≡ (if k == name then Some old.count else place_found old.places.entries k))
+    → IsFilled old new name old.count
+    → ((k : ℕ) → place_under new.places k
+    ≡ (if k == name then Some old.count else place_under old.places k))
     → KnowsNumbers new (names ++ name ∷ [])
 one-known old new names name knows fresh none same counted recent changed = record {
   count_is = omega (arith, counted, knows.count_is, length-append names (name ∷ []));
   places_are = λ k. found-more old new name none same changed k
       ∙ rw (knows.count_is, knows.places_are k) (sym (places-more names name k fresh));
-  recent_is = λ k place is.
-      let both : (k, place) ≡ (name, old.count) = some_is (sym is ∙ recent) in
-      let named : k ≡ name = ap (λ p. p.0) both in
-      let placed : place ≡ old.count = ap (λ p. p.1) both in
-      rw (named, placed, knows.count_is, places-more names name name fresh, eq-eqb name name refl) refl;
+  recent_is = λ i k place is. elim (recent i) [
+    | inl same ↦ more k place (knows.recent_is i k place (sym same ∙ is)) (k == name) refl
+    | inr own ↦
+        let both : (k, place) ≡ (name, old.count) = some_is (sym is ∙ own) in
+        let named : k ≡ name = ap (λ p. p.0) both in
+        let placed : place ≡ old.count = ap (λ p. p.1) both in
+        rw (named, placed, knows.count_is, places-more names name name fresh, eq-eqb name name refl) refl
+  ];
 }
+  where
+    more : (k place : ℕ) → place_among names k ≡ Some place → (b : Bool) → (k == name) ≡ b
+        → place_among (names ++ name ∷ []) k ≡ Some place
+    more k place is true e =
+        let named : k ≡ name = eqb-true k name e in
+        absurd (let no : None ≡ Some place = rw (named, fresh) at is in cc)
+    more k place is false e = rw (places-more names name k fresh, e) is
 
 -- a name is asked for last
 pub recent-known : (old new : Numbers) (names : List ℕ) (name place : ℕ) → KnowsNumbers old names
     → found_in old name ≡ Some place → new.places ≡ old.places → new.count ≡ old.count
-    → new.has_zero ≡ old.has_zero → new.recent ≡ Some (name, place) → KnowsNumbers new names
+    → new.has_zero ≡ old.has_zero → IsFilled old new name place → KnowsNumbers new names
 recent-known old new names name place knows found same counted zero_is recent = record {
   count_is = counted ∙ knows.count_is;
   places_are = λ k. rw (same, zero_is) (knows.places_are k);
-  recent_is = λ k n is.
-      let both : (k, n) ≡ (name, place) = some_is (sym is ∙ recent) in
-      let named : k ≡ name = ap (λ p. p.0) both in
-      let placed : n ≡ place = ap (λ p. p.1) both in
-      rw (named, placed) (sym (knows.places_are name) ∙ found);
+  recent_is = λ i k n is. elim (recent i) [
+    | inl as_before ↦ knows.recent_is i k n (sym as_before ∙ is)
+    | inr own ↦
+        let both : (k, n) ≡ (name, place) = some_is (sym is ∙ own) in
+        let named : k ≡ name = ap (λ p. p.0) both in
+        let placed : n ≡ place = ap (λ p. p.1) both in
+        rw (named, placed) (sym (knows.places_are name) ∙ found)
+  ];
 }
 
 -- what is found is as it was
 pub still-known : (old new : Numbers) (names : List ℕ) → KnowsNumbers old names
-    → ((k : ℕ) → place_found new.places.entries k ≡ place_found old.places.entries k) → new.has_zero ≡ old.has_zero
-    → new.count ≡ old.count → new.recent ≡ old.recent → KnowsNumbers new names
+    → ((k : ℕ) → place_under new.places k ≡ place_under old.places k) → new.has_zero ≡ old.has_zero
+    → new.count ≡ old.count → ((i : ℕ) → slot_in new i ≡ slot_in old i) → KnowsNumbers new names
 still-known old new names knows same zero_is counted recent = record {
   count_is = counted ∙ knows.count_is;
   places_are = λ k. rw (zero_is, same k) (knows.places_are k);
-  recent_is = λ k place is. knows.recent_is k place (sym recent ∙ is);
+  recent_is = λ i k place is. knows.recent_is i k place (sym (recent i) ∙ is);
 }
 
 -- the newest name is gone
 pub without-newest : (old new : Numbers) (names : List ℕ) (name : ℕ) → KnowsNumbers old (names ++ name ∷ [])
     → is_one_of name names ≡ false → (old.has_zero && (name == 0)) ≡ false → new.has_zero ≡ old.has_zero
-    → new.count ≡ length names → new.recent ≡ None
-    → ((k : ℕ) → place_found new.places.entries k ≡ (if k == name then None else place_found old.places.entries k))
+    → new.count ≡ length names → new.recent.items ≡ []
+    → ((k : ℕ) → place_under new.places k ≡ (if k == name then None else place_under old.places k))
     → KnowsNumbers new names
 without-newest old new names name knows fresh no_zero zero_is counted none changed = record {
   count_is = counted;
   places_are = λ k. rw zero_is (go k (k == name) refl);
-  recent_is = λ k place is. absurd (let no : Some (k, place) ≡ None = sym is ∙ none in cc);
+  recent_is = λ i k place is. no-slot new i k place none is;
 }
   where
     go : (k : ℕ) (own : Bool) → (k == name) ≡ own
-        → (if old.has_zero && (k == 0) then Some 0 else place_found new.places.entries k) ≡ place_among names k
+        → (if old.has_zero && (k == 0) then Some 0 else place_under new.places k) ≡ place_among names k
     go k true e =
         let is : k ≡ name = eqb-true k name e in
         rw (is, no_zero, changed name, eq-eqb name name refl, fresh) refl

@@ -1,14 +1,14 @@
 -- The names of a trace and one beat more.
-use Rattle.std.proofs.Common.{◌≡◌, ℕ, suc, ◌/◌, ◌^◌, ◌<◌, ◌≤◌, Bool, true, false, List, [], ◌∷◌, ◌++◌, length}
+use Rattle.std.proofs.Common.{◌≡◌, ℕ, ◌/◌, ◌^◌, ◌<◌, ◌≤◌, Bool, true, false, List, [], ◌∷◌, length}
 use Rattle.std.proofs.Common.{refl, sym, ap, ◌∙◌, arith, inl, inr}
-use Rattle.std.proofs.lemmas.Bool.{cases_eq, eq-eqb, eqb-true, le-ltb, ltb-false, ne_eqb}
-use Rattle.std.specs.Prelude.{◌==◌, ◌&&◌, ◌||◌, if◌then◌else◌, nat_lt, Option}
+use Rattle.std.proofs.lemmas.Bool.{cases_eq, le-ltb, ltb-false}
+use Rattle.std.specs.Prelude.{◌||◌, nat_lt, Option}
 use Rattle.std.specs.Prelude.{Some, None, Result, Ok, Err, slice_index_or}
 use Rattle.tl_beat.specs.declared.beat.Link.{Link}
 use Rattle.tl_rules.specs.statement.History.{block_at}
-use Rattle.tl_rules.specs.statement.Legality.{is_one_of}
-use Rattle.tl_wide.proofs.Naming.{among-more}
-use Rattle.tl_wide.specs.statement.Narrowing.{Asks, Follows, KnowsNames, asked_found, key_of}
+use Rattle.tl_wide.proofs.Asking.{asks-kept, nothing-asked}
+use Rattle.tl_wide.proofs.Names.{among-with, place-below, sources-other, sources-own}
+use Rattle.tl_wide.specs.statement.Narrowing.{Asks, Follows, KnowsNames}
 use Rattle.tl_wide.specs.code.Narrowing.{IsNamed, IsNumberedBeat}
 use Rattle.tl_wide.specs.statement.Numbers.{IsNumbered, KnowsNumbers, is_past}
 use Rattle.tl_wide.specs.code.Numbers.{AreNumbered}
@@ -31,27 +31,6 @@ use Rattle.tl_wide.specs.statement.Width.{part_width}
 
 -- ---- places within limits
 
-place-below : (names : List ℕ) (n : ℕ) → is_one_of n names ≡ true → place_in names n < length names
-unfolding place_in
-place-below [] n among = absurd cc
-place-below (m ∷ names) n among = go (n == m) (place-below names n) among
-  where
-    go : (b : Bool) → (is_one_of n names ≡ true → place_in names n < length names) → (b || is_one_of n names) ≡ true
-        → (if b then 0 else suc (place_in names n)) < suc (length names)
-    go true rest e = omega arith
-    go false rest e = let lt : place_in names n < length names = rest e in omega arith
-
-among-with : (names : List ℕ) (n : ℕ) → is_one_of n (with_number (Some n) names) ≡ true
-among-with names n = go (is_one_of n names) refl
-  where
-    or_true : (a : Bool) → (a || true) ≡ true
-    or_true true = refl
-    or_true false = refl
-
-    go : (b : Bool) → is_one_of n names ≡ b → is_one_of n (if b then names else names ++ n ∷ []) ≡ true
-    go true e = e
-    go false e = among-more names n n ∙ rw (eq-eqb n n refl) (or_true (is_one_of n names))
-
 pub few : (limit : ℕ) (names : List ℕ) (n : ℕ) → is_past limit names n ≡ false
     → length (with_number (Some n) names) ≤ limit
 few limit names n within = ltb-false limit (length (with_number (Some n) names)) within
@@ -63,18 +42,6 @@ place-fits limit names n place within is =
     omega (arith, is, lt, few limit names n within)
 
 -- ---- the names of one beat more
-
-sources-own : {w : ℕ} (link : Link) (x : WideBeat w) (t : WideTrace w)
-    → sources link.0 ((link, x) ∷ t) ≡ with_number (source_of x) (sources link.0 t)
-unfolding named
-sources-own link x t =
-    ap (λ b. with_number (if b then source_of x else None) (sources link.0 t)) (eq-eqb link.0 link.0 refl)
-
-sources-other : {w : ℕ} (link : Link) (x : WideBeat w) (t : WideTrace w) (i : ℕ) → (i ≡ link.0 → ⊥)
-    → sources i ((link, x) ∷ t) ≡ sources i t
-unfolding named
-sources-other link x t i other =
-    ap (λ b. with_number (if b then source_of x else None) (sources i t)) (ne_eqb link.0 i (λ e. other (sym e)))
 
 blocks-more : {w : ℕ} (link : Link) (x : WideBeat w) (t : WideTrace w)
     → blocks ((link, x) ∷ t) ≡ with_number (block_named (link, x)) (blocks t)
@@ -354,36 +321,6 @@ pub skips-e : {w : ℕ} (link l : Link) (x : WideBeatE) (t : WideTrace w) (s : �
 unfolding asked_address
 skips-e link l x t s = refl
 
--- a beat of channel A has its own
-pub asks-more : {w : ℕ} (link : Link) (x : WideBeatA w) (t : WideTrace w) (old new : List (ℕ × ℕ)) → x.source < 2 ^ 16
-    → Asks old t → ((k : ℕ) → asked_found new k
-    ≡ (if k == key_of link x.source then x.address else asked_found old k)) → Asks new ((link, wide.A x) ∷ t)
-unfolding asked_address
-asks-more {w} link x t old new fits asks changed = λ l s lt. changed (key_of l s)
-    ∙ go l s lt (key_of l s == key_of link x.source) refl (link.0 == l.0) refl (x.source == s) refl (asks l s lt)
-  where
-    go : (l : Link) (s : ℕ) → s < 2 ^ 16 → (k : Bool) → (key_of l s == key_of link x.source) ≡ k
-        → (a : Bool) → (link.0 == l.0) ≡ a → (b : Bool) → (x.source == s) ≡ b
-        → asked_found old (key_of l s) ≡ asked_address l s t
-        → (if k then x.address else asked_found old (key_of l s)) ≡ (if a && b then x.address else asked_address l s t)
-    go l s lt true e true f true g h = refl
-    go l s lt true e true f false g h =
-        let keys : key_of l s ≡ key_of link x.source = eqb-true (key_of l s) (key_of link x.source) e in
-        let other : x.source ≡ s = omega arith in
-        absurd (let no : (x.source == s) ≡ true = eq-eqb x.source s other in cc)
-    go l s lt true e false f b g h =
-        let keys : key_of l s ≡ key_of link x.source = eqb-true (key_of l s) (key_of link x.source) e in
-        let other : link.0 ≡ l.0 = omega arith in
-        absurd (let no : (link.0 == l.0) ≡ true = eq-eqb link.0 l.0 other in cc)
-    go l s lt false e true f true g h =
-        let same : link.0 ≡ l.0 = eqb-true link.0 l.0 f in
-        let also : x.source ≡ s = eqb-true x.source s g in
-        let keys : key_of l s ≡ key_of link x.source = omega arith in
-        absurd (let no : (key_of l s == key_of link x.source) ≡ true = eq-eqb (key_of l s) (key_of link x.source) keys
-        in cc)
-    go l s lt false e true f false g h = h
-    go l s lt false e false f b g h = h
-
 -- ---- an answer that is handed on
 
 pub named-none : {w : ℕ} (link : Link) (x : WideBeat w) (t : WideTrace w) (Becomes : Named → Type 0) (o : Option Named)
@@ -398,23 +335,23 @@ named-some link x t Becomes o n after is h = rw is at h
 
 pub handed-on : {w : ℕ} {E : Type 0} (link : Link) (x : WideBeat w) (t : WideTrace w) (Becomes : Named → Type 0)
     (r : Result (Option Named) E) (after : Narrower) → IsNamed link x t Becomes r after.names
-    → Asks after.asked.entries t
+    → Asks after.asked.items t
     → ((l : Link) (s : ℕ) → asked_address l s ((link, x) ∷ t) ≡ asked_address l s t)
     → ((n : Named) → Becomes n → pieces_of {p = part_width w} x n ≡ beats_of link x ((link, x) ∷ t))
     → IsNumberedBeat link x t r after
 handed-on link x t Becomes (Ok (Some n)) after h asks skips pieces =
-    (h.0, pieces n h.1, (h.2, λ l s lt. asks l s lt ∙ sym (skips l s)))
+    (h.0, pieces n h.1, (h.2, asks-kept link x t after.asked.items (h.2.few_sources link.0) skips asks))
 handed-on link x t Becomes (Ok None) after h asks skips pieces = (h.0, (h.1, asks))
 handed-on link x t Becomes (Err e) after h asks skips pieces = (h, asks)
 
 -- ---- before the first beat
 
-pub nothing-named : (w : ℕ) (names : Names) (entries : List (ℕ × ℕ)) → length names.sources ≡ 256
+pub nothing-named : (w : ℕ) (names : Names) (addresses : List ℕ) → length names.sources ≡ 256
     → KnowsNumbers names.blocks []
     → ((i : ℕ) (d : Numbers) → i < 256 → KnowsNumbers (slice_index_or names.sources i d) (0 ∷ []))
-    → KnowsNumbers names.sinks (0 ∷ []) → entries ≡ [] → KnowsNames {w = w} names [] × Asks {w = w} entries []
-unfolding named asked_address
-nothing-named w names entries long b s k none = (
+    → KnowsNumbers names.sinks (0 ∷ []) → addresses ≡ [] → KnowsNames {w = w} names [] × Asks {w = w} addresses []
+unfolding named
+nothing-named w names addresses long b s k none = (
   record {
     long = long;
     blocks_are = b;
@@ -424,5 +361,5 @@ nothing-named w names entries long b s k none = (
     few_sources = λ i. omega arith;
     few_sinks = omega arith;
   },
-  λ l source lt. rw none refl,
+  nothing-asked w addresses none,
 )

@@ -20,7 +20,7 @@ use Rattle.tl_wide.specs.statement.Width.{IsWideWidth, part_width}
 
 -- ---- tests of the numbers below a limit
 
-each-cong : (n : ℕ) (f g : ℕ → Bool) → ((i : ℕ) → i < n → f i ≡ g i) → each_below n f ≡ each_below n g
+pub each-cong : (n : ℕ) (f g : ℕ → Bool) → ((i : ℕ) → i < n → f i ≡ g i) → each_below n f ≡ each_below n g
 unfolding each_below
 each-cong zero f g same = refl
 each-cong (suc n) f g same =
@@ -38,7 +38,7 @@ each-more a (suc b) f =
     let same : a + suc b ≡ suc (a + b) = omega arith in
     rw (same, each-more a b f) (sym (and-assoc (f (a + b)) (each_below b (λ i. f (a + i))) (each_below a f)))
 
-each-true : (n : ℕ) → each_below n (λ i. true) ≡ true
+pub each-true : (n : ℕ) → each_below n (λ i. true) ≡ true
 unfolding each_below
 each-true zero = refl
 each-true (suc n) = each-true n

@@ -5,6 +5,7 @@ pub mod beat;
 pub mod narrow;
 pub mod numbers;
 pub mod parts;
+mod places;
 pub mod read;
 pub mod text;
 pub mod width;

@@ -1,14 +1,13 @@
 //! The beats that the beats of a wide trace become, one after another.
 
 ghost use Rattle.std.specs.Prelude.{ℕ, List, Some, None, [], ◌∷◌, ◌≡◌, ◌<◌, ◌/◌, ◌^◌, ◌==◌, true, if◌then◌else◌};
-ghost use Rattle.std.specs.Prelude.{false, ◌≤◌, ◌≢◌, length, slice_index_or, IfOk, OnOk, OnErr};
+ghost use Rattle.std.specs.Prelude.{false, ◌≤◌, ◌≢◌, length, slice_index_or, slice_set, OnOk, ◌+◌, ◌*◌};
 ghost use Rattle.tl_wide.specs.statement.Numbers.{KnowsNumbers};
 ghost use Rattle.tl_wide.specs.code.Numbers.{AreNumbered};
 ghost use Rattle.tl_wide.specs.declared.numbers.Numbers.{Numbers};
 ghost use Rattle.tl_beat.specs.declared.beat.Link.{Link};
-ghost use Rattle.tl_wide.specs.statement.Narrowing.{Follows, IsNarrowed, KnowsNames, asked_found, key_of};
+ghost use Rattle.tl_wide.specs.statement.Narrowing.{Follows, IsNarrowed, KnowsNames, key_of};
 ghost use Rattle.tl_wide.specs.code.Narrowing.{IsNamed, IsNumberedBeat, MessageNamed, ResponseNamed, SinkNamed};
-ghost use Rattle.tl_wide.specs.code.Narrowing.{asked_room};
 ghost use Rattle.tl_wide.specs.declared.beat.WideBeat.{WideBeat};
 ghost use Rattle.tl_wide.specs.declared.beat.WideBeat.TheVariants as wide;
 ghost use Rattle.tl_wide.specs.declared.beat.WideBeatA.{WideBeatA};
@@ -20,7 +19,6 @@ use crate::numbers::{Numbers, number_both};
 use crate::parts::{Named, Parts};
 use std::alloc::{AllocError, Global};
 use std::array;
-use std::collections::BTreeMap;
 use tl_beat::beat::Link;
 
 /// The most blocks that have numbers.
@@ -56,6 +54,7 @@ fn no_sources(alloc: Global) -> [Numbers; 256]
 }
 
 /// The numbers of a block and of a source of a link. None if one has none and its limit is reached.
+#[inline(always)]
 fn number_message(
     blocks: &mut Numbers,
     sources: &mut [Numbers; 256],
@@ -81,6 +80,7 @@ fn number_message(
 }
 
 /// The numbers of a source of a link and of a sink. None if one has none and its limit is reached.
+#[inline(always)]
 fn number_response(
     sources: &mut [Numbers; 256],
     link: Link,
@@ -116,6 +116,7 @@ struct Names {
 
 impl Names {
     /// The numbers for the block and the source of a beat of channel A, B or C.
+    #[inline(always)]
     fn message(
         &mut self,
         link: Link,
@@ -145,6 +146,7 @@ impl Names {
     }
 
     /// The numbers for the source and the sink of a beat of channel D.
+    #[inline(always)]
     fn response(&mut self, link: Link, source: u16, sink: u16) -> Result<Option<Named>, AllocError>
         ensures { (w : ℕ) (x : WideBeat w) (t : WideTrace w) → block_named (link, x) ≡ None →
             source_of x ≡ Some source → sink_named (link, x) ≡ Some sink → KnowsNames self.old t →
@@ -163,6 +165,7 @@ impl Names {
     }
 
     /// The number for the sink of a beat of channel E.
+    #[inline(always)]
     fn acknowledgement(&mut self, link: Link, sink: u16) -> Result<Option<Named>, AllocError>
         ensures { (w : ℕ) (x : WideBeat w) (t : WideTrace w) → block_named (link, x) ≡ None →
             source_of x ≡ None → sink_named (link, x) ≡ Some sink → KnowsNames self.old t →
@@ -180,76 +183,54 @@ impl Names {
     }
 }
 
-/// The key of a link's source.
-fn key_of(link: Link, source: u16) -> u32
+/// The key of a source's number on a link.
+#[inline(always)]
+fn key_of(link: Link, source: u8) -> usize
     ensures { result ≡ key_of link source }
 {
-    65536 * u32::from(link.0) + u32::from(source)
+    256 * usize::from(link.0) + usize::from(source)
 }
 
 /// The address under a key, 0 if there is none.
-fn asked_at(asked: &BTreeMap<u32, u64>, key: u32) -> u64
-    ensures { result ≡ asked_found asked.now.entries key }
+#[inline(always)]
+fn asked_at(asked: &Vec<u64>, key: usize) -> u64
+    ensures { result ≡ slice_index_or asked.now.items key 0 }
 {
-    match asked.get(&key) {
+    match asked.get(key) {
         None => 0,
         Some(address) => *address,
     }
 }
 
-/// Makes an entry for a key that has none.
-fn insert_room(asked: &mut BTreeMap<u32, u64>, key: u32) -> Result<(), AllocError>
-    requires { asked_room asked.old.entries key ≡ false }
-    ensures same { (k : ℕ) → asked_found asked.new.entries k ≡ asked_found asked.old.entries k }
-    ensures room { OnOk result (asked_room asked.new.entries key ≡ true) }
+/// Makes room for the addresses of a link's requests. The addresses stay as they were. The error means that there is
+/// no memory left.
+#[inline(always)]
+fn make_room(asked: &mut Vec<u64>, link: Link) -> Result<(), AllocError>
+    ensures same { (k : ℕ) → slice_index_or asked.new.items k 0 ≡ slice_index_or asked.old.items k 0 }
+    ensures room { OnOk result (256 * link.0 + 256 ≤ length asked.new.items) }
 {
-    match asked.insert(key, 0) {
-        Ok(_) => Ok(()),
-        Err(_) => Err(AllocError),
+    let room = 256 * usize::from(link.0) + 256;
+    if asked.len() < room {
+        asked.resize(room, 0)?;
     }
+    Ok(())
 }
 
-/// Makes an entry for a key, and returns the address under it, 0 if there was none. The addresses stay as they were.
-fn make_room(asked: &mut BTreeMap<u32, u64>, key: u32) -> Result<u64, AllocError>
-    ensures same { (k : ℕ) → asked_found asked.new.entries k ≡ asked_found asked.old.entries k }
-    ensures room { OnOk result (asked_room asked.new.entries key ≡ true) }
-    ensures value { IfOk result (λ address. address ≡ asked_found asked.new.entries key) }
+/// Keeps an address under a key.
+#[inline(always)]
+fn keep(asked: &mut Vec<u64>, key: usize, address: u64)
+    requires { key < length asked.old.items }
+    ensures { asked.new.items ≡ slice_set asked.old.items key address }
 {
-    match asked.get(&key) {
-        Some(address) => Ok(*address),
-        None => {
-            insert_room(asked, key)?;
-            Ok(0)
-        }
-    }
-}
-
-/// Keeps an address under a key that has an entry.
-fn keep(asked: &mut BTreeMap<u32, u64>, key: u32, address: u64)
-    requires { asked_room asked.old.entries key ≡ true }
-    ensures { (k : ℕ) → asked_found asked.new.entries k
-        ≡ (if k == key then address else asked_found asked.old.entries k) }
-{
-    let _ = asked.insert(key, address);
-}
-
-/// Keeps an address under a key that has this one.
-fn keep_changed(asked: &mut BTreeMap<u32, u64>, key: u32, before: u64, address: u64)
-    requires room { asked_room asked.old.entries key ≡ true }
-    requires before { before ≡ asked_found asked.old.entries key }
-    ensures { (k : ℕ) → asked_found asked.new.entries k
-        ≡ (if k == key then address else asked_found asked.old.entries k) }
-{
-    if before != address {
-        keep(asked, key, address);
-    }
+    asked[key] = address;
 }
 
 /// The names of a wide trace so far. With them each next beat becomes beats of at most 16 bytes.
 #[derive(Drop)]
 pub struct Narrower {
     names: Names,
-    asked: BTreeMap<u32, u64>,
+    /// The addresses of the last requests, by link and source's number.
+    asked: Vec<u64>,
 }
 
 impl Narrower {
@@ -263,11 +244,12 @@ impl Narrower {
                 sources: no_sources(alloc),
                 sinks: Numbers::from_zero(alloc),
             },
-            asked: BTreeMap::new(alloc),
+            asked: Vec::new(alloc),
         }
     }
 
     /// The numbers for the names of a beat of channel A. Its address is kept for the beats that answer it.
+    #[inline(always)]
     fn request<const W: usize>(
         &mut self,
         link: Link,
@@ -275,16 +257,16 @@ impl Narrower {
     ) -> Result<Option<Named>, AllocError>
         ensures { (t : WideTrace W) → Follows self.old t → IsNumberedBeat link (wide.A beat.now) t result self.new }
     {
-        let key = key_of(link, beat.source);
-        let before = make_room(&mut self.asked, key)?;
+        make_room(&mut self.asked, link)?;
         let Some(named) = self.names.message(link, beat.address, beat.source)? else {
             return Ok(None);
         };
-        keep_changed(&mut self.asked, key, before, beat.address);
+        keep(&mut self.asked, key_of(link, named.source), beat.address);
         Ok(Some(named))
     }
 
     /// The numbers for the names of a beat, and the address of the request that a beat of channel D answers.
+    #[inline(always)]
     fn name<const W: usize>(
         &mut self,
         link: Link,
@@ -297,10 +279,10 @@ impl Narrower {
             WideBeat::B(x) => self.names.message(link, x.address, x.source),
             WideBeat::C(x) => self.names.message(link, x.address, x.source),
             WideBeat::D(x) => {
-                let asked = asked_at(&self.asked, key_of(link, x.source));
                 let Some(named) = self.names.response(link, x.source, x.sink)? else {
                     return Ok(None);
                 };
+                let asked = asked_at(&self.asked, key_of(link, named.source));
                 Ok(Some(Named { asked, ..named }))
             }
             WideBeat::E(x) => self.names.acknowledgement(link, x.sink),
@@ -310,6 +292,7 @@ impl Narrower {
     /// The beats that the next beat of the trace becomes. `None` if it names a block, a source or a sink for which no
     /// number is left. The error means that there is no memory left. In both cases nothing changes. `P` is the smaller
     /// of 16 and `W`.
+    #[inline(always)]
     pub fn narrow<const W: usize, const P: usize>(
         &mut self,
         link: Link,

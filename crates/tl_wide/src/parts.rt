@@ -1,6 +1,7 @@
 //! The parts of a wide beat, of at most 16 bytes each.
 
 ghost use Rattle.std.specs.Prelude.{ℕ, ◌≡◌, ◌≤◌, ◌<◌, ◌+◌, ◌*◌, ◌/◌, ◌^◌, ◌%◌, ◌==◌};
+ghost use Rattle.std.specs.Bool.{OnTrue};
 ghost use Rattle.std.specs.Prelude.{◌||◌, false, if◌then◌else◌, bit_and, is_some};
 ghost use Rattle.tl_beat.specs.statement.Opcode.{a_carries_data, b_carries_data, c_carries_data, d_carries_data};
 ghost use Rattle.tl_wide.specs.statement.Pieces.{carries_of, in_front, left_of, mask_in, piece_of};
@@ -61,6 +62,7 @@ fn reaches<const W: usize, const P: usize>(reach: Reach, part: usize) -> bool
 }
 
 /// The bits of a mask in a part.
+#[inline(always)]
 fn mask_of<const P: usize>(mask: u64, part: usize) -> u16
     requires width { P ≤ 16 }
     requires part { P * part < 64 }
@@ -93,12 +95,25 @@ fn is_clear<const W: usize, const P: usize>(reach: Reach, part: usize) -> bool
     has_part::<W, P>(reach, part) | (mask_of::<P>(reach.mask, part) == 0)
 }
 
+/// Whether a beat has one part, and the mask has no lane beyond it.
+#[inline(always)]
+fn is_within<const W: usize, const P: usize>(mask: u64) -> bool
+    requires width { P ≤ 16 }
+    ensures { OnTrue result ((W ≤ 16) × (mask / 2 ^ P ≡ 0)) }
+{
+    W <= 16 && mask >> P == 0
+}
+
 /// Whether the mask has a lane in no part of the message.
+#[inline(always)]
 fn has_stray<const W: usize, const P: usize>(reach: Reach) -> bool
     requires width { IsWideWidth W }
     requires parts { P ≡ part_width W }
     ensures { result ≡ has_stray W (parts_of W reach.size reach.address) reach.mask }
 {
+    if is_within::<W, P>(reach.mask) {
+        return false;
+    }
     let mut clear = true;
     for part in 0..64 / P {
         clear = is_clear::<W, P>(reach, part) & clear;
@@ -145,6 +160,7 @@ fn lone_mask<const W: usize, const P: usize>(reach: Reach, stray: bool) -> u16
 }
 
 /// The mask of a part.
+#[inline(always)]
 fn shown_mask<const W: usize, const P: usize>(reach: Reach, stray: bool, part: usize) -> u16
     requires width { IsWideWidth W }
     requires parts { P ≡ part_width W }
@@ -159,6 +175,7 @@ fn shown_mask<const W: usize, const P: usize>(reach: Reach, stray: bool, part: u
 }
 
 /// The lanes of a part.
+#[inline(always)]
 fn lanes_of<const W: usize, const P: usize>(lanes: &Option<[u8; W]>, part: usize) -> Option<[u8; P]>
     requires parts { P ≡ part_width W }
     requires part { P * part + P ≤ W }
@@ -177,6 +194,7 @@ fn lanes_of<const W: usize, const P: usize>(lanes: &Option<[u8; W]>, part: usize
 }
 
 /// The opcode of a part of a beat of channel A.
+#[inline(always)]
 fn shown_opcode(stray: bool, opcode: OpA) -> OpA
     ensures value { result ≡ shown_opcode stray opcode }
     ensures carries { a_carries_data result ≡ a_carries_data opcode }
@@ -189,6 +207,7 @@ fn shown_opcode(stray: bool, opcode: OpA) -> OpA
 }
 
 /// One part of a beat.
+#[inline(always)]
 fn piece<const W: usize, const P: usize>(
     beat: &WideBeat<W>,
     named: Named,
@@ -245,6 +264,7 @@ fn piece<const W: usize, const P: usize>(
 }
 
 /// The message of a beat.
+#[inline(always)]
 fn reach_of<const W: usize>(beat: &WideBeat<W>, asked: u64) -> Reach
     ensures size { result.size ≡ size_in beat.now }
     ensures address { result.address ≡ reached_at beat.now asked }
@@ -287,6 +307,7 @@ pub struct Parts {
 
 impl Parts {
     /// All parts of a beat whose names have numbers.
+    #[inline(always)]
     pub(crate) fn new<const W: usize, const P: usize>(beat: &WideBeat<W>, named: Named) -> Self
         requires width { IsWideWidth W }
         requires parts { P ≡ part_width W }
@@ -297,6 +318,22 @@ impl Parts {
             stray: has_stray::<W, P>(reach_of(beat, named.asked)),
             next: 0,
         }
+    }
+
+    /// The part of a beat of at most 16 bytes, its only one.
+    #[inline(always)]
+    fn only<const W: usize, const P: usize>(&mut self, beat: &WideBeat<W>) -> Option<Beat<P>>
+        requires width { IsWideWidth W }
+        requires parts { P ≡ part_width W }
+        requires few { W ≤ 16 }
+        ensures { left_of beat.now self.old ≡ in_front result (left_of beat.now self.new) }
+    {
+        if self.next > 0 {
+            return None;
+        }
+        self.next = 1;
+        let mask = shown_mask::<W, P>(reach_of(beat, 0), self.stray, 0);
+        Some(piece(beat, self.named, self.stray, mask, 0))
     }
 
     /// The part of a beat without data.
@@ -315,11 +352,15 @@ impl Parts {
     }
 
     /// The next part of the beat, which must be the one that these are parts of. `P` is the smaller of 16 and `W`.
+    #[inline(always)]
     pub fn next<const W: usize, const P: usize>(&mut self, beat: &WideBeat<W>) -> Option<Beat<P>>
         requires width { IsWideWidth W }
         requires parts { P ≡ part_width W }
         ensures { left_of beat.now self.old ≡ in_front result (left_of beat.now self.new) }
     {
+        if W <= 16 {
+            return self.only(beat);
+        }
         if !carries(beat) {
             return self.alone(beat);
         }

@@ -104,7 +104,7 @@ fn body<const W: usize>(bytes: &[u8], beat: &mut WideBeat<W>) -> Result<Link, Li
 }
 
 /// A line, by its length and its line feed first.
-#[inline(never)]
+#[inline(always)]
 fn place_line<const W: usize>(line: &[u8], beat: &mut WideBeat<W>) -> Result<Link, LineFault>
     requires { IsWideWidth W }
     ensures read { placed result beat.new ≡ line_at line.now }

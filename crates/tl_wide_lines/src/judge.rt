@@ -25,6 +25,7 @@ pub struct WideJudge<const P: usize> {
 
 /// Judges the parts of a wide beat in turn, up to the first that is at fault. The error means that there is no memory
 /// left.
+#[inline(always)]
 fn push_parts<const W: usize, const P: usize>(
     judge: &mut TraceJudge<P>,
     link: Link,
@@ -60,6 +61,7 @@ impl<const P: usize> WideJudge<P> {
     /// Judges the next wide beat, and takes it if none of its parts is at fault. The first beat beyond a limit of names
     /// is at fault by itself. `P` is the smaller of 16 and `W`. The error means that there is no memory left; then some
     /// of the parts may have been taken.
+    #[inline(always)]
     pub fn push<const W: usize>(
         &mut self,
         link: Link,

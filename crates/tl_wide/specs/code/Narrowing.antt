@@ -1,8 +1,5 @@
 -- What the names of a wide beat become, before it is cut into its parts.
-use Rattle.std.specs.Prelude.{ℕ, ◌≡◌, Bool, false, true, is_some, List, ◌∷◌, Option, Some, None, Result, Ok, Err}
-use Rattle.std.specs.BTreeMap.{is_at}
-use Rattle.std.specs.Map.{lookup}
-use Rattle.std.specs.Ordering.{nat_cmp}
+use Rattle.std.specs.Prelude.{ℕ, ◌≡◌, false, true, ◌∷◌, Option, Some, None, Result, Ok, Err}
 use Rattle.tl_beat.specs.declared.beat.Link.{Link}
 use Rattle.tl_wide.specs.code.Pieces.{pieces_of}
 use Rattle.tl_wide.specs.declared.beat.WideBeat.{WideBeat}
@@ -34,10 +31,6 @@ ResponseNamed link source sink t n =
 
 abbrev pub SinkNamed : {w : ℕ} → ℕ → WideTrace w → Named → Type 0
 SinkNamed sink t n = n.sink ≡ place_in (sinks t) sink
-
--- an address has a key
-abbrev pub asked_room : List (ℕ × ℕ) → ℕ → Bool
-asked_room entries k = is_some (lookup (is_at (nat_cmp k)) entries)
 
 -- the same of a whole beat, with the beats that it becomes
 abbrev pub IsNumberedBeat : {w : ℕ} {E : Type 0} → Link → WideBeat w → WideTrace w → Result (Option Named) E → Narrower

@@ -1,11 +1,8 @@
 -- The state of a narrower after a wide trace, and its answer to the next beat.
 use Rattle.std.specs.Prelude.{ℕ, ◌≡◌, ◌≤◌, ◌<◌, ◌^◌, ◌+◌, ◌*◌, false, true, List, length, Option}
 use Rattle.std.specs.Prelude.{Some, None, Result, Ok, Err, slice_index_or, ◌∷◌}
-use Rattle.std.specs.BTreeMap.{is_at}
-use Rattle.std.specs.Map.{lookup}
-use Rattle.std.specs.Ordering.{nat_cmp}
 use Rattle.tl_beat.specs.declared.beat.Link.{Link}
-use Rattle.tl_wide.specs.statement.Numbers.{KnowsNumbers}
+use Rattle.tl_wide.specs.statement.Numbers.{KnowsNumbers, place_among}
 use Rattle.tl_wide.specs.statement.Pieces.{left_of}
 use Rattle.tl_wide.specs.declared.beat.WideBeat.{WideBeat}
 use Rattle.tl_wide.specs.declared.narrow.Names.{Names}
@@ -31,29 +28,27 @@ pub record KnowsNames {w : ℕ} (names : Names) (t : WideTrace w) : Type 0 where
 
 -- ---- the addresses of requests
 
--- a number, or 0 if there is none
-abbrev pub or_zero : Option ℕ → ℕ
-or_zero None = 0
-or_zero (Some n) = n
-
--- the address under a key, 0 if there is none
-abbrev pub asked_found : List (ℕ × ℕ) → ℕ → ℕ
-asked_found entries k = or_zero (lookup (is_at (nat_cmp k)) entries)
-
--- the key of a source of a link
+-- the key of a source's number on a link
 abbrev pub key_of : Link → ℕ → ℕ
-key_of link source = 65536 * link.0 + source
+key_of link number = 256 * link.0 + number
 
--- the address of the last request with each source of each link is kept
-abbrev pub Asks : {w : ℕ} → List (ℕ × ℕ) → WideTrace w → Type 0
-Asks entries t = (link : Link) (source : ℕ) → source < 2 ^ 16
-    → asked_found entries (key_of link source) ≡ asked_address link source t
+-- the address under the number of a source, 0 if it has none
+abbrev pub asked_under : List ℕ → Link → Option ℕ → ℕ
+asked_under addresses link None = 0
+asked_under addresses link (Some number) = slice_index_or addresses (key_of link number) 0
+
+-- the address of the last request with each source of each link is kept, under the source's number
+pub record Asks {w : ℕ} (addresses : List ℕ) (t : WideTrace w) : Type 0 where
+  pub kept : (link : Link) (source : ℕ)
+      → asked_under addresses link (place_among (sources link.0 t) source) ≡ asked_address link source t
+  pub none : (link : Link) (number : ℕ) → length (sources link.0 t) ≤ number → number < 256
+      → slice_index_or addresses (key_of link number) 0 ≡ 0
 
 -- ---- both
 
 -- the narrower has followed this trace
 abbrev pub Follows : {w : ℕ} → Narrower → WideTrace w → Type 0
-Follows n t = KnowsNames n.names t × Asks n.asked.entries t
+Follows n t = KnowsNames n.names t × Asks n.asked.items t
 
 -- The answer to one more beat: the beats that it becomes, or none if a name has no number left. Then, and on an error,
 -- the narrower still follows the trace without it.

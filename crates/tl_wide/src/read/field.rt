@@ -6,15 +6,43 @@ ghost use Rattle.tl_wide.specs.statement.Width.{IsWideWidth};
 
 use tl_beat::fault::LineFault;
 use tl_beat::lanes::eight_digit_number;
-use tl_beat::read::field::{address as eight_digits, digits, number, space};
+use tl_beat::read::field::{address as eight_digits, digits, number, space, value};
+
+/// A number of four digits and a space, from left to right.
+#[cold]
+#[inline(never)]
+fn any_id(bytes: &[u8]) -> Result<(u16, &[u8]), LineFault>
+    ensures { Gives result (field_at 4 bytes.now) }
+{
+    let (number, rest) = number(bytes, 4)?;
+    Ok((number as u16, rest))
+}
+
+/// A number of four digits and a space, each at its place.
+#[inline(always)]
+fn spelled_id(bytes: &[u8]) -> Option<(u16, &[u8])>
+    ensures { IfSome result (λ read. field_at 4 bytes.now ≡ Ok (read.0, read.1.now)) }
+{
+    let [s3, s2, s1, s0, b' ', rest @ ..] = bytes else {
+        return None;
+    };
+    let (s3, s2, s1, s0) = (value(*s3), value(*s2), value(*s1), value(*s0));
+    if !(((s3 < 16) & (s2 < 16)) & ((s1 < 16) & (s0 < 16))) {
+        return None;
+    }
+    let number = 256 * u16::from(16 * s3 + s2) + u16::from(16 * s1 + s0);
+    Some((number, rest))
+}
 
 /// A number of four digits and a space.
 #[inline(always)]
 pub(crate) fn id(bytes: &[u8]) -> Result<(u16, &[u8]), LineFault>
     ensures { Gives result (field_at 4 bytes.now) }
 {
-    let (number, rest) = number(bytes, 4)?;
-    Ok((number as u16, rest))
+    match spelled_id(bytes) {
+        Some(read) => Ok(read),
+        None => any_id(bytes),
+    }
 }
 
 /// The number of two halves of eight digits each.

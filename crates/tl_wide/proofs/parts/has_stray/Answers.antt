@@ -1,8 +1,15 @@
 use Rattle.std.proofs.Common.{rules, arith, ap, ap₂, not, sym, ◌≡◌, ◌∙◌, ◌/◌}
 use Rattle.std.specs.Prelude.{◌&&◌}
+use Rattle.tl_wide.proofs.OnePart.{none-stray}
 use Rattle.tl_wide.proofs.Reached.{clear-more, clear-none, fills, stray-is}
 use Rattle.tl_wide.specs.statement.Parts.{parts_of}
 use Rattle.tl_wide.proofs.parts.has_stray.Goals as goal
+
+pub returns-then-is_within : goal.returns-then-is_within
+returns-then-is_within g c =
+    let h = rw c.if-is_within.true at c.is_within.ensures in
+    sym (none-stray g.row.W g.row.P c.args.reach.size c.args.reach.address c.args.reach.mask c.requires.width
+    c.requires.parts h.0 h.1)
 
 pub loop-part-init : goal.loop-part-init
 loop-part-init g c = sym (clear-none g.row.P _)

@@ -1,5 +1,7 @@
-use Rattle.std.proofs.Common.{arith, refl, sym, ◌∙◌, ◌<◌, ◌^◌, ◌∷◌}
+use Rattle.std.proofs.Common.{refl, ◌∙◌, ◌∷◌}
 use Rattle.std.proofs.lemmas.Result.{err_from_is_err_and}
+use Rattle.tl_wide.proofs.Asking.{asked-is, asks-kept}
+use Rattle.tl_wide.proofs.Names.{among-sources}
 use Rattle.tl_wide.proofs.Numbering.{ack-e, handed-on, message-b, message-c, named-none, named-some, response-d}
 use Rattle.tl_wide.proofs.Numbering.{skips-b, skips-c, skips-d, skips-e}
 use Rattle.tl_wide.specs.code.Narrowing.{ResponseNamed}
@@ -33,11 +35,12 @@ returns-in-C g c = λ t f.
 
 pub returns-in-Some : goal.returns-in-Some
 returns-in-Some g c = λ t f.
-    let fits : c.in-D.x.source < 2 ^ 16 = omega arith in
     let h = named-some c.args.link (wide.D c.in-D.x) t
     (ResponseNamed c.args.link c.in-D.x.source c.in-D.x.sink ((c.args.link, wide.D c.in-D.x) ∷ t))
     c.in_ok-named-in-D.field-0 c.in-Some.named c.response.new.self c.in-Some.is
     (c.in_ok-named-in-D.ensures g.row.W (wide.D c.in-D.x) t refl refl refl f.0) in
+    let asks = asks-kept c.args.link (wide.D c.in-D.x) t c.args.self.now.asked.items (h.2.few_sources c.args.link.0)
+    (λ l s. skips-d c.args.link l c.in-D.x t s) f.1 in
     let found = rw c.key_of.ensures at c.asked_at-asked.ensures in
     rw c.in-D.is (
       h.0,
@@ -46,9 +49,10 @@ returns-in-Some g c = λ t f.
         sink = c.in-Some.named.sink;
         address = c.in-Some.named.address;
         asked = c.asked_at-asked.result;
-      }) h.1.0 h.1.1 (found ∙ f.1 c.args.link c.in-D.x.source fits
-          ∙ sym (skips-d c.args.link c.args.link c.in-D.x t c.in-D.x.source)),
-      (h.2, λ l s lt. f.1 l s lt ∙ sym (skips-d c.args.link l c.in-D.x t s)),
+      }) h.1.0 h.1.1 (found ∙ asked-is c.args.self.now.asked.items c.args.link c.in-D.x.source c.in-Some.named.source
+          ((c.args.link, wide.D c.in-D.x) ∷ t) asks
+          (among-sources c.args.link (wide.D c.in-D.x) t c.in-D.x.source refl) h.1.0),
+      (h.2, asks),
     )
 
 pub returns-in-E : goal.returns-in-E

@@ -6,5 +6,5 @@ returns c = λ w. nothing-named w (record {
   blocks = c.new.result;
   sources = c.no_sources.result;
   sinks = c.from_zero.result;
-}) c.new-2.result.entries c.no_sources.ensures.long c.new.ensures c.no_sources.ensures.known c.from_zero.ensures
-    c.new-2.ensures.empty
+}) c.new-2.result.items c.no_sources.ensures.long c.new.ensures c.no_sources.ensures.known c.from_zero.ensures
+    c.new-2.ensures.items

@@ -42,7 +42,7 @@ is_quiet (Beat.D x) = false
 is_quiet (Beat.E x) = false
 is_quiet x = true
 
-sink-quiet : {w : ℕ} (i : ℕ) (x : Beat w) (t : History w) → is_quiet x ≡ true
+pub sink-quiet : {w : ℕ} (i : ℕ) (x : Beat w) (t : History w) → is_quiet x ≡ true
     → pending (GrantSink i) (x ∷ t) ≡ pending (GrantSink i) t
 unfolding pending
 sink-quiet i x t e = grind arith
@@ -50,9 +50,13 @@ sink-quiet i x t e = grind arith
 sink_begun : {w : ℕ} (i : ℕ) (m : Message w) (k : ℕ) (t : History w) → is_quiet (beat_of m 0) ≡ true
     → pending (GrantSink i) (begun m k ++ t) ≡ pending (GrantSink i) t
 sink_begun i m zero t e = refl
-sink_begun {w} i m (suc k) t e =
-    let same : (n : Message w) → is_quiet (beat_of n k) ≡ is_quiet (beat_of n 0) = grind arith in
-    sink-quiet i (beat_of m k) (begun m k ++ t) (same m ∙ e) ∙ sink_begun i m k t e
+sink_begun i (Message.A m) (suc k) t e =
+    sink-quiet i (beat_of (Message.A m) k) (begun (Message.A m) k ++ t) refl ∙ sink_begun i (Message.A m) k t e
+sink_begun i (Message.B m) (suc k) t e =
+    sink-quiet i (beat_of (Message.B m) k) (begun (Message.B m) k ++ t) refl ∙ sink_begun i (Message.B m) k t e
+sink_begun i (Message.C m) (suc k) t e =
+    sink-quiet i (beat_of (Message.C m) k) (begun (Message.C m) k ++ t) refl ∙ sink_begun i (Message.C m) k t e
+sink_begun i m (suc k) t e = absurd cc
 
 -- a GrantAck closes its sink
 sink_acked : {w : ℕ} (i : ℕ) (x : BeatE) (t : History w)

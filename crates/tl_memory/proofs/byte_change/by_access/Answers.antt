@@ -13,7 +13,7 @@ pub returns-in-Some : goal.returns-in-Some
 returns-in-Some g c = λ n block asked t k is access here late over message.
     let y = c.args.y.now in
     let link = c.args.link in
-    let there = kept-found link.0 y.source block c.in-Some.access c.args.state.now.outrun.items (outrun_accesses t)
+    let there = kept-found link.0 y.source block c.in-Some.access c.args.state.now.outrun (outrun_accesses t)
     k.outrun_are (rw here at is.outran) (sym c.in-Some.is ∙ c.outrun_of.ensures) in
     settled-change n block c.in-Some.access (link, Beat.D y) t
     (settles-answer link y asked c.in-Some.access there.0 block t is access late
@@ -23,7 +23,7 @@ pub returns-in-None : goal.returns-in-None
 returns-in-None g c = λ n block asked t k is access here late over message.
     let y = c.args.y.now in
     let link = c.args.link in
-    let none = none-kept link.0 y.source block c.args.state.now.outrun.items (outrun_accesses t) k.outrun_are
+    let none = none-kept link.0 y.source block c.args.state.now.outrun (outrun_accesses t) k.outrun_are
     (rw here at is.outran) (sym c.in-None.is ∙ c.outrun_of.ensures) in
     c.by_answer.ensures n block t k (access-untold block y asked (on_link link.0 t) is.answers_it access
     (answer-ends y.opcode asked.opcode is.answers_it)) (answer-over link y asked t is late over)

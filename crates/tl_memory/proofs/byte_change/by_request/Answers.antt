@@ -15,9 +15,9 @@ pub returns-in_default : goal.returns-in_default
 returns-in_default g c = λ n block t k message is here.
     let y = c.args.y.now in
     let link = c.args.link in
-    let unkept : None ≡ outrun_in link.0 y.source c.args.state.now.outrun.items = search rules in
+    let unkept : None ≡ outrun_in link.0 y.source c.args.state.now.outrun = search rules in
     same-request n block link y t (settles-no_request link y t
-    (none-kept link.0 y.source block c.args.state.now.outrun.items (outrun_accesses t) k.outrun_are
+    (none-kept link.0 y.source block c.args.state.now.outrun (outrun_accesses t) k.outrun_are
     (rw here at is.outran) unkept))
 
 pub returns-then-not-both : goal.returns-then-not-both
@@ -26,7 +26,7 @@ returns-then-not-both g c = λ n block t k message is here.
     let link = c.args.link in
     let burst = unfinished Channel.A (on_link link.0 t) in
     let short = few g.row.W (length burst) c.requires.width is.room.0 in
-    let there = kept-found link.0 y.source block c.in-Some.access c.args.state.now.outrun.items (outrun_accesses t)
+    let there = kept-found link.0 y.source block c.in-Some.access c.args.state.now.outrun (outrun_accesses t)
     k.outrun_are (rw here at is.outran) (sym c.in-Some.is ∙ c.outrun_of.ensures) in
     let off : c.both.result ≡ false = search rules in
     let more : (ends (Beat.A y) (on_link link.0 t) && there.0.answered) ≡ false =
@@ -40,7 +40,7 @@ returns g c = λ n block t k message is here.
     let link = c.args.link in
     let burst = unfinished Channel.A (on_link link.0 t) in
     let short = few g.row.W (length burst) c.requires.width is.room.0 in
-    let there = kept-found link.0 y.source block c.in-Some.access c.args.state.now.outrun.items (outrun_accesses t)
+    let there = kept-found link.0 y.source block c.in-Some.access c.args.state.now.outrun (outrun_accesses t)
     k.outrun_are (rw here at is.outran) (sym c.in-Some.is ∙ c.outrun_of.ensures) in
     let on : c.both.result ≡ true = search rules in
     let both = and_parts (ends (Beat.A y) (on_link link.0 t)) c.in-Some.access.answered

@@ -2,6 +2,12 @@ pub mod CommitFaults
 pub mod CommitLines
 pub mod CommitSpelled
 pub mod Pieces
+pub mod AnyTold
+pub mod GivenUp
+pub mod PieceValues
+pub mod TellingLists
+pub mod TableJudged
+pub mod ValuesJudged
 pub mod WorkedCommits
 pub mod WorkedEvents
 pub mod BeatsAlone

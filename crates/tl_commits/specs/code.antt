@@ -1,5 +1,9 @@
+pub mod BlockValues
 pub mod CommitReading
 pub mod FromLeft
 pub mod Giving
+pub mod GivingUp
 pub mod Loading
 pub mod Judging
+pub mod Tellings
+pub mod ValueTable

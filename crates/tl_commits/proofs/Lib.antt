@@ -17,4 +17,5 @@ pub mod Giving
 pub mod AtOnce
 pub mod Loads
 pub mod LoadsNext
-pub mod CopiesJudged
+pub mod BeatsJudged
+pub mod CommitsJudged

@@ -14,14 +14,23 @@ use Rattle.tl_commits.specs.code.BlockValues.{KnowsValues}
 use Rattle.tl_commits.specs.code.GivingUp.{answers_nothing, leaves_trunk}
 use Rattle.tl_commits.specs.code.ValueTable.{IsNext, KnowsKept, KnowsTable, values_in}
 use Rattle.tl_commits.specs.declared.block_values.BlockValues.{BlockValues}
+use Rattle.tl_commits.specs.declared.commit.Commit.TheVariants as commit
+use Rattle.tl_commits.specs.declared.commit.Piece.{Piece}
 use Rattle.tl_commits.specs.declared.commit.Event.{Event}
 use Rattle.tl_commits.specs.declared.commit.Event.TheVariants as event
 use Rattle.tl_commits.specs.statement.Copies.{link_beats}
-use Rattle.tl_commits.specs.statement.Events.{Events, beats_of}
-use Rattle.tl_commits.specs.statement.Seen.{asks_nothing, is_plain_ack, loses_stores, memory_may, seen, Seen}
+use Rattle.tl_commits.specs.statement.Events.{Events}
+unfoldable use Rattle.tl_commits.specs.statement.Events.{beats_of}
+use Rattle.tl_commits.specs.statement.Seen.{asks_nothing, is_plain_ack, loses_stores, Seen}
+unfoldable use Rattle.tl_commits.specs.statement.Seen.{memory_may, seen}
 use Rattle.tl_rules.specs.statement.OpenMessages.{open_probe}
 use Rattle.tl_commits.proofs.ValuesJudged.{and-none, memory-kept, seen-kept, values-kept}
 use Rattle.std.specs.Prelude.{length}
+use Rattle.std.proofs.Common.{[], arith, zero, suc}
+use Rattle.tl_rules.specs.statement.Legality.{each_below}
+use Rattle.tl_commits.specs.code.Judging.{HasPut}
+use Rattle.tl_commits.specs.code.ValueTable.{IsUntouched}
+use Rattle.tl_commits.specs.statement.Commits.{is_clean, is_kept}
 
 same-some : {X : Type 0} {a b : X} → Some a ≡ Some b → a ≡ b
 same-some e = cc
@@ -133,3 +142,42 @@ next-put old new complete n own v x e is put block = elim (cases_Bool (block == 
       rw (put block, here) (rw same is.1)
   | inr apart ↦ rw (put block, apart) (is.2 block apart)
 ]
+
+-- ---- stored bytes that memory may have
+
+-- none of a block without values was stored
+each-passes : (count : ℕ) (test : ℕ → Bool) → ((i : ℕ) → i < count → test i ≡ true) → each_below count test ≡ true
+unfolding each_below
+each-passes zero test passes = refl
+each-passes (suc count) test passes =
+    rw (passes count (omega arith), each-passes count test (λ i lt. passes i (omega (arith, lt)))) refl
+
+pub untouched-clean : {w : ℕ} (complete : List Bool) (n block : ℕ) (e : Events w) → IsUntouched complete n block e
+    → true ≡ is_clean complete n block e
+untouched-clean complete n block e k =
+    sym (each-passes 64 (λ place. is_kept complete n (64 * block + place) e) (λ p lt. rw ((k p lt).0) refl))
+
+-- before the trace no block has values
+pub table-first : (w : ℕ) (entries : List (ℕ × BlockValues)) (complete : List Bool) (n : ℕ) → entries ≡ []
+    → KnowsTable {w = w} entries complete n []
+unfolding seen memory_may beats_of
+table-first w entries complete n none block = rw none (λ p lt. (refl, refl))
+
+-- with the values of one block, or of none
+pub table-recorded : {w : ℕ} (old new : List (ℕ × BlockValues)) (complete : List Bool) (n : ℕ)
+    (next : Option (ℕ × BlockValues)) (x : Link × Event w) (e : Events w) → HasPut old new next
+    → IsNext next old complete n x e → KnowsTable new complete n (x ∷ e)
+table-recorded old new complete n None x e put is = rw put is
+table-recorded old new complete n (Some (own, v)) x e put is = next-put old new complete n own v x e is (put is.0)
+
+-- the beginning of a load changes none
+pub table-begun : {w : ℕ} (entries : List (ℕ × BlockValues)) (complete : List Bool) (n : ℕ) (link : Link)
+    (piece : Piece) (e : Events w) → KnowsTable entries complete n e
+    → KnowsTable entries complete n ((link, event.Commit (commit.Begin piece)) ∷ e)
+unfolding seen beats_of
+table-begun entries complete n link piece e k block = go (values_in entries block) (k block)
+  where
+    go : (o : Option BlockValues) → KnowsKept o complete n block e
+        → KnowsKept o complete n block ((link, event.Commit (commit.Begin piece)) ∷ e)
+    go None known = λ p lt. ((known p lt).0, (known p lt).1)
+    go (Some v) known = record { seen_is = known.seen_is; stored_is = known.stored_is; memory_is = known.memory_is }

@@ -1,6 +1,6 @@
 //! Beats that take Trunk of a block away without data.
 
-ghost use Rattle.std.specs.Prelude.{List, false, not, None, Some, ◌≡◌, ◌<◌, ◌&&◌, if◌then◌else◌, length};
+ghost use Rattle.std.specs.Prelude.{Bool, List, false, not, None, Some, ◌≡◌, ◌<◌, ◌&&◌, if◌then◌else◌, length};
 ghost use Rattle.tl_beat.specs.declared.beat.Beat.TheVariants as beat;
 ghost use Rattle.tl_params.specs.declared.level.Level.{Level};
 ghost use Rattle.tl_params.specs.declared.liberties.Liberties.{Liberties};
@@ -8,15 +8,17 @@ ghost use Rattle.tl_params.specs.declared.perm.Perm.TheVariants as trunk;
 ghost use Rattle.tl_rules.specs.statement.Conformance.{same_perm};
 ghost use Rattle.tl_together.specs.statement.Knows.{Knows};
 ghost use Rattle.tl_commits.specs.code.GivingUp as code;
+ghost use Rattle.tl_commits.specs.code.ValueTable.{KnowsTable};
 ghost use Rattle.tl_commits.specs.statement.Commits;
 ghost use Rattle.tl_commits.specs.statement.Copies;
 ghost use Rattle.tl_commits.specs.statement.Copies.{link_beats};
 ghost use Rattle.tl_commits.specs.statement.Events.{Events, beats_of};
 ghost use Rattle.tl_commits.specs.statement.Seen;
 
+use crate::value_table::ValueTable;
 use tl_beat::beat::{Beat, BeatC, Link};
 use tl_beat::opcode::{OpB, OpC};
-use tl_memory::message::both;
+use tl_memory::message::{both, either};
 use tl_memory::passing::acquires_from_none;
 use tl_rules::key::block_at;
 use tl_rules::kind::reported;
@@ -109,5 +111,25 @@ pub(crate) fn takes_trunk<const W: usize>(
             block_if(both(leaves_trunk(judge, link, x), !wanted), block_at(x.address))
         }
         _ => None,
+    }
+}
+
+/// Whether a beat without data loses no stored byte, if `complete` says whether all stores of its link are in the trace.
+pub(crate) fn keeps_stores<const W: usize>(
+    judge: &Judge<W>,
+    table: &ValueTable,
+    complete: bool,
+    link: Link,
+    beat: &Beat<W>,
+) -> bool
+    ensures { (levels : List Level) (l : Liberties) (of_links : List Bool) (e : Events W) →
+        Knows judge.now levels l (beats_of e) false → link.0 < length levels →
+        KnowsTable table.now of_links (length levels) e → complete ≡ Copies.is_complete of_links link.0 →
+        result ≡ Commits.keeps_stores of_links (length levels) link.0
+        (Commits.takes_trunk beat.now (link_beats link.0 e)) e }
+{
+    match takes_trunk(judge, link, beat) {
+        None => true,
+        Some(block) => either(!complete, table.is_clean(block)),
     }
 }

@@ -2,6 +2,7 @@
 
 ghost use Rattle.std.specs.Prelude.{ℕ, Bool, List, Some, true, if◌then◌else◌, ◌==◌, ◌≡◌, [], is_some, option_copied, OnOk};
 ghost use Rattle.tl_commits.specs.code.ValueTable.{KnowsTable, values_in};
+ghost use Rattle.tl_commits.specs.statement.Commits;
 ghost use Rattle.tl_commits.specs.statement.Events.{Events};
 
 use crate::block_values::BlockValues;
@@ -64,6 +65,17 @@ impl ValueTable {
     {
         if let Some(there) = self.blocks.get_mut(&block) {
             *there = values;
+        }
+    }
+
+    /// Whether each byte of a block that was stored may have a value that memory may have.
+    pub fn is_clean(&self, block: u32) -> bool
+        ensures { (w : ℕ) (complete : List Bool) (n : ℕ) (e : Events w) → KnowsTable self.now complete n e →
+            result ≡ Commits.is_clean complete n block e }
+    {
+        match self.get(block) {
+            None => true,
+            Some(values) => values.is_clean(),
         }
     }
 }

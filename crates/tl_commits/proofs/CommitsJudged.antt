@@ -1,9 +1,9 @@
--- The answers of a judge of copies, and the loads that it keeps with them.
-use Rattle.std.proofs.Common.{◌≡◌, ◌<◌, ℕ, Bool, true, false, ◌&&◌, ◌||◌, List, refl, ◌∙◌, find}
+-- The answers of a judge to commits, and the loads that it keeps with them.
+use Rattle.std.proofs.Common.{◌≡◌, ◌<◌, ℕ, Bool, true, false, ◌&&◌, ◌||◌, List, refl, sym, ◌∙◌, find}
 use Rattle.std.proofs.Common.{inl, inr, length, slice_get}
 use Rattle.std.proofs.lemmas.Option.{slice_get_cases}
 use Rattle.tl_params.specs.declared.level.Level.{Level}
-use Rattle.std.specs.Prelude.{if◌then◌else◌, Option, Some, None, Err, is_none}
+use Rattle.std.specs.Prelude.{if◌then◌else◌, Option, Some, None, Err, is_none, is_some}
 use Rattle.tl_beat.specs.declared.beat.Link.{Link}
 use Rattle.tl_together.specs.declared.breach.Breach.{Breach}
 use Rattle.tl_together.specs.declared.fault.JudgeFault.{JudgeFault}
@@ -20,7 +20,7 @@ use Rattle.tl_commits.specs.statement.Breaches.{breach_of, has_cache}
 use Rattle.tl_commits.specs.statement.CommitLine.{IsPiece}
 use Rattle.tl_commits.specs.statement.Commits.{is_piece_loadable, lacks_copy}
 use Rattle.tl_commits.specs.statement.Events.{Events, is_loading, since_begun}
-use Rattle.tl_commits.specs.statement.Knows.{Answers, CopiesFirst, broken_copy, lacking}
+use Rattle.tl_commits.specs.statement.Knows.{Answers, CommitsFirst, broken_by_judge, lacking}
 use Rattle.tl_commits.specs.statement.Breaches.{broken_event}
 use Rattle.tl_commits.specs.statement.Commits.{broken_commit}
 use Rattle.tl_commits.specs.declared.commit.Commit.{Commit}
@@ -44,6 +44,11 @@ was-is : {w : ℕ} (o : Option Loading) (link : ℕ) (piece : Piece) (e : Events
 was-is None link piece e is = rw is refl
 was-is (Some y) link piece e is = rw is.0 is.1
 
+pub begun-is : {w : ℕ} (o : Option Loading) (link : ℕ) (piece : Piece) (e : Events w) → IsLoading o link piece e
+    → is_some o ≡ is_loading link piece e
+begun-is None link piece e is = sym is
+begun-is (Some y) link piece e is = sym is.0
+
 -- M5 of a load
 pub load-judged : {w : ℕ} (link : ℕ) (piece : Piece) (e : Events w) (loads : List Loading) (could : Bool)
     (rule : Option CommitRule) → rule ≡ (if could then None else Some M5)
@@ -63,23 +68,6 @@ pieces-begun n from own (Some y) old mid is lt piece are =
     rw (all-restarted from.0 own old mid is) (pieces-map n (restarted from.0 own) (restarted-link from.0 own)
     (restarted-piece from.0 own) old are)
 
--- ---- beats
-
-pub beat-refused : (o : Option Breach) (f : JudgeFault) → together.Answers (broken o) (Err f)
-    → Answers (breach_of o None) (Err (of_judge f))
-beat-refused None judge.Levels is = absurd cc
-beat-refused (Some breach) judge.Levels is = absurd cc
-beat-refused None (judge.Broken found) is = absurd cc
-beat-refused (Some breach) (judge.Broken found) is =
-    let same : breach ≡ found = cc in
-    rw same refl
-beat-refused o judge.Memory is = tt
-beat-refused o judge.Closed is = tt
-
-pub beat-taken : (o : Option Breach) → broken o ≡ None → breach_of o None ≡ None
-beat-taken None is = refl
-beat-taken (Some breach) is = absurd cc
-
 -- a link that has a cache is one of those that have a level
 pub cache-below : (levels : List Level) (link : ℕ) → has_cache (slice_get levels link) ≡ true → link < length levels
 cache-below levels link e = elim (slice_get_cases levels link).1 [
@@ -93,8 +81,8 @@ cache-below levels link e = elim (slice_get_cases levels link).1 [
 
 -- ---- all rules
 
-pub copies-first : (w : ℕ) → CopiesFirst w
-copies-first w = λ levels complete l link x e. go (has_cache (slice_get levels link.0)) levels complete l link x e refl
+pub commits-first : (w : ℕ) → CommitsFirst w
+commits-first w = λ levels complete l link x e. go (has_cache (slice_get levels link.0)) levels complete l link x e refl
   where
     load : (lacks wrong : Bool)
         → ((breach : CommitBreach) → breach_of None (if lacks then Some M5 else None) ≡ Some breach
@@ -116,9 +104,9 @@ copies-first w = λ levels complete l link x e. go (has_cache (slice_get levels 
 
     go : (b : Bool) (levels : List Level) (complete : List Bool) (l : Liberties) (link : Link) (x : Commit) (e : Events w)
         → has_cache (slice_get levels link.0) ≡ b
-        → ((breach : CommitBreach) → broken_copy levels l link (event.Commit x) e ≡ Some breach
+        → ((breach : CommitBreach) → broken_by_judge levels complete l link (event.Commit x) e ≡ Some breach
         → broken_event levels complete l link (event.Commit x) e ≡ Some breach)
         × (broken_event levels complete l link (event.Commit x) e ≡ Some (OfCommits M5)
-        → broken_copy levels l link (event.Commit x) e ≡ Some (OfCommits M5))
+        → broken_by_judge levels complete l link (event.Commit x) e ≡ Some (OfCommits M5))
     go true levels complete l link x e has = rw has (by levels complete link x e)
     go false levels complete l link x e none = rw none (λ breach f. f, λ f. absurd cc)

@@ -23,20 +23,28 @@ use Rattle.tl_commits.specs.declared.judge.CommitJudge.{CommitJudge}
 use Rattle.tl_commits.specs.declared.rule.CommitRule.{CommitRule}
 use Rattle.tl_commits.specs.declared.rule.CommitRule.TheVariants.{M7}
 use Rattle.tl_commits.specs.statement.Breaches.{breach_of}
-use Rattle.tl_commits.specs.statement.Commits.{keeps_stores, takes_trunk}
+use Rattle.tl_commits.specs.statement.Commits.{broken_report, gives_truly, keeps_stores, takes_trunk}
+use Rattle.tl_commits.specs.code.GivingBack.{carries}
+use Rattle.tl_beat.specs.declared.beat.BeatC.{BeatC}
 use Rattle.tl_commits.specs.statement.Copies.{link_beats}
 use Rattle.tl_commits.specs.statement.Events.{Events, beats_of}
-use Rattle.tl_commits.specs.statement.Knows.{Answers, broken_bare, carries, JudgesBare, KnowsCommits}
+use Rattle.tl_commits.specs.statement.Knows.{Answers, JudgesBeatsButResponses, KnowsCommits}
 
--- M7 of a beat without data
-pub bare-report : {w : ℕ} (complete : List Bool) (n link : ℕ) (x : Beat w) (e : Events w) → carries x ≡ false
+-- M7 of a beat that has no data on channel C
+pub report-bare : {w : ℕ} (complete : List Bool) (n link : ℕ) (x : Beat w) (e : Events w) → carries x ≡ false
     → (if keeps_stores complete n link (takes_trunk x (link_beats link e)) e then None else Some M7)
-    ≡ broken_bare complete n link x e
-bare-report complete n link (Beat.C x) e bare = rw bare refl
-bare-report complete n link (Beat.A x) e bare = refl
-bare-report complete n link (Beat.B x) e bare = refl
-bare-report complete n link (Beat.D x) e bare = refl
-bare-report complete n link (Beat.E x) e bare = refl
+    ≡ broken_report complete n link x e
+report-bare complete n link (Beat.C x) e bare = rw bare refl
+report-bare complete n link (Beat.A x) e bare = refl
+report-bare complete n link (Beat.B x) e bare = refl
+report-bare complete n link (Beat.D x) e bare = refl
+report-bare complete n link (Beat.E x) e bare = refl
+
+-- and of one that has
+pub report-full : {w : ℕ} (complete : List Bool) (n link : ℕ) (x : BeatC w) (e : Events w) (keeps : Bool)
+    → keeps ≡ gives_truly complete n link x e → c_carries_data x.opcode ≡ true
+    → (if keeps then None else Some M7) ≡ broken_report complete n link (Beat.C x) e
+report-full complete n link x e keeps is on = rw (on, is) refl
 
 -- the judge of beats was asked
 pub judge-asked : {w : ℕ} (old new : CommitJudge w) (levels : List Level) (complete : List Bool) (l : Liberties)
@@ -99,12 +107,12 @@ refused-beat (Some breach) rule (Some other) f is same = is
 
 -- ---- all rules
 
-pub bare-judged : (w : ℕ) → JudgesBare w
-bare-judged w levels complete l link (Beat.A x) e other bare = refl
-bare-judged w levels complete l link (Beat.B x) e other bare = refl
-bare-judged w levels complete l link (Beat.C x) e other bare = rw bare refl
-bare-judged w levels complete l link (Beat.D x) e other bare = absurd cc
-bare-judged w levels complete l link (Beat.E x) e other bare = refl
+pub no-responses : (w : ℕ) → JudgesBeatsButResponses w
+no-responses w levels complete l link (Beat.A x) e other = refl
+no-responses w levels complete l link (Beat.B x) e other = refl
+no-responses w levels complete l link (Beat.C x) e other = refl
+no-responses w levels complete l link (Beat.D x) e other = absurd cc
+no-responses w levels complete l link (Beat.E x) e other = refl
 
 pub none-broken : (o : Option Breach) → o ≡ None → broken o ≡ None
 none-broken None e = refl

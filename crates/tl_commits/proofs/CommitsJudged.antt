@@ -1,5 +1,5 @@
 -- The answers of a judge to commits, and the loads that it keeps with them.
-use Rattle.std.proofs.Common.{◌≡◌, ◌<◌, ℕ, Bool, true, false, ◌&&◌, ◌||◌, List, refl, sym, ◌∙◌, find}
+use Rattle.std.proofs.Common.{◌≡◌, ◌<◌, ℕ, Bool, true, false, ◌&&◌, ◌||◌, List, refl, sym, subst, ◌∙◌, find}
 use Rattle.std.proofs.Common.{inl, inr, length, slice_get}
 use Rattle.std.proofs.lemmas.Option.{slice_get_cases}
 use Rattle.tl_params.specs.declared.level.Level.{Level}
@@ -10,7 +10,8 @@ use Rattle.tl_together.specs.declared.fault.JudgeFault.{JudgeFault}
 use Rattle.tl_together.specs.declared.fault.JudgeFault.TheVariants as judge
 use Rattle.tl_together.specs.statement.Knows.{broken}
 use Rattle.tl_together.specs.statement.Knows as together
-use Rattle.tl_commits.specs.code.Judging.{of_judge}
+use Rattle.tl_commits.specs.code.Judging.{of_rule}
+use Rattle.tl_commits.specs.declared.fault.CommitFault.{CommitFault}
 use Rattle.tl_commits.specs.code.Loading.{ArePieces, IsBegun, IsLoading, begun, is_of, was_loadable}
 use Rattle.tl_commits.specs.declared.commit.Piece.{Piece}
 use Rattle.tl_commits.specs.declared.loading.Loading.{Loading}
@@ -67,6 +68,11 @@ pieces-begun n from own None old mid is lt piece are = rw is (pieces-more n (beg
 pieces-begun n from own (Some y) old mid is lt piece are =
     rw (all-restarted from.0 own old mid is) (pieces-map n (restarted from.0 own) (restarted-link from.0 own)
     (restarted-piece from.0 own) old are)
+
+-- a commit that breaks this rule
+pub commit-refused : (wrong found : Option CommitRule) (rule : CommitRule) (f : CommitFault) → found ≡ wrong
+    → found ≡ Some rule → f ≡ of_rule rule → Answers (breach_of None wrong) (Err f)
+commit-refused wrong found rule f same is of = subst (λ o. Answers (breach_of None o) (Err f)) (sym is ∙ same) (rw of refl)
 
 -- a link that has a cache is one of those that have a level
 pub cache-below : (levels : List Level) (link : ℕ) → has_cache (slice_get levels link) ≡ true → link < length levels

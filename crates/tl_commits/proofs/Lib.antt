@@ -3,6 +3,8 @@ pub mod CommitLines
 pub mod CommitSpelled
 pub mod Pieces
 pub mod AnyTold
+pub mod Bringing
+pub mod GivenBack
 pub mod GivenUp
 pub mod PieceValues
 pub mod TellingLists

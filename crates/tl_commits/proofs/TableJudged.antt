@@ -28,6 +28,8 @@ use Rattle.tl_commits.proofs.ValuesJudged.{and-none, memory-kept, seen-kept, val
 use Rattle.std.specs.Prelude.{length}
 use Rattle.std.proofs.Common.{[], arith, zero, suc}
 use Rattle.tl_rules.specs.statement.Legality.{each_below}
+use Rattle.tl_bytes.specs.statement.Bytes.{told_as}
+use Rattle.tl_commits.specs.statement.Seen.{values_seen}
 use Rattle.tl_commits.specs.code.Judging.{HasPut}
 use Rattle.tl_commits.specs.code.ValueTable.{IsUntouched}
 use Rattle.tl_commits.specs.statement.Commits.{is_clean, is_kept}
@@ -181,3 +183,8 @@ table-begun entries complete n link piece e k block = go (values_in entries bloc
         → KnowsKept o complete n block ((link, event.Commit (commit.Begin piece)) ∷ e)
     go None known = λ p lt. ((known p lt).0, (known p lt).1)
     go (Some v) known = record { seen_is = known.seen_is; stored_is = known.stored_is; memory_is = known.memory_is }
+
+-- a byte of a block without values may be any
+pub untouched-seen : {w : ℕ} (complete : List Bool) (n block p v : ℕ) (e : Events w) → IsUntouched complete n block e
+    → p < 64 → true ≡ told_as v (values_seen complete n (64 * block + p) e)
+untouched-seen complete n block p v e k lt = ap (λ (s : Seen). told_as v s.values) (sym (k p lt).0)

@@ -2,6 +2,7 @@ pub mod BlockValues
 pub mod CommitReading
 pub mod FromLeft
 pub mod Giving
+pub mod GivingBack
 pub mod GivingUp
 pub mod Loading
 pub mod Judging

@@ -6,6 +6,7 @@ ghost use Rattle.tl_beat.specs.declared.beat.Link.{Link};
 ghost use Rattle.tl_beat.specs.statement.Width.{IsWidth};
 ghost use Rattle.tl_params.specs.declared.level.Level.{Level};
 ghost use Rattle.tl_params.specs.declared.liberties.Liberties.{Liberties};
+ghost use Rattle.tl_memory.specs.statement.Links.{KeepsRules};
 ghost use Rattle.tl_together.specs.statement.Coherence.{broken_together};
 ghost use Rattle.tl_commits.specs.code.BlockValues.{says_piece};
 ghost use Rattle.tl_commits.specs.code.Judging as code;
@@ -18,12 +19,12 @@ ghost use Rattle.tl_commits.specs.statement.Commits;
 ghost use Rattle.tl_commits.specs.statement.Copies.{is_complete};
 ghost use Rattle.tl_commits.specs.statement.Events.{Events, beats_of};
 ghost use Rattle.tl_commits.specs.statement.Knows.{Answers, recorded_after};
-ghost use Rattle.tl_commits.specs.statement.Knows as knows;
 
 use crate::block_values::BlockValues;
 use crate::commit::{Commit, Event, Piece};
 use crate::commits::{broken_store, unless};
 use crate::fault::CommitFault;
+use crate::giving_back::{carrier, gives_truly};
 use crate::giving_up::{holds_trunk, keeps_stores};
 use crate::loading::{Loading, begin, could_load, forget, has_begun, renew};
 use crate::next_values::next_values;
@@ -42,7 +43,7 @@ use tl_together::fault::JudgeFault;
 use tl_together::judge::Judge;
 
 /// Judges beats and commits of up to 16 links of one manager, in the order in which they were seen: beats by the rules of
-/// beats alone, and by M7 if they have no data on channel C; commits by L1 and M5. It keeps the possible values of the
+/// beats alone and by M7, commits by L1 and M5. It keeps the possible values of the
 /// bytes of blocks, and the loads that have begun, and no event.
 #[derive(Drop)]
 pub struct CommitJudge<const W: usize> {
@@ -86,16 +87,6 @@ fn is_complete(complete: &Vec<bool>, link: Link) -> bool
     }
 }
 
-/// Whether a beat has data on channel C.
-fn carries<const W: usize>(beat: &Beat<W>) -> bool
-    ensures { result ≡ knows.carries beat.now }
-{
-    match beat {
-        Beat::C(x) => x.opcode.carries_data(),
-        _ => false,
-    }
-}
-
 /// M7, unless a beat keeps it.
 fn unless_kept(keeps: bool) -> Option<CommitRule>
     ensures { result ≡ (if keeps then None else Some M7) }
@@ -113,7 +104,7 @@ fn of_rule(rule: CommitRule) -> CommitFault
 impl<const W: usize> CommitJudge<W> {
     ghost use Rattle.tl_commits.specs.declared.commit.Event.TheVariants as event;
     ghost use Rattle.tl_commits.specs.declared.commit.Commit.TheVariants as commit;
-    ghost use Rattle.tl_commits.specs.statement.Knows.{IsEvent, IsNew, KnowsCommits, broken_bare, broken_by_judge};
+    ghost use Rattle.tl_commits.specs.statement.Knows.{IsEvent, IsNew, KnowsCommits, broken_by_judge};
 
     /// A judge of links of these levels and with these liberties, which has seen no event. `complete` says for each link
     /// whether all its stores will be in the trace. The error is `Levels` unless there are 1 to 16 levels, or `Memory`.
@@ -147,16 +138,17 @@ impl<const W: usize> CommitJudge<W> {
         })
     }
 
-    /// M7, if a beat without data on channel C breaks it.
-    fn broken_bare(&self, link: Link, beat: &Beat<W>) -> Option<CommitRule>
+    /// M7, if a beat breaks it.
+    fn broken_report(&self, link: Link, beat: &Beat<W>) -> Option<CommitRule>
+        requires { IsWidth W }
         ensures { (levels : List Level) (complete : List Bool) (l : Liberties) (e : Events W) →
-            KnowsCommits self.now levels complete l e → link.0 < length levels →
-            result ≡ broken_bare complete (length levels) link.0 beat.now e }
+            KnowsCommits self.now levels complete l e → KeepsRules l levels (link, beat.now) (beats_of e) →
+            result ≡ Commits.broken_report complete (length levels) link.0 beat.now e }
     {
-        if carries(beat) {
-            return None;
-        }
         let complete = is_complete(&self.complete, link);
+        if let Some(x) = carrier(beat) {
+            return unless_kept(gives_truly(&self.judge, &self.values, complete, link, x));
+        }
         unless_kept(keeps_stores(&self.judge, &self.values, complete, link, beat))
     }
 
@@ -197,7 +189,7 @@ impl<const W: usize> CommitJudge<W> {
             KnowsCommits self.old levels complete l e →
             KnowsCommits self.new levels complete l (recorded_after result (link, event.Beat beat.now) e) }
     {
-        if let Some(rule) = self.broken_bare(link, beat) {
+        if let Some(rule) = self.broken_report(link, beat) {
             return Err(self.refused(rule, link, beat));
         }
         let Ok(next) = next_values(self.alloc, &self.judge, &mut self.values, link, beat) else {

@@ -2,11 +2,13 @@
 #![tactic(auto)]
 
 mod block_values;
+mod bringing;
 pub mod commit;
 pub mod commits;
 mod common;
 mod copies;
 pub mod fault;
+mod giving_back;
 mod giving_up;
 pub mod judge;
 pub mod law;

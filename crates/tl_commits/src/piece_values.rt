@@ -35,7 +35,7 @@ use tl_rules::key::block_at;
 use tl_together::judge::Judge;
 
 /// The bytes of a value, the lowest first, and others after them.
-fn spread(value: u64) -> [u8; 64]
+pub(crate) fn spread(value: u64) -> [u8; 64]
     ensures { (j : ℕ) → j < 8 → slice_index result j ≡ byte_of value j }
 {
     let mut bytes = [0; 64];

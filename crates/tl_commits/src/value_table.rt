@@ -1,6 +1,7 @@
 //! The possible values of the bytes of all blocks.
 
-ghost use Rattle.std.specs.Prelude.{ℕ, Bool, List, Some, true, if◌then◌else◌, ◌==◌, ◌≡◌, [], is_some, option_copied, OnOk};
+ghost use Rattle.std.specs.Prelude.{ℕ, Bool, List, Some, true, if◌then◌else◌, ◌==◌, ◌+◌, ◌*◌, ◌<◌, ◌≡◌, [], is_some, option_copied, OnOk};
+ghost use Rattle.tl_commits.specs.code.GivingBack.{is_seen};
 ghost use Rattle.tl_commits.specs.code.ValueTable.{KnowsTable, values_in};
 ghost use Rattle.tl_commits.specs.statement.Commits;
 ghost use Rattle.tl_commits.specs.statement.Events.{Events};
@@ -9,6 +10,7 @@ use crate::block_values::BlockValues;
 use std::alloc::{AllocError, Global};
 use std::collections::BTreeMap;
 use std::marker::Model;
+use tl_bytes::tellings::is_told_as;
 
 /// The possible values of the bytes of blocks. A block without values is as before the trace.
 #[derive(Drop)]
@@ -76,6 +78,20 @@ impl ValueTable {
         match self.get(block) {
             None => true,
             Some(values) => values.is_clean(),
+        }
+    }
+
+    /// Whether this byte is a possible value of the byte at a place of a block.
+    pub fn is_seen(&self, block: u32, place: usize, byte: u8) -> bool
+        ensures { (w : ℕ) (complete : List Bool) (n : ℕ) (e : Events w) → KnowsTable self.now complete n e →
+            place < 64 → result ≡ is_seen complete n e (64 * block + place) byte }
+    {
+        if place >= 64 {
+            return true;
+        }
+        match self.get(block) {
+            None => true,
+            Some(values) => is_told_as(values.seen.as_slice(), place as u8, byte),
         }
     }
 }

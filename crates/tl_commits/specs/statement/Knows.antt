@@ -4,7 +4,6 @@ use Rattle.std.specs.Prelude.{slice_get}
 use Rattle.tl_beat.specs.declared.beat.Beat.{Beat}
 use Rattle.tl_beat.specs.declared.beat.Beat.TheVariants as beat
 use Rattle.tl_beat.specs.declared.beat.Link.{Link}
-use Rattle.tl_beat.specs.statement.Opcode.{c_carries_data}
 use Rattle.tl_params.specs.declared.level.Level.{Level}
 use Rattle.tl_params.specs.declared.liberties.Liberties.{Liberties}
 use Rattle.tl_params.specs.declared.rule.Rule.TheVariants.{L1}
@@ -36,21 +35,12 @@ lacking link (commit.Store piece value) e = broken_store link.0 piece e
 lacking link (commit.Load piece value) e = if lacks_copy link.0 piece e then Some M5 else None
 lacking link (commit.Begin piece) e = None
 
--- the beat has data on channel C
-abbrev pub carries : {w : ℕ} → Beat w → Bool
-carries (beat.C x) = c_carries_data x.opcode
-carries _ = false
-
--- M7, if a beat without data breaks it
-abbrev pub broken_bare : {w : ℕ} → List Bool → ℕ → ℕ → Beat w → Events w → Option CommitRule
-broken_bare complete n link x e = if carries x then None else broken_report complete n link x e
-
--- The first of the judge's rules that an event breaks. Of a beat they are the rules of beats alone, and then M7 if it has no
--- data; of a commit L1 and M5.
+-- The first of the judge's rules that an event breaks: of a beat, the rules of beats alone, and then M7; of a commit L1 and
+-- M5.
 abbrev pub broken_by_judge :
     {w : ℕ} → List Level → List Bool → Liberties → Link → Event w → Events w → Option CommitBreach
 broken_by_judge levels complete l link (event.Beat x) e =
-    breach_of (broken_together levels l (link, x) (beats_of e)) (broken_bare complete (length levels) link.0 x e)
+    breach_of (broken_together levels l (link, x) (beats_of e)) (broken_report complete (length levels) link.0 x e)
 broken_by_judge levels complete l link (event.Commit x) e =
     if has_cache (slice_get levels link.0) then breach_of None (lacking link x e) else Some (OfBeats (OfLink L1))
 
@@ -67,10 +57,10 @@ abbrev pub is_response : {w : ℕ} → Beat w → Bool
 is_response (beat.D x) = true
 is_response _ = false
 
--- A beat that is no response and has no data on channel C breaks the same rule by these rules and by all.
-abbrev pub JudgesBare : ℕ → Type 0
-JudgesBare w = (levels : List Level) (complete : List Bool) (l : Liberties) (link : Link) (x : Beat w) (e : Events w)
-    → is_response x ≡ false → carries x ≡ false
+-- A beat that is no response breaks the same rule by these rules and by all.
+abbrev pub JudgesBeatsButResponses : ℕ → Type 0
+JudgesBeatsButResponses w = (levels : List Level) (complete : List Bool) (l : Liberties) (link : Link) (x : Beat w)
+    (e : Events w) → is_response x ≡ false
     → broken_by_judge levels complete l link (event.Beat x) e ≡ broken_event levels complete l link (event.Beat x) e
 
 -- the judge has these levels, links with all their stores, and liberties, and the state that these rules need after the

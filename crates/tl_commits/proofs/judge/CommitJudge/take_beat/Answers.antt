@@ -1,13 +1,12 @@
 use Rattle.std.proofs.Common.{◌∷◌, false, length, refl, sym, ap, subst, ◌∙◌}
 use Rattle.std.specs.Prelude.{None}
 use Rattle.tl_beat.specs.declared.beat.Link.{Link}
-use Rattle.tl_memory.proofs.LinkTables.{link-there}
 use Rattle.tl_together.specs.statement.Coherence.{broken_together}
 use Rattle.tl_together.specs.statement.Knows.{Knows}
 use Rattle.tl_commits.specs.declared.commit.Event.{Event}
 use Rattle.tl_commits.specs.declared.commit.Event.TheVariants as event
 use Rattle.tl_commits.specs.statement.Events.{beats_of}
-use Rattle.tl_commits.specs.statement.Knows.{broken_bare}
+use Rattle.tl_commits.specs.statement.Commits.{broken_report}
 use Rattle.tl_commits.proofs.BeatsJudged.{beat-refused, beat-taken, fine-beat, none-broken, refused-beat, table-met}
 use Rattle.tl_commits.proofs.Loads.{all-renewed}
 use Rattle.tl_commits.proofs.LoadsNext.{loads-other}
@@ -18,15 +17,14 @@ pub returns-in-Some-clause-answer : goal.returns-in-Some-clause-answer
 returns-in-Some-clause-answer g c = λ levels complete l e k.
     let n = length levels in
     refused-beat (broken_together levels l (c.args.link, c.args.beat.now) (beats_of e)) c.in-Some.rule
-    (broken_bare complete n c.args.link.0 c.args.beat.now e) c.refused.result (c.refused.ensures.answer levels complete l e k)
-    (λ none. sym c.in-Some.is ∙ c.broken_bare.ensures levels complete l e k
-    (link-there _ levels (c.args.link, c.args.beat.now) (beats_of e)
-    (fine-beat levels l (c.args.link, c.args.beat.now) e (none-broken _ none))))
+    (broken_report complete n c.args.link.0 c.args.beat.now e) c.refused.result (c.refused.ensures.answer levels complete l e k)
+    (λ none. sym c.in-Some.is ∙ c.broken_report.ensures levels complete l e k
+    (fine-beat levels l (c.args.link, c.args.beat.now) e (none-broken _ none)))
 
 pub returns-in-Err-clause-answer : goal.returns-in-Err-clause-answer
 returns-in-Err-clause-answer g c = λ levels complete l e k. rw c.of_judge.ensures
     (beat-refused (broken_together levels l (c.args.link, c.args.beat.now) (beats_of e))
-    (broken_bare complete (length levels) c.args.link.0 c.args.beat.now e) c.in-Err.fault
+    (broken_report complete (length levels) c.args.link.0 c.args.beat.now e) c.in-Err.fault
     (c.in-Err.ensures.answer levels l (beats_of e) false k.judge_is))
 
 pub returns-in-Err-clause-knows : goal.returns-in-Err-clause-knows
@@ -38,10 +36,9 @@ pub returns-clause-answer : goal.returns-clause-answer
 returns-clause-answer g c = λ levels complete l e k.
     let answer = c.in-Ok-try_push.ensures.answer levels l (beats_of e) false k.judge_is in
     beat-taken (broken_together levels l (c.args.link, c.args.beat.now) (beats_of e))
-    (broken_bare complete (length levels) c.args.link.0 c.args.beat.now e) answer
-    (λ none. sym (c.broken_bare.ensures levels complete l e k
-    (link-there _ levels (c.args.link, c.args.beat.now) (beats_of e)
-    (fine-beat levels l (c.args.link, c.args.beat.now) e answer))) ∙ c.in_default.is)
+    (broken_report complete (length levels) c.args.link.0 c.args.beat.now e) answer
+    (λ none. sym (c.broken_report.ensures levels complete l e k
+    (fine-beat levels l (c.args.link, c.args.beat.now) e answer)) ∙ c.in_default.is)
 
 pub returns-clause-knows : goal.returns-clause-knows
 unfolding beats_of

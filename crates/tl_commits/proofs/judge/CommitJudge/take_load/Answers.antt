@@ -7,7 +7,7 @@ use Rattle.tl_commits.specs.declared.commit.Commit.TheVariants as commit
 use Rattle.tl_commits.specs.declared.commit.Event.{Event}
 use Rattle.tl_commits.specs.declared.commit.Event.TheVariants as event
 use Rattle.tl_commits.specs.statement.Events.{beats_of}
-use Rattle.tl_commits.proofs.CommitsJudged.{load-judged}
+use Rattle.tl_commits.proofs.CommitsJudged.{commit-refused, load-judged}
 use Rattle.tl_commits.proofs.Loads.{all-renewed, pieces-filter}
 use Rattle.tl_commits.proofs.LoadsNext.{loads-load}
 use Rattle.tl_commits.proofs.TableJudged.{table-recorded}
@@ -18,7 +18,7 @@ returns-in-Some-clause-answer g c = λ levels complete l e k lt is.
     let judged = load-judged c.args.link.0 c.args.piece e c.args.self.now.loads.items c.could_load-could.result
     c.unless.result c.unless.ensures (rw c.as_slice.ensures.value at (c.could_load-could.ensures levels l e k.judge_is lt is))
     (k.loads_are.are c.args.link.0 c.args.piece) in
-    rw (← judged, c.in-Some.is, c.of_rule.ensures) refl
+    commit-refused _ c.unless.result c.in-Some.rule c.of_rule.result judged c.in-Some.is c.of_rule.ensures
 
 pub returns-clause-answer : goal.returns-clause-answer
 returns-clause-answer g c = λ levels complete l e k lt is.

@@ -5,6 +5,7 @@ use Rattle.tl_commits.specs.declared.commit.Commit.TheVariants as commit
 use Rattle.tl_commits.specs.declared.commit.Event.{Event}
 use Rattle.tl_commits.specs.declared.commit.Event.TheVariants as event
 use Rattle.tl_commits.specs.statement.Events.{beats_of}
+use Rattle.tl_commits.proofs.CommitsJudged.{commit-refused}
 use Rattle.tl_commits.proofs.Loads.{all-renewed}
 use Rattle.tl_commits.proofs.LoadsNext.{loads-other}
 use Rattle.tl_commits.proofs.TableJudged.{table-recorded}
@@ -12,7 +13,8 @@ use Rattle.tl_commits.proofs.judge.CommitJudge.take_store.Goals as goal
 
 pub returns-in-Some-clause-answer : goal.returns-in-Some-clause-answer
 returns-in-Some-clause-answer g c = λ levels complete l e k lt.
-    rw (← c.broken_store.ensures levels l e k.judge_is lt, c.in-Some.is, c.of_rule.ensures) refl
+    commit-refused _ c.broken_store.result c.in-Some.rule c.of_rule.result (c.broken_store.ensures levels l e k.judge_is lt)
+    c.in-Some.is c.of_rule.ensures
 
 pub returns-clause-answer : goal.returns-clause-answer
 returns-clause-answer g c = λ levels complete l e k lt.

@@ -3,7 +3,7 @@ pub mod CommitLines
 pub mod CommitSpelled
 pub mod Pieces
 pub mod AnyTold
-pub mod Bringing
+pub mod LoadedBytes
 pub mod GivenBack
 pub mod GivenUp
 pub mod PieceValues

@@ -11,6 +11,7 @@ ghost use Rattle.tl_commits.specs.statement.Commits;
 ghost use Rattle.tl_commits.specs.statement.Commits.{each_byte};
 ghost use Rattle.tl_commits.specs.statement.Copies.{holds, is_complete, link_beats};
 ghost use Rattle.tl_commits.specs.statement.Events.{Events, beats_of};
+ghost use Rattle.tl_commits.specs.statement.Knows as knows;
 ghost use Rattle.tl_commits.specs.statement.Seen.{byte_in};
 
 use crate::commit::Piece;
@@ -79,7 +80,7 @@ fn may_bring<const W: usize>(
 }
 
 /// Whether a load of a piece may bring these bytes now. `complete` says whether all stores of the link are in the trace.
-pub(crate) fn brings_piece<const W: usize>(
+fn brings_each<const W: usize>(
     judge: &Judge<W>,
     table: &ValueTable,
     complete: bool,
@@ -104,4 +105,26 @@ pub(crate) fn brings_piece<const W: usize>(
         all = both(brings, all);
     }
     all
+}
+
+/// The same of what may be no piece.
+pub(crate) fn brings_piece<const W: usize>(
+    judge: &Judge<W>,
+    table: &ValueTable,
+    complete: bool,
+    link: Link,
+    piece: Piece,
+    value: u64,
+) -> bool
+    requires { IsWidth W }
+    ensures { (levels : List Level) (l : Liberties) (of_links : List Bool) (e : Events W) →
+        Knows judge.now levels l (beats_of e) false → link.0 < length levels →
+        KnowsTable table.now of_links (length levels) e → complete ≡ is_complete of_links link.0 → IsPiece piece →
+        result ≡ knows.brings_piece of_links (length levels) link.0 piece value e }
+{
+    piece.prove_addressed();
+    if piece.is_valid() {
+        return brings_each(judge, table, complete, link, piece, value);
+    }
+    false
 }

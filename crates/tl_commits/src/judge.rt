@@ -12,7 +12,7 @@ ghost use Rattle.tl_commits.specs.code.BlockValues.{says_piece};
 ghost use Rattle.tl_commits.specs.code.Judging as code;
 ghost use Rattle.tl_commits.specs.code.ValueTable.{IsNext, KnowsTable};
 ghost use Rattle.tl_commits.specs.declared.commit.Event.{Event};
-ghost use Rattle.tl_commits.specs.declared.rule.CommitRule.TheVariants.{M5, M7};
+ghost use Rattle.tl_commits.specs.declared.rule.CommitRule.TheVariants.{M6, M7};
 ghost use Rattle.tl_commits.specs.statement.Breaches.{breach_of, has_cache};
 ghost use Rattle.tl_commits.specs.statement.CommitLine.{IsCommit, IsPiece};
 ghost use Rattle.tl_commits.specs.statement.Commits;
@@ -21,8 +21,9 @@ ghost use Rattle.tl_commits.specs.statement.Events.{Events, beats_of};
 ghost use Rattle.tl_commits.specs.statement.Knows.{Answers, recorded_after};
 
 use crate::block_values::BlockValues;
+use crate::bringing::brings_piece;
 use crate::commit::{Commit, Event, Piece};
-use crate::commits::{broken_store, unless};
+use crate::commits::broken_store;
 use crate::fault::CommitFault;
 use crate::giving_back::{carrier, gives_truly};
 use crate::giving_up::{holds_trunk, keeps_stores};
@@ -43,7 +44,7 @@ use tl_together::fault::JudgeFault;
 use tl_together::judge::Judge;
 
 /// Judges beats and commits of up to 16 links of one manager, in the order in which they were seen: beats by the rules of
-/// beats alone and by M7, commits by L1 and M5. It keeps the possible values of the
+/// beats alone and by M7, commits by L1, M5 and M6 (loads that began earlier by M5 alone). It keeps the possible values of the
 /// bytes of blocks, and the loads that have begun, and no event.
 #[derive(Drop)]
 pub struct CommitJudge<const W: usize> {
@@ -94,6 +95,13 @@ fn unless_kept(keeps: bool) -> Option<CommitRule>
     if keeps { None } else { Some(CommitRule::M7) }
 }
 
+/// M6, unless a load keeps it.
+fn unless_brought(keeps: bool) -> Option<CommitRule>
+    ensures { result ≡ (if keeps then None else Some M6) }
+{
+    if keeps { None } else { Some(CommitRule::M6) }
+}
+
 /// The fault of an event that breaks this rule of commits.
 fn of_rule(rule: CommitRule) -> CommitFault
     ensures { result ≡ code.of_rule rule }
@@ -104,7 +112,7 @@ fn of_rule(rule: CommitRule) -> CommitFault
 impl<const W: usize> CommitJudge<W> {
     ghost use Rattle.tl_commits.specs.declared.commit.Event.TheVariants as event;
     ghost use Rattle.tl_commits.specs.declared.commit.Commit.TheVariants as commit;
-    ghost use Rattle.tl_commits.specs.statement.Knows.{IsEvent, IsNew, KnowsCommits, broken_by_judge};
+    ghost use Rattle.tl_commits.specs.statement.Knows.{IsEvent, IsNew, KnowsCommits, broken_by_judge, broken_now};
 
     /// A judge of links of these levels and with these liberties, which has seen no event. `complete` says for each link
     /// whether all its stores will be in the trace. The error is `Levels` unless there are 1 to 16 levels, or `Memory`.
@@ -237,19 +245,34 @@ impl<const W: usize> CommitJudge<W> {
         both(!begun, either(complete, !held))
     }
 
+    /// The rule that a load breaks: M5, or M6 if it didn't begin earlier.
+    fn broken_load(&self, link: Link, piece: Piece, value: u64) -> Option<CommitRule>
+        requires { IsWidth W }
+        ensures { (levels : List Level) (complete : List Bool) (l : Liberties) (e : Events W) →
+            KnowsCommits self.now levels complete l e → link.0 < length levels → IsPiece piece →
+            result ≡ broken_now complete (length levels) link.0 piece value e }
+    {
+        if !could_load(&self.judge, self.loads.as_slice(), link, piece) {
+            return Some(CommitRule::M5);
+        }
+        let complete = is_complete(&self.complete, link);
+        let begun = has_begun(self.loads.as_slice(), link, piece);
+        let brings = brings_piece(&self.judge, &self.values, complete, link, piece, value);
+        unless_brought(either(begun, brings))
+    }
+
     /// Judges a load, and takes it if it breaks no rule.
     fn take_load(&mut self, link: Link, piece: Piece, value: u64) -> Result<(), CommitFault>
         requires { IsWidth W }
         ensures answer { (levels : List Level) (complete : List Bool) (l : Liberties) (e : Events W) →
             KnowsCommits self.old levels complete l e → link.0 < length levels → IsPiece piece →
-            Answers (breach_of None (if Commits.lacks_copy link.0 piece e then Some M5 else None)) result }
+            Answers (breach_of None (broken_now complete (length levels) link.0 piece value e)) result }
         ensures knows { (levels : List Level) (complete : List Bool) (l : Liberties) (e : Events W) →
             KnowsCommits self.old levels complete l e → link.0 < length levels → IsPiece piece →
             KnowsCommits self.new levels complete l
             (recorded_after result (link, event.Commit (commit.Load piece value)) e) }
     {
-        let could = could_load(&self.judge, self.loads.as_slice(), link, piece);
-        if let Some(rule) = unless(could) {
+        if let Some(rule) = self.broken_load(link, piece, value) {
             return Err(of_rule(rule));
         }
         let Ok(next) = self.values_loaded(link, piece, value) else {

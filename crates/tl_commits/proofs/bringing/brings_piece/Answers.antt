@@ -1,21 +1,15 @@
-use Rattle.std.proofs.Common.{◌+◌, ◌-◌, ◌%◌, ◌^◌, ◌<◌, ◌≡◌, ◌∙◌, arith, ap, sym, length}
-use Rattle.std.proofs.lemmas.Bool.{eqb-true}
-use Rattle.tl_rules.specs.statement.Effect.{byte_of}
-use Rattle.tl_rules.specs.statement.Legality.{each_below}
-use Rattle.tl_commits.specs.statement.Commits.{may_bring}
-use Rattle.tl_commits.specs.statement.Seen.{byte_in}
-use Rattle.tl_commits.proofs.Pieces.{below-more, below-none, most-bytes, piece-fits}
+use Rattle.std.proofs.Common.{rules, sym, ◌∙◌}
+use Rattle.tl_commits.proofs.AtOnce.{no-piece, valid-is}
 use Rattle.tl_commits.proofs.bringing.brings_piece.Goals as goal
 
-pub loop-i-init : goal.loop-i-init
-loop-i-init g c = λ levels lib complete e j lt k all. below-none
-    (λ i. may_bring complete (length levels) c.args.link.0 (c.args.piece.address + i)
-    (byte_in c.args.piece c.args.value (c.args.piece.address + i)) e)
-
-pub overflow_add-address : goal.overflow_add-address
-overflow_add-address g c = omega (
-  arith,
-  piece-fits c.args.piece.size c.args.piece.address c.loop-i.i c.requires.piece.small
-      c.requires.piece.in_range (eqb-true (c.args.piece.address % 2 ^ c.args.piece.size) 0 c.requires.piece.aligned)
-      (omega (arith, c.loop-i-test.true, most-bytes c.args.piece.size c.requires.piece.small)),
+pub brings_each-requires : goal.brings_each-requires
+brings_each-requires g c = (
+  search rules,
+  (c.requires, valid-is c.args.piece c.prove_addressed.ensures (sym c.is_valid.ensures ∙ c.if-is_valid.true)),
 )
+
+pub returns-then-is_valid : goal.returns-then-is_valid
+returns-then-is_valid g c = λ levels l complete e j lt k all is. c.brings_each.ensures levels l complete e j lt k all
+
+pub returns : goal.returns
+returns g c = λ levels l complete e j lt k all is. no-piece c.args.piece is (sym c.is_valid.ensures ∙ c.if-is_valid.false)

@@ -3,7 +3,7 @@ use Rattle.tl_beat.specs.declared.channel.Channel.TheVariants as channel
 use Rattle.tl_burst.specs.statement.Messages.{unfinished}
 use Rattle.tl_commits.specs.statement.Copies.{link_beats}
 use Rattle.tl_commits.specs.statement.Events.{beats_of}
-use Rattle.tl_commits.proofs.Bringing.{brings-brought, brings-held}
+use Rattle.tl_commits.proofs.LoadedBytes.{brings-brought, brings-held}
 use Rattle.tl_commits.proofs.bringing.may_bring.Goals as goal
 
 pub returns-in_default : goal.returns-in_default

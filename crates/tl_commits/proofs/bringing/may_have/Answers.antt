@@ -1,7 +1,7 @@
 use Rattle.std.proofs.Common.{arith, ap, ap₂, length, ◌∙◌, ◌≡◌, ◌&&◌, ◌||◌, ◌%◌, not}
 use Rattle.tl_commits.specs.code.GivingBack.{is_seen}
 use Rattle.tl_commits.specs.statement.Copies.{holds, holds_trunk, link_beats}
-use Rattle.tl_commits.proofs.Bringing.{same-address}
+use Rattle.tl_commits.proofs.LoadedBytes.{same-address}
 use Rattle.tl_commits.proofs.bringing.may_have.Goals as goal
 
 pub returns : goal.returns

@@ -1,5 +1,5 @@
 use Rattle.std.proofs.Common.{◌∷◌, length, refl, sym, ap, subst, false, ◌∙◌, ◌≡◌}
-use Rattle.std.specs.Prelude.{filter, not}
+use Rattle.std.specs.Prelude.{filter, not, None}
 use Rattle.tl_beat.specs.declared.beat.Link.{Link}
 use Rattle.tl_together.specs.statement.Knows.{Knows}
 use Rattle.tl_commits.specs.code.Loading.{is_of}
@@ -7,7 +7,8 @@ use Rattle.tl_commits.specs.declared.commit.Commit.TheVariants as commit
 use Rattle.tl_commits.specs.declared.commit.Event.{Event}
 use Rattle.tl_commits.specs.declared.commit.Event.TheVariants as event
 use Rattle.tl_commits.specs.statement.Events.{beats_of}
-use Rattle.tl_commits.proofs.CommitsJudged.{commit-refused, load-judged}
+use Rattle.tl_commits.specs.statement.Breaches.{breach_of}
+use Rattle.tl_commits.proofs.CommitsJudged.{commit-refused}
 use Rattle.tl_commits.proofs.Loads.{all-renewed, pieces-filter}
 use Rattle.tl_commits.proofs.LoadsNext.{loads-load}
 use Rattle.tl_commits.proofs.TableJudged.{table-recorded}
@@ -15,17 +16,12 @@ use Rattle.tl_commits.proofs.judge.CommitJudge.take_load.Goals as goal
 
 pub returns-in-Some-clause-answer : goal.returns-in-Some-clause-answer
 returns-in-Some-clause-answer g c = λ levels complete l e k lt is.
-    let judged = load-judged c.args.link.0 c.args.piece e c.args.self.now.loads.items c.could_load-could.result
-    c.unless.result c.unless.ensures (rw c.as_slice.ensures.value at (c.could_load-could.ensures levels l e k.judge_is lt is))
-    (k.loads_are.are c.args.link.0 c.args.piece) in
-    commit-refused _ c.unless.result c.in-Some.rule c.of_rule.result judged c.in-Some.is c.of_rule.ensures
+    commit-refused _ c.broken_load.result c.in-Some.rule c.of_rule.result
+    (c.broken_load.ensures levels complete l e k lt is) c.in-Some.is c.of_rule.ensures
 
 pub returns-clause-answer : goal.returns-clause-answer
 returns-clause-answer g c = λ levels complete l e k lt is.
-    let judged = load-judged c.args.link.0 c.args.piece e c.args.self.now.loads.items c.could_load-could.result
-    c.unless.result c.unless.ensures (rw c.as_slice.ensures.value at (c.could_load-could.ensures levels l e k.judge_is lt is))
-    (k.loads_are.are c.args.link.0 c.args.piece) in
-    rw (← judged, c.in_default.is) refl
+    ap (breach_of None) (sym (c.broken_load.ensures levels complete l e k lt is) ∙ c.in_default.is)
 
 pub returns-clause-knows : goal.returns-clause-knows
 unfolding beats_of

@@ -8,7 +8,7 @@ use Rattle.tl_commits.specs.statement.Commits.{may_bring}
 use Rattle.tl_commits.specs.statement.Copies.{is_complete}
 use Rattle.tl_commits.specs.statement.Events.{Events, beats_of}
 use Rattle.tl_commits.specs.statement.Seen.{byte_in}
-use Rattle.tl_commits.proofs.bringing.brings_piece.Given as goal
+use Rattle.tl_commits.proofs.bringing.brings_each.Given as goal
 
 abbrev pub invariant-loop-i : goal.invariant-loop-i
 invariant-loop-i g l = (levels : List Level) (lib : Liberties) (of_links : List Bool) (e : Events g.row.W)

@@ -5,11 +5,6 @@ use Rattle.std.proofs.lemmas.Option.{slice_get_cases}
 use Rattle.tl_params.specs.declared.level.Level.{Level}
 use Rattle.std.specs.Prelude.{if◌then◌else◌, Option, Some, None, Err, is_none, is_some}
 use Rattle.tl_beat.specs.declared.beat.Link.{Link}
-use Rattle.tl_together.specs.declared.breach.Breach.{Breach}
-use Rattle.tl_together.specs.declared.fault.JudgeFault.{JudgeFault}
-use Rattle.tl_together.specs.declared.fault.JudgeFault.TheVariants as judge
-use Rattle.tl_together.specs.statement.Knows.{broken}
-use Rattle.tl_together.specs.statement.Knows as together
 use Rattle.tl_commits.specs.code.Judging.{of_rule}
 use Rattle.tl_commits.specs.declared.fault.CommitFault.{CommitFault}
 use Rattle.tl_commits.specs.code.Loading.{ArePieces, IsBegun, IsLoading, begun, is_of, was_loadable}
@@ -32,15 +27,10 @@ use Rattle.tl_together.specs.declared.breach.Breach.TheVariants.{OfLink}
 use Rattle.tl_commits.specs.declared.rule.CommitBreach.TheVariants.{OfBeats}
 use Rattle.std.proofs.Common.{ap, not, ◌+◌, ◌^◌}
 use Rattle.std.proofs.lemmas.Bool.{cases_Bool}
-use Rattle.tl_commits.specs.statement.Breaches.{broken_event}
 use Rattle.tl_commits.specs.statement.Commits.{broken_commit}
 use Rattle.tl_commits.specs.declared.commit.Commit.{Commit}
 use Rattle.tl_commits.specs.declared.commit.Commit.TheVariants as commit
-use Rattle.tl_commits.specs.declared.commit.Event.TheVariants as event
 use Rattle.tl_commits.specs.declared.rule.CommitBreach.{CommitBreach}
-use Rattle.tl_commits.specs.declared.rule.CommitBreach.TheVariants.{OfCommits}
-use Rattle.tl_params.specs.declared.liberties.Liberties.{Liberties}
-use Rattle.tl_commits.proofs.AtOnce.{other-way}
 use Rattle.tl_commits.proofs.Loads.{pieces-map, pieces-more}
 use Rattle.tl_commits.proofs.LoadsNext.{all-restarted, restarted-link, restarted-piece}
 use Rattle.tl_commits.specs.code.Loading.{restarted}

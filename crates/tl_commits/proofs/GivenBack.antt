@@ -1,6 +1,6 @@
 -- Reports that give bytes back.
-use Rattle.std.proofs.Common.{◌≡◌, ◌≤◌, ◌<◌, ◌+◌, ◌*◌, ℕ, Bool, true, false, not, ◌||◌, List, [], length, refl, sym, ap, ◌∙◌}
-use Rattle.std.specs.Prelude.{Option, Some, None, is_some}
+use Rattle.std.proofs.Common.{◌≡◌, ◌≤◌, ◌+◌, ◌*◌, ℕ, Bool, true, false, not, ◌||◌, List, length, refl, sym, ◌∙◌}
+use Rattle.std.specs.Prelude.{Option, Some, None}
 use Rattle.tl_beat.specs.declared.beat.Beat.{Beat}
 use Rattle.tl_beat.specs.declared.beat.BeatC.{BeatC}
 use Rattle.tl_beat.specs.declared.beat.Link.{Link}
@@ -24,7 +24,7 @@ use Rattle.tl_rules.specs.statement.History.{block_at}
 use Rattle.tl_commits.specs.code.GivingBack.{is_seen}
 use Rattle.tl_commits.specs.statement.Commits.{gives_truly}
 use Rattle.tl_commits.specs.statement.Copies.{is_complete, link_beats}
-use Rattle.tl_commits.specs.statement.Events.{Events, beats_of}
+use Rattle.tl_commits.specs.statement.Events.{Events}
 
 module _ {w : ℕ} (levels : List Level) (link : Link) (x : BeatC w) (t : Trace w) (is : IsWidth w)
     (legal : AreLegal levels t) (fine : IsLegal levels (link, Beat.C x) t) where

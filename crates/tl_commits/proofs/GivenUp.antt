@@ -1,5 +1,5 @@
 -- Beats that give Trunk up.
-use Rattle.std.proofs.Common.{◌≡◌, ◌&&◌, ℕ, Bool, true, false, not, refl}
+use Rattle.std.proofs.Common.{◌≡◌, ◌&&◌, Bool, true, false, refl}
 
 pub and-turned : (a b c : Bool) → ((a && b) && c) ≡ (b && (a && c))
 and-turned true true c = refl

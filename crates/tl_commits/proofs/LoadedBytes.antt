@@ -1,11 +1,10 @@
 -- The bytes that a load may bring.
-use Rattle.std.proofs.Common.{◌≡◌, ◌+◌, ◌-◌, ◌*◌, ◌/◌, ◌%◌, ◌<◌, ℕ, Bool, true, false, not, ◌&&◌, ◌||◌, List, length, refl, sym, ap}
-use Rattle.std.proofs.Common.{◌∙◌, arith, get_or}
+use Rattle.std.proofs.Common.{◌≡◌, ◌+◌, ◌*◌, ◌/◌, ◌%◌, ℕ, Bool, true, false, ◌&&◌, List, length, refl, sym, ap}
+use Rattle.std.proofs.Common.{◌∙◌, arith}
 use Rattle.std.specs.Prelude.{if◌then◌else◌, nat_lt, Option, Some, None, is_some}
 use Rattle.tl_beat.specs.declared.channel.Channel.TheVariants as channel
 use Rattle.tl_burst.specs.statement.Messages.{History, unfinished}
 use Rattle.tl_bytes.specs.statement.Bytes.{carried_byte, could_be}
-use Rattle.tl_commits.specs.declared.commit.Piece.{Piece}
 use Rattle.tl_commits.specs.statement.Commits.{brings, may_bring, may_have}
 use Rattle.tl_commits.specs.statement.Copies.{brought, is_filling, link_beats}
 use Rattle.tl_commits.specs.statement.Events.{Events}

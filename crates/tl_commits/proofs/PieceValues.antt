@@ -1,13 +1,12 @@
 -- The values of a block after a store or a load.
 use Rattle.std.proofs.Common.{◌≡◌, ◌<◌, ◌≤◌, ◌+◌, ◌-◌, ◌*◌, ◌/◌, ◌%◌, ◌^◌, ◌&&◌, ◌||◌, ℕ, zero, suc, Bool, true, false, not}
 use Rattle.std.proofs.Common.{List, [], ◌∷◌, length, refl, sym, ap, ap₂, ◌∙◌, arith, inl, inr}
-use Rattle.std.specs.Prelude.{if◌then◌else◌, nat_le, nat_lt, ◌==◌, Option, Some, None, is_some}
+use Rattle.std.specs.Prelude.{nat_le, nat_lt, ◌==◌, Option, Some, None, is_some}
 use Rattle.std.proofs.lemmas.Bool.{and_parts, cases_Bool, eqb-false, eqb-true, leb-true, ltb-true}
 use Rattle.tl_beat.specs.declared.beat.Link.{Link}
 use Rattle.tl_burst.specs.statement.Burst.{reaches}
 use Rattle.tl_rules.specs.statement.History.{block_at}
-use Rattle.tl_bytes.specs.code.Tellings.{is_written, value_at}
-use Rattle.tl_bytes.specs.declared.telling.Telling.{Telling}
+use Rattle.tl_bytes.specs.code.Tellings.{is_written}
 use Rattle.tl_bytes.specs.declared.write.Write.{Write}
 use Rattle.tl_commits.specs.code.BlockValues.{IsLoaded, IsPieceWrite, IsStored, KnowsValues, says_piece, with_set}
 use Rattle.tl_commits.specs.code.Tellings.{is_in}
@@ -21,7 +20,7 @@ use Rattle.tl_commits.specs.statement.CommitLine.{IsPiece}
 use Rattle.tl_commits.specs.statement.Copies.{brought, is_known, link_beats}
 use Rattle.tl_commits.specs.statement.Events.{Events, is_loading}
 unfoldable use Rattle.tl_commits.specs.statement.Events.{beats_of}
-use Rattle.tl_commits.specs.statement.Seen.{byte_in, says_byte, Seen, told_now}
+use Rattle.tl_commits.specs.statement.Seen.{says_byte, Seen, told_now}
 unfoldable use Rattle.tl_commits.specs.statement.Seen.{memory_may, seen}
 use Rattle.tl_commits.proofs.Pieces.{most-bytes}
 use Rattle.tl_commits.proofs.ValuesJudged.{block-of}

@@ -1,5 +1,5 @@
 -- The values of all blocks, with one more event.
-use Rattle.std.proofs.Common.{◌≡◌, ◌<◌, ◌+◌, ◌*◌, ◌&&◌, ℕ, Bool, true, false, not, List, ◌∷◌, refl, sym, ap, ◌∙◌, inl, inr}
+use Rattle.std.proofs.Common.{◌≡◌, ◌<◌, ◌+◌, ◌*◌, ◌&&◌, ℕ, Bool, true, false, List, ◌∷◌, refl, sym, ap, ◌∙◌, inl, inr}
 use Rattle.std.specs.Prelude.{if◌then◌else◌, ◌==◌, Option, Some, None, is_some}
 use Rattle.std.proofs.lemmas.Bool.{cases_Bool, eq-eqb, eqb-true}
 use Rattle.tl_beat.specs.declared.beat.Beat.{Beat}
@@ -25,7 +25,6 @@ use Rattle.tl_commits.specs.statement.Seen.{asks_nothing, is_plain_ack, loses_st
 unfoldable use Rattle.tl_commits.specs.statement.Seen.{memory_may, seen}
 use Rattle.tl_rules.specs.statement.OpenMessages.{open_probe}
 use Rattle.tl_commits.proofs.ValuesJudged.{and-none, memory-kept, seen-kept, values-kept}
-use Rattle.std.specs.Prelude.{length}
 use Rattle.std.proofs.Common.{[], arith, zero, suc}
 use Rattle.tl_rules.specs.statement.Legality.{each_below}
 use Rattle.tl_bytes.specs.statement.Bytes.{told_as}

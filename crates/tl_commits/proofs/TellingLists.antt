@@ -1,12 +1,12 @@
 -- What lists of possible values say of each place.
-use Rattle.std.proofs.Common.{◌≡◌, ◌<◌, ◌≤◌, ◌&&◌, ◌||◌, ℕ, zero, suc, Bool, true, false, not, List, [], ◌∷◌, ◌++◌}
-use Rattle.std.proofs.Common.{refl, sym, ap, ap₂, ◌∙◌, ◌+◌, ◌^◌, replicate, append_assoc, arith, inl, inr}
+use Rattle.std.proofs.Common.{◌≡◌, ◌<◌, ◌≤◌, ◌&&◌, ℕ, zero, suc, Bool, true, false, List, [], ◌∷◌, ◌++◌}
+use Rattle.std.proofs.Common.{refl, ap, ◌∙◌, ◌+◌, ◌^◌, replicate, append_assoc, arith, inl, inr}
 use Rattle.std.proofs.Math.Numerals.{add-one}
-use Rattle.std.specs.Prelude.{Option, ◌==◌, ◌-◌, filter, if◌then◌else◌, nat_le, nat_lt}
+use Rattle.std.specs.Prelude.{Option, ◌-◌, filter, if◌then◌else◌, nat_lt}
 use Rattle.std.proofs.lemmas.Bool.{cases_Bool, cases_eq, eq-eqb, ltb-true, ne_eqb}
 use Rattle.std.proofs.lemmas.List.{append-nil, get_or-replicate}
 use Rattle.tl_bytes.proofs.Told.{all-later, once, stays-all, stays-some, tellings-append}
-use Rattle.tl_bytes.specs.code.Tellings.{by_standing, is_written, stays, value_at, with_write}
+use Rattle.tl_bytes.specs.code.Tellings.{is_written, stays, value_at, with_write}
 use Rattle.tl_bytes.specs.declared.known_bytes.KnownBytes.{KnownBytes}
 use Rattle.tl_bytes.specs.declared.standing.Standing.{Standing}
 use Rattle.tl_bytes.specs.declared.telling.Telling.{Telling}

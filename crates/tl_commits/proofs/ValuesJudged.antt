@@ -1,16 +1,12 @@
 -- The values that are kept of a block, with one more event.
-use Rattle.std.proofs.Common.{◌≡◌, ◌<◌, ◌+◌, ◌*◌, ◌/◌, ◌%◌, ◌&&◌, ◌||◌, ℕ, Bool, true, false, not, List, [], ◌∷◌, length}
-use Rattle.std.proofs.Common.{refl, sym, ap, ap₂, ◌∙◌, arith}
+use Rattle.std.proofs.Common.{◌≡◌, ◌<◌, ◌+◌, ◌*◌, ◌/◌, ◌%◌, ◌&&◌, ℕ, Bool, true, false, not, List, [], ◌∷◌, length}
+use Rattle.std.proofs.Common.{refl, sym, ap, ◌∙◌, arith}
 use Rattle.std.specs.Prelude.{if◌then◌else◌}
 use Rattle.tl_beat.specs.declared.beat.Beat.{Beat}
 use Rattle.tl_beat.specs.declared.beat.Link.{Link}
 use Rattle.tl_rules.specs.statement.Conformance.{Trace, on_link}
-use Rattle.tl_rules.specs.statement.History.{block_at}
-use Rattle.tl_bytes.specs.code.Tellings.{with_write}
 use Rattle.tl_bytes.specs.declared.known_bytes.KnownBytes.{KnownBytes}
-use Rattle.tl_bytes.specs.declared.standing.Standing.{Standing}
 use Rattle.tl_bytes.specs.declared.telling.Telling.{Telling}
-use Rattle.tl_bytes.specs.declared.write.Write.{Write}
 use Rattle.tl_bytes.specs.statement.Bytes.{tells}
 use Rattle.tl_bytes.specs.statement.KnownBytes.{known_at}
 unfoldable use Rattle.tl_bytes.specs.statement.Known.{tellings_at}
@@ -19,7 +15,6 @@ use Rattle.tl_memory.specs.statement.ByteChanges.{after_values, grants_unread, I
 use Rattle.tl_commits.specs.code.BlockValues.{changed, KnowsValues, memory_told}
 use Rattle.tl_commits.specs.code.Tellings.{is_in}
 use Rattle.tl_commits.specs.declared.block_values.BlockValues.{BlockValues}
-use Rattle.tl_commits.specs.declared.commit.Event.{Event}
 use Rattle.tl_commits.specs.declared.commit.Event.TheVariants as event
 use Rattle.tl_commits.specs.statement.Copies.{link_beats}
 use Rattle.tl_commits.specs.statement.Events.{Events}

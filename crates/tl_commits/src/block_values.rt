@@ -120,12 +120,7 @@ impl BlockValues {
 
     /// The values after a store that writes these places; `moment` is the number of beats before it. The error means that
     /// there is no memory left.
-    pub fn after_store(
-        &self,
-        alloc: Global,
-        write: &Write,
-        moment: u64,
-    ) -> Result<Self, AllocError>
+    pub fn after_store(&self, alloc: Global, write: &Write, moment: u64) -> Result<Self, AllocError>
         ensures { IfOk result (λ v. code.IsStored self.now v write.now moment) }
     {
         let places = with_written(&[false; 64], write);

@@ -32,12 +32,7 @@ pub(crate) fn carrier<const W: usize>(beat: &Beat<W>) -> Option<&BeatC<W>>
 }
 
 /// Whether each of these bytes is one that its block may have, from a place on.
-fn are_seen<const W: usize>(
-    table: &ValueTable,
-    block: u32,
-    first: usize,
-    lanes: &[u8; W],
-) -> bool
+fn are_seen<const W: usize>(table: &ValueTable, block: u32, first: usize, lanes: &[u8; W]) -> bool
     ensures { (complete : List Bool) (n : ℕ) (e : Events W) → KnowsTable table.now complete n e → first + W ≤ 64 →
         result ≡ each_from (is_seen complete n e) (64 * block + first) lanes.now }
 {

@@ -82,7 +82,10 @@ pub(crate) fn loses_stores<const W: usize>(judge: &Judge<W>, link: Link, x: &Bea
         link.0 < length levels →
         result ≡ (code.answers_nothing x.now (link_beats link.0 e) && code.leaves_trunk x.now (link_beats link.0 e)) }
 {
-    both(answers_nothing(judge, link, x), leaves_trunk(judge, link, x))
+    both(
+        answers_nothing(judge, link, x),
+        leaves_trunk(judge, link, x),
+    )
 }
 
 /// The block, if its Trunk is taken.
@@ -104,11 +107,17 @@ pub(crate) fn takes_trunk<const W: usize>(
     match beat {
         Beat::A(x) => {
             let block = block_at(x.address);
-            block_if(both(acquires_from_none(x), holds_trunk(judge, link, block)), block)
+            block_if(
+                both(acquires_from_none(x), holds_trunk(judge, link, block)),
+                block,
+            )
         }
         Beat::C(x) => {
             let wanted = answers_nothing(judge, link, x);
-            block_if(both(leaves_trunk(judge, link, x), !wanted), block_at(x.address))
+            block_if(
+                both(leaves_trunk(judge, link, x), !wanted),
+                block_at(x.address),
+            )
         }
         _ => None,
     }

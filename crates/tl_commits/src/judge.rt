@@ -302,7 +302,14 @@ impl<const W: usize> CommitJudge<W> {
         if !self.says_piece(link, piece) {
             return Ok(None);
         }
-        loaded_values(self.alloc, &self.judge, &mut self.values, link, piece, value)
+        loaded_values(
+            self.alloc,
+            &self.judge,
+            &mut self.values,
+            link,
+            piece,
+            value,
+        )
     }
 
     /// Takes the beginning of a load of a piece. The error is `Memory`; then nothing changes.

@@ -83,11 +83,7 @@ fn append_at(
 }
 
 /// The values after a message that sets the bytes to these. The error means that there is no memory left.
-pub(crate) fn told(
-    alloc: Global,
-    values: &KnownBytes,
-    moment: u64,
-) -> Result<Vec<Told>, AllocError>
+pub(crate) fn told(alloc: Global, values: &KnownBytes, moment: u64) -> Result<Vec<Told>, AllocError>
     ensures { IfOk result (λ told. (place : ℕ) → place < 64 →
         tellings_at place told.items ≡ record { value = known_at values.now place; moment = moment } ∷ []) }
 {

@@ -1,10 +1,9 @@
 -- The possible values of a block's bytes, as they are kept.
 use Rattle.std.specs.Prelude.{ℕ, Bool, false, true, [], ◌∷◌, ◌+◌, ◌*◌, ◌<◌, ◌≡◌, ◌||◌, ◌&&◌, not, if◌then◌else◌, List}
-use Rattle.std.specs.Prelude.{Option, Some, None}
+use Rattle.std.specs.Prelude.{Some}
 use Rattle.tl_bytes.specs.code.Tellings.{is_written, value_at, with_write}
 use Rattle.tl_bytes.specs.declared.known_bytes.KnownBytes.{KnownBytes}
 use Rattle.tl_bytes.specs.declared.telling.Telling.{Telling}
-use Rattle.tl_bytes.specs.declared.telling.Told.{Told}
 use Rattle.tl_bytes.specs.declared.write.Write.{Write}
 use Rattle.tl_bytes.specs.statement.Known.{tellings_at}
 use Rattle.tl_bytes.specs.statement.KnownBytes.{known_at}

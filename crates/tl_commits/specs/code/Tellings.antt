@@ -1,5 +1,5 @@
 -- Lists of possible values, as they are made.
-use Rattle.std.specs.Prelude.{ℕ, zero, suc, Bool, false, not, [], ◌∷◌, ◌++◌, ◌==◌, if◌then◌else◌, List, slice_index_or}
+use Rattle.std.specs.Prelude.{ℕ, zero, suc, Bool, false, not, [], ◌∷◌, ◌++◌, if◌then◌else◌, List, slice_index_or}
 use Rattle.tl_bytes.specs.code.Tellings.{value_at}
 use Rattle.tl_bytes.specs.declared.telling.Told.{Told}
 use Rattle.tl_bytes.specs.declared.write.Write.{Write}

@@ -21,7 +21,7 @@ use Rattle.tl_commits.specs.declared.fault.CommitFault.{CommitFault}
 use Rattle.tl_commits.specs.declared.fault.CommitFault.TheVariants as fault
 use Rattle.tl_commits.specs.declared.judge.CommitJudge.{CommitJudge}
 use Rattle.tl_commits.specs.declared.rule.CommitBreach.{CommitBreach}
-use Rattle.tl_commits.specs.declared.rule.CommitBreach.TheVariants.{OfBeats, OfCommits}
+use Rattle.tl_commits.specs.declared.rule.CommitBreach.TheVariants.{OfBeats}
 use Rattle.tl_commits.specs.declared.rule.CommitRule.{CommitRule}
 use Rattle.tl_commits.specs.declared.rule.CommitRule.TheVariants.{M5, M6}
 use Rattle.tl_commits.specs.statement.Breaches.{breach_of, broken_event, has_cache}

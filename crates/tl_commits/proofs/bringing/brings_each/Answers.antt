@@ -1,4 +1,4 @@
-use Rattle.std.proofs.Common.{◌+◌, ◌-◌, ◌%◌, ◌^◌, ◌<◌, ◌≡◌, ◌∙◌, arith, ap, sym, length}
+use Rattle.std.proofs.Common.{◌+◌, ◌-◌, ◌%◌, ◌^◌, ◌<◌, ◌≡◌, ◌∙◌, arith, ap, length}
 use Rattle.std.proofs.lemmas.Bool.{eqb-true}
 use Rattle.tl_rules.specs.statement.Effect.{byte_of}
 use Rattle.tl_rules.specs.statement.Legality.{each_below}

@@ -1,4 +1,4 @@
-use Rattle.std.proofs.Common.{arith, refl, sym, length, ◌∙◌, ◌≡◌, ◌%◌, true, false}
+use Rattle.std.proofs.Common.{arith, sym, length, ◌∙◌, ◌≡◌, ◌%◌, true, false}
 use Rattle.tl_beat.specs.declared.channel.Channel.TheVariants as channel
 use Rattle.tl_burst.specs.statement.Messages.{unfinished}
 use Rattle.tl_commits.specs.statement.Copies.{link_beats}

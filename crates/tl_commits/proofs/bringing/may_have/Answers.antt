@@ -1,4 +1,4 @@
-use Rattle.std.proofs.Common.{arith, ap, ap₂, length, ◌∙◌, ◌≡◌, ◌&&◌, ◌||◌, ◌%◌, not}
+use Rattle.std.proofs.Common.{arith, ap, ap₂, length, ◌∙◌, ◌&&◌, ◌||◌, not}
 use Rattle.tl_commits.specs.code.GivingBack.{is_seen}
 use Rattle.tl_commits.specs.statement.Copies.{holds, holds_trunk, link_beats}
 use Rattle.tl_commits.proofs.LoadedBytes.{same-address}

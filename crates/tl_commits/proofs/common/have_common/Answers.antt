@@ -1,4 +1,4 @@
-use Rattle.std.proofs.Common.{sym, ◌∙◌, Bool}
+use Rattle.std.proofs.Common.{sym, ◌∙◌}
 use Rattle.std.specs.Prelude.{find, is_some}
 use Rattle.tl_bytes.specs.declared.telling.Telling.{Telling}
 use Rattle.tl_bytes.specs.statement.Known.{tellings_at}

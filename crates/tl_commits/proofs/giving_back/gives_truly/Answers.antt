@@ -1,13 +1,10 @@
-use Rattle.std.proofs.Common.{rules, arith, refl, sym, ap, length, ◌∙◌, ◌≡◌, ◌+◌, ◌*◌, true, false}
-use Rattle.std.specs.Prelude.{None}
+use Rattle.std.proofs.Common.{rules, arith, refl, sym, ap, length, ◌∙◌, ◌≡◌, ◌*◌, true, false}
 use Rattle.tl_beat.specs.declared.beat.Beat.{Beat}
-use Rattle.tl_beat.specs.declared.beat.Link.{Link}
 use Rattle.tl_beat.specs.declared.channel.Channel.{Channel}
 use Rattle.tl_burst.specs.statement.Messages.{unfinished}
 use Rattle.tl_memory.proofs.LinkTables.{link-there}
 use Rattle.tl_rules.specs.statement.Conformance.{on_link}
 use Rattle.tl_together.proofs.Following.{followed, one_more}
-use Rattle.tl_commits.specs.statement.Copies.{link_beats}
 use Rattle.tl_commits.specs.statement.Events.{beats_of}
 use Rattle.tl_commits.proofs.GivenBack.{gives-judged, gives-none, gives-some, gives-unjudged, gives-unknown}
 use Rattle.tl_commits.proofs.GivenBack.{report-released, report-room}

@@ -1,4 +1,4 @@
-use Rattle.std.proofs.Common.{length, sym, ◌∙◌}
+use Rattle.std.proofs.Common.{length}
 use Rattle.tl_beat.specs.declared.beat.{Beat.Beat, Link.Link}
 use Rattle.tl_memory.proofs.LinkTables.{link-there}
 use Rattle.tl_commits.specs.statement.Events.{beats_of}

@@ -1,6 +1,5 @@
-use Rattle.std.proofs.Common.{arith, ap, sym, ◌∙◌, ◌+◌, ◌*◌, ◌<◌, ◌≤◌}
+use Rattle.std.proofs.Common.{arith, ap, sym, ◌∙◌, ◌≤◌}
 use Rattle.std.specs.Prelude.{Some}
-use Rattle.tl_bytes.specs.statement.KnownBytes.{known_at}
 use Rattle.tl_rules.specs.statement.Effect.{byte_of}
 use Rattle.tl_commits.proofs.PieceValues.{piece-place}
 use Rattle.tl_commits.proofs.piece_values.piece_write.Goals as goal

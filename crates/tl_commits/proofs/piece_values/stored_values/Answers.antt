@@ -1,4 +1,4 @@
-use Rattle.std.proofs.Common.{length, sym, ◌∙◌}
+use Rattle.std.proofs.Common.{length}
 use Rattle.tl_rules.specs.statement.History.{block_at}
 use Rattle.tl_commits.specs.statement.Events.{beats_of}
 use Rattle.tl_commits.proofs.PieceValues.{next-stored, values-stored}

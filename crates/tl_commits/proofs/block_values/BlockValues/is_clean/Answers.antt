@@ -12,8 +12,15 @@ loop-place-preserved c = λ w complete n block e k.
     let p = c.loop-place.place in
     let lt = c.loop-place-test.true in
     below-more p (λ place. is_kept complete n (64 * block + place) e) c.either.result c.loop-place.all c.both-all.result
-    (c.either.ensures ∙ rw (c.is_in.ensures, c.have_common-common.ensures, c.as_slice.ensures.value,
-    c.as_slice-in-loop-place.ensures.value, k.stored_is p lt, k.seen_is p lt, k.memory_is p lt) refl)
+    (c.either.ensures ∙ rw (
+      c.is_in.ensures,
+      c.have_common-common.ensures,
+      c.as_slice.ensures.value,
+      c.as_slice-in-loop-place.ensures.value,
+      k.stored_is p lt,
+      k.seen_is p lt,
+      k.memory_is p lt,
+    ) refl)
     (c.loop-place.invariant w complete n block e k) c.both-all.ensures
 
 pub returns : goal.returns

@@ -1,4 +1,4 @@
-use Rattle.std.proofs.Common.{◌≡◌, ◌≤◌, ◌+◌, ◌*◌, ℕ, Bool, List}
+use Rattle.std.proofs.Common.{◌≡◌, ◌+◌, ◌*◌, ℕ, Bool, List}
 use Rattle.tl_rules.specs.statement.Legality.{each_below}
 use Rattle.tl_commits.specs.code.BlockValues.{KnowsValues}
 use Rattle.tl_commits.specs.statement.Commits.{is_kept}

@@ -1,4 +1,4 @@
-use Rattle.std.proofs.Common.{rules, ap, ap₂, length, sym, ◌∙◌, ◌≡◌, ◌||◌, true, false, find}
+use Rattle.std.proofs.Common.{rules, ap, ap₂, length, ◌∙◌, ◌≡◌, ◌||◌, true, false, find}
 use Rattle.std.specs.Prelude.{is_some}
 use Rattle.tl_commits.specs.code.Loading.{is_of}
 use Rattle.tl_commits.specs.statement.Copies.{is_complete}

@@ -1,5 +1,4 @@
-use Rattle.std.proofs.Common.{refl, sym, ap, length, ◌∙◌}
-use Rattle.tl_beat.specs.declared.beat.Beat.{Beat}
+use Rattle.std.proofs.Common.{ap, length, ◌∙◌}
 use Rattle.tl_memory.proofs.LinkTables.{link-there}
 use Rattle.tl_commits.specs.statement.Copies.{is_complete}
 use Rattle.tl_commits.specs.statement.Events.{beats_of}

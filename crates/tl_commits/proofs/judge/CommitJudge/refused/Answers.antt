@@ -1,4 +1,4 @@
-use Rattle.std.proofs.Common.{false, refl, sym, ◌∙◌}
+use Rattle.std.proofs.Common.{false, refl}
 use Rattle.tl_commits.specs.statement.Events.{beats_of}
 use Rattle.tl_commits.proofs.BeatsJudged.{judge-asked}
 use Rattle.tl_commits.proofs.judge.CommitJudge.refused.Goals as goal

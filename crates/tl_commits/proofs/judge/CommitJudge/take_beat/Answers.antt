@@ -1,5 +1,4 @@
 use Rattle.std.proofs.Common.{◌∷◌, false, length, refl, sym, ap, subst, ◌∙◌}
-use Rattle.std.specs.Prelude.{None}
 use Rattle.tl_beat.specs.declared.beat.Link.{Link}
 use Rattle.tl_together.specs.statement.Coherence.{broken_together}
 use Rattle.tl_together.specs.statement.Knows.{Knows}

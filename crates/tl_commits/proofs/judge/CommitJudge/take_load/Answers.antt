@@ -1,4 +1,4 @@
-use Rattle.std.proofs.Common.{◌∷◌, length, refl, sym, ap, subst, false, ◌∙◌, ◌≡◌}
+use Rattle.std.proofs.Common.{◌∷◌, length, sym, ap, subst, false, ◌∙◌}
 use Rattle.std.specs.Prelude.{filter, not, None}
 use Rattle.tl_beat.specs.declared.beat.Link.{Link}
 use Rattle.tl_together.specs.statement.Knows.{Knows}

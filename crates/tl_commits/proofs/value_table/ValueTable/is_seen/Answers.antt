@@ -1,6 +1,5 @@
-use Rattle.std.proofs.Common.{arith, sym, ap, subst, ◌∙◌, ◌≡◌}
+use Rattle.std.proofs.Common.{sym, ap, subst, ◌∙◌}
 use Rattle.tl_bytes.specs.statement.Bytes.{told_as}
-use Rattle.tl_bytes.specs.statement.Known.{tellings_at}
 use Rattle.tl_commits.specs.code.ValueTable.{KnowsKept}
 use Rattle.tl_commits.proofs.TableJudged.{kept-known, untouched-seen}
 use Rattle.tl_commits.proofs.value_table.ValueTable.is_seen.Goals as goal

@@ -2,6 +2,14 @@ pub mod CommitFaults
 pub mod CommitLines
 pub mod CommitSpelled
 pub mod Pieces
+pub mod AnyTold
+pub mod LoadedBytes
+pub mod GivenBack
+pub mod GivenUp
+pub mod PieceValues
+pub mod TellingLists
+pub mod TableJudged
+pub mod ValuesJudged
 pub mod WorkedCommits
 pub mod WorkedEvents
 pub mod BeatsAlone
@@ -11,4 +19,5 @@ pub mod Giving
 pub mod AtOnce
 pub mod Loads
 pub mod LoadsNext
-pub mod CopiesJudged
+pub mod BeatsJudged
+pub mod CommitsJudged

@@ -1,5 +1,10 @@
+pub mod BlockValues
 pub mod CommitReading
 pub mod FromLeft
 pub mod Giving
+pub mod GivingBack
+pub mod GivingUp
 pub mod Loading
 pub mod Judging
+pub mod Tellings
+pub mod ValueTable

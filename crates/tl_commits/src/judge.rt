@@ -1,26 +1,41 @@
-//! A judge of beats, and of the copies that stores and loads need.
+//! A judge of beats and commits.
 
-ghost use Rattle.std.specs.Prelude.{ℕ, List, None, Some, ◌≡◌, ◌<◌, if◌then◌else◌, is_some, length, slice_get};
+ghost use Rattle.std.specs.Prelude.{ℕ, Bool, List, None, Some, Err, IfOk, ◌≡◌, ◌<◌, if◌then◌else◌, length, slice_get};
+ghost use Rattle.tl_beat.specs.declared.beat.Beat.{Beat};
+ghost use Rattle.tl_beat.specs.declared.beat.Link.{Link};
 ghost use Rattle.tl_beat.specs.statement.Width.{IsWidth};
 ghost use Rattle.tl_params.specs.declared.level.Level.{Level};
 ghost use Rattle.tl_params.specs.declared.liberties.Liberties.{Liberties};
+ghost use Rattle.tl_memory.specs.statement.Links.{KeepsRules};
+ghost use Rattle.tl_together.specs.statement.Coherence.{broken_together};
+ghost use Rattle.tl_commits.specs.code.BlockValues.{says_piece};
 ghost use Rattle.tl_commits.specs.code.Judging as code;
-ghost use Rattle.tl_beat.specs.declared.beat.Link.{Link};
+ghost use Rattle.tl_commits.specs.code.ValueTable.{IsNext, KnowsTable};
 ghost use Rattle.tl_commits.specs.declared.commit.Event.{Event};
+ghost use Rattle.tl_commits.specs.declared.rule.CommitRule.TheVariants.{M6, M7};
 ghost use Rattle.tl_commits.specs.statement.Breaches.{breach_of, has_cache};
-ghost use Rattle.tl_commits.specs.declared.rule.CommitRule.TheVariants.{M5};
 ghost use Rattle.tl_commits.specs.statement.CommitLine.{IsCommit, IsPiece};
 ghost use Rattle.tl_commits.specs.statement.Commits;
-ghost use Rattle.tl_commits.specs.statement.Events.{Events};
+ghost use Rattle.tl_commits.specs.statement.Copies.{is_complete};
+ghost use Rattle.tl_commits.specs.statement.Events.{Events, beats_of};
 ghost use Rattle.tl_commits.specs.statement.Knows.{Answers, recorded_after};
 
+use crate::block_values::BlockValues;
+use crate::bringing::brings_piece;
 use crate::commit::{Commit, Event, Piece};
-use crate::commits::{broken_store, unless};
+use crate::commits::broken_store;
 use crate::fault::CommitFault;
-use crate::loading::{Loading, begin, could_load, forget, renew};
+use crate::giving_back::{carrier, gives_truly};
+use crate::giving_up::{holds_trunk, keeps_stores};
+use crate::loading::{Loading, begin, could_load, forget, has_begun, renew};
+use crate::next_values::next_values;
+use crate::piece_values::{loaded_values, stored_values};
 use crate::rule::{CommitBreach, CommitRule};
-use std::alloc::Global;
+use crate::value_table::ValueTable;
+use std::alloc::{AllocError, Global};
 use tl_beat::beat::{Beat, Link};
+use tl_memory::message::{both, either};
+use tl_rules::key::block_at;
 use tl_rules::level::Level;
 use tl_rules::liberties::Liberties;
 use tl_rules::rule::Rule;
@@ -29,12 +44,17 @@ use tl_together::fault::JudgeFault;
 use tl_together::judge::Judge;
 
 /// Judges beats and commits of up to 16 links of one manager, in the order in which they were seen: beats by the rules of
-/// beats alone, commits by L1 and M5. It keeps the loads that have begun, and no other event.
+/// beats alone and by M7, commits by L1, M5 and M6 (loads that began earlier by M5 alone). It keeps the possible values of the
+/// bytes of blocks, and the loads that have begun, and no event.
 #[derive(Drop)]
-pub struct CopyJudge<const W: usize> {
+pub struct CommitJudge<const W: usize> {
+    alloc: Global,
     judge: Judge<W>,
     levels: Vec<Level>,
+    /// Whether all stores of each link are in the trace.
+    complete: Vec<bool>,
     loads: Vec<Loading>,
+    values: ValueTable,
 }
 
 /// The fault of a judge whose judge of beats refuses a beat.
@@ -58,33 +78,52 @@ fn has_cache(levels: &Vec<Level>, link: Link) -> bool
     }
 }
 
-/// The answer to a commit that breaks this rule, or none.
-fn broken_by(rule: Option<CommitRule>) -> Result<(), CommitFault>
-    ensures answer { Answers (breach_of None rule) result }
-    ensures recorded { (w : ℕ) (x : Link × Event w) (e : Events w) →
-        recorded_after result x e ≡ code.recorded_unless rule x e }
+/// Whether all stores of a link are in the trace.
+fn is_complete(complete: &Vec<bool>, link: Link) -> bool
+    ensures { result ≡ is_complete complete.now.items link.0 }
 {
-    match rule {
-        None => Ok(()),
-        Some(rule) => Err(CommitFault::Broken(CommitBreach::OfCommits(rule))),
+    match complete.get(usize::from(link.0)) {
+        Some(complete) => *complete,
+        None => false,
     }
 }
 
-impl<const W: usize> CopyJudge<W> {
-    ghost use Rattle.tl_beat.specs.declared.beat.Beat.{Beat};
+/// M7, unless a beat keeps it.
+fn unless_kept(keeps: bool) -> Option<CommitRule>
+    ensures { result ≡ (if keeps then None else Some M7) }
+{
+    if keeps { None } else { Some(CommitRule::M7) }
+}
+
+/// M6, unless a load keeps it.
+fn unless_brought(keeps: bool) -> Option<CommitRule>
+    ensures { result ≡ (if keeps then None else Some M6) }
+{
+    if keeps { None } else { Some(CommitRule::M6) }
+}
+
+/// The fault of an event that breaks this rule of commits.
+fn of_rule(rule: CommitRule) -> CommitFault
+    ensures { result ≡ code.of_rule rule }
+{
+    CommitFault::Broken(CommitBreach::OfCommits(rule))
+}
+
+impl<const W: usize> CommitJudge<W> {
     ghost use Rattle.tl_commits.specs.declared.commit.Event.TheVariants as event;
     ghost use Rattle.tl_commits.specs.declared.commit.Commit.TheVariants as commit;
-    ghost use Rattle.tl_commits.specs.statement.Knows.{IsEvent, IsNew, KnowsCopies, broken_copy};
+    ghost use Rattle.tl_commits.specs.statement.Knows.{IsEvent, IsNew, KnowsCommits, broken_by_judge, broken_now};
 
-    /// A judge of links of these levels and with these liberties, which has seen no event. The error is `Levels` unless
-    /// there are 1 to 16 levels, or `Memory`.
+    /// A judge of links of these levels and with these liberties, which has seen no event. `complete` says for each link
+    /// whether all its stores will be in the trace. The error is `Levels` unless there are 1 to 16 levels, or `Memory`.
     pub fn with_liberties(
         alloc: Global,
         levels: &[Level],
+        complete: &[bool],
         liberties: Liberties,
     ) -> Result<Self, CommitFault>
         requires { IsWidth W }
-        ensures { IsNew levels.now liberties result }
+        ensures { IsNew levels.now complete.now liberties result }
     {
         let judge = match Judge::with_liberties(alloc, levels, liberties) {
             Ok(judge) => judge,
@@ -94,93 +133,217 @@ impl<const W: usize> CopyJudge<W> {
         let Ok(levels) = Vec::from_slice(alloc, levels) else {
             return Err(CommitFault::Memory);
         };
-        Ok(CopyJudge {
+        let Ok(complete) = Vec::from_slice(alloc, complete) else {
+            return Err(CommitFault::Memory);
+        };
+        Ok(CommitJudge {
+            alloc,
             judge,
             levels,
+            complete,
             loads: Vec::new(alloc),
+            values: ValueTable::new(alloc),
         })
+    }
+
+    /// M7, if a beat breaks it.
+    fn broken_report(&self, link: Link, beat: &Beat<W>) -> Option<CommitRule>
+        requires { IsWidth W }
+        ensures { (levels : List Level) (complete : List Bool) (l : Liberties) (e : Events W) →
+            KnowsCommits self.now levels complete l e → KeepsRules l levels (link, beat.now) (beats_of e) →
+            result ≡ Commits.broken_report complete (length levels) link.0 beat.now e }
+    {
+        let complete = is_complete(&self.complete, link);
+        if let Some(x) = carrier(beat) {
+            return unless_kept(gives_truly(&self.judge, &self.values, complete, link, x));
+        }
+        unless_kept(keeps_stores(&self.judge, &self.values, complete, link, beat))
+    }
+
+    /// The fault of a beat that breaks this rule of commits, unless it breaks one of beats. All that is known stays true.
+    fn refused(&mut self, rule: CommitRule, link: Link, beat: &Beat<W>) -> CommitFault
+        requires { IsWidth W }
+        ensures answer { (levels : List Level) (complete : List Bool) (l : Liberties) (e : Events W) →
+            KnowsCommits self.old levels complete l e →
+            Answers (breach_of (broken_together levels l (link, beat.now) (beats_of e)) (Some rule)) (Err result) }
+        ensures knows { (levels : List Level) (complete : List Bool) (l : Liberties) (e : Events W) →
+            KnowsCommits self.old levels complete l e → KnowsCommits self.new levels complete l e }
+    {
+        match self.judge.broken(link, beat) {
+            Ok(Some(breach)) => CommitFault::Broken(CommitBreach::OfBeats(breach)),
+            Ok(None) => of_rule(rule),
+            Err(_) => CommitFault::Memory,
+        }
+    }
+
+    /// Takes the values of a block after an event that the judge of beats took, if they change, and renews the loads.
+    fn record(&mut self, next: Option<(u32, BlockValues)>)
+        requires { IsWidth W }
+        ensures { code.IsRecorded self.old self.new next }
+    {
+        if let Some((block, values)) = next {
+            self.values.put(block, values);
+        }
+        renew(&self.judge, &mut self.loads);
     }
 
     /// Judges a beat, and takes it if it breaks no rule.
     fn take_beat(&mut self, link: Link, beat: &Beat<W>) -> Result<(), CommitFault>
         requires { IsWidth W }
-        ensures answer { (levels : List Level) (l : Liberties) (e : Events W) → KnowsCopies self.old levels l e →
-            Answers (broken_copy levels l link (event.Beat beat.now) e) result }
-        ensures knows { (levels : List Level) (l : Liberties) (e : Events W) → KnowsCopies self.old levels l e →
-            KnowsCopies self.new levels l (recorded_after result (link, event.Beat beat.now) e) }
+        ensures answer { (levels : List Level) (complete : List Bool) (l : Liberties) (e : Events W) →
+            KnowsCommits self.old levels complete l e →
+            Answers (broken_by_judge levels complete l link (event.Beat beat.now) e) result }
+        ensures knows { (levels : List Level) (complete : List Bool) (l : Liberties) (e : Events W) →
+            KnowsCommits self.old levels complete l e →
+            KnowsCommits self.new levels complete l (recorded_after result (link, event.Beat beat.now) e) }
     {
+        if let Some(rule) = self.broken_report(link, beat) {
+            return Err(self.refused(rule, link, beat));
+        }
+        let Ok(next) = next_values(self.alloc, &self.judge, &mut self.values, link, beat) else {
+            return Err(CommitFault::Memory);
+        };
         match self.judge.try_push(link, beat) {
             Ok(()) => {}
             Err(fault) => return Err(of_judge(fault)),
         }
-        renew(&self.judge, &mut self.loads);
+        self.record(next);
         Ok(())
     }
 
-    /// Takes the store of a piece, unless it breaks M5.
-    fn take_store(&mut self, link: Link, piece: Piece) -> Option<CommitRule>
+    /// Judges a store, and takes it if it breaks no rule.
+    fn take_store(&mut self, link: Link, piece: Piece, value: u64) -> Result<(), CommitFault>
         requires { IsWidth W }
-        ensures broken { (levels : List Level) (l : Liberties) (e : Events W) → KnowsCopies self.old levels l e →
-            link.0 < length levels → result ≡ Commits.broken_store link.0 piece e }
-        ensures knows { (levels : List Level) (l : Liberties) (value : ℕ) (e : Events W) →
-            KnowsCopies self.old levels l e → link.0 < length levels →
-            KnowsCopies self.new levels l (code.recorded_unless result (link, event.Commit (commit.Store piece value)) e) }
+        ensures answer { (levels : List Level) (complete : List Bool) (l : Liberties) (e : Events W) →
+            KnowsCommits self.old levels complete l e → link.0 < length levels →
+            Answers (breach_of None (Commits.broken_store link.0 piece e)) result }
+        ensures knows { (levels : List Level) (complete : List Bool) (l : Liberties) (e : Events W) →
+            KnowsCommits self.old levels complete l e → link.0 < length levels → IsPiece piece →
+            KnowsCommits self.new levels complete l
+            (recorded_after result (link, event.Commit (commit.Store piece value)) e) }
     {
-        let broken = broken_store(&self.judge, link, piece);
-        if broken.is_none() {
-            renew(&self.judge, &mut self.loads);
+        if let Some(rule) = broken_store(&self.judge, link, piece) {
+            return Err(of_rule(rule));
         }
-        broken
+        let next = stored_values(self.alloc, &self.judge, &mut self.values, piece, value);
+        let Ok(next) = next else {
+            return Err(CommitFault::Memory);
+        };
+        self.record(next);
+        Ok(())
     }
 
-    /// Takes the load of a piece, unless it breaks M5.
-    fn take_load(&mut self, link: Link, piece: Piece) -> Option<CommitRule>
-        requires { IsWidth W }
-        ensures broken { (levels : List Level) (l : Liberties) (e : Events W) → KnowsCopies self.old levels l e →
-            link.0 < length levels → IsPiece piece →
-            result ≡ (if Commits.lacks_copy link.0 piece e then Some M5 else None) }
-        ensures knows { (levels : List Level) (l : Liberties) (value : ℕ) (e : Events W) →
-            KnowsCopies self.old levels l e → link.0 < length levels →
-            KnowsCopies self.new levels l (code.recorded_unless result (link, event.Commit (commit.Load piece value)) e) }
+    /// Whether a load of a piece says bytes of its link's copy.
+    fn says_piece(&self, link: Link, piece: Piece) -> bool
+        ensures { (levels : List Level) (complete : List Bool) (l : Liberties) (e : Events W) →
+            KnowsCommits self.now levels complete l e → link.0 < length levels →
+            result ≡ says_piece complete link.0 piece e }
     {
-        let broken = unless(could_load(&self.judge, self.loads.as_slice(), link, piece));
-        if broken.is_none() {
-            forget(&mut self.loads, link, piece);
-            renew(&self.judge, &mut self.loads);
+        let complete = is_complete(&self.complete, link);
+        let held = holds_trunk(&self.judge, link, block_at(piece.address));
+        let begun = has_begun(self.loads.as_slice(), link, piece);
+        both(!begun, either(complete, !held))
+    }
+
+    /// The rule that a load breaks: M5, or M6 if it didn't begin earlier.
+    fn broken_load(&self, link: Link, piece: Piece, value: u64) -> Option<CommitRule>
+        requires { IsWidth W }
+        ensures { (levels : List Level) (complete : List Bool) (l : Liberties) (e : Events W) →
+            KnowsCommits self.now levels complete l e → link.0 < length levels → IsPiece piece →
+            result ≡ broken_now complete (length levels) link.0 piece value e }
+    {
+        if !could_load(&self.judge, self.loads.as_slice(), link, piece) {
+            return Some(CommitRule::M5);
         }
-        broken
+        let complete = is_complete(&self.complete, link);
+        let begun = has_begun(self.loads.as_slice(), link, piece);
+        let brings = brings_piece(&self.judge, &self.values, complete, link, piece, value);
+        unless_brought(either(begun, brings))
+    }
+
+    /// Judges a load, and takes it if it breaks no rule.
+    fn take_load(&mut self, link: Link, piece: Piece, value: u64) -> Result<(), CommitFault>
+        requires { IsWidth W }
+        ensures answer { (levels : List Level) (complete : List Bool) (l : Liberties) (e : Events W) →
+            KnowsCommits self.old levels complete l e → link.0 < length levels → IsPiece piece →
+            Answers (breach_of None (broken_now complete (length levels) link.0 piece value e)) result }
+        ensures knows { (levels : List Level) (complete : List Bool) (l : Liberties) (e : Events W) →
+            KnowsCommits self.old levels complete l e → link.0 < length levels → IsPiece piece →
+            KnowsCommits self.new levels complete l
+            (recorded_after result (link, event.Commit (commit.Load piece value)) e) }
+    {
+        if let Some(rule) = self.broken_load(link, piece, value) {
+            return Err(of_rule(rule));
+        }
+        let Ok(next) = self.values_loaded(link, piece, value) else {
+            return Err(CommitFault::Memory);
+        };
+        forget(&mut self.loads, link, piece);
+        self.record(next);
+        Ok(())
+    }
+
+    /// The values of its block after a load, if it says bytes. The error means that there is no memory left. All that is
+    /// known stays true in either case.
+    fn values_loaded(
+        &mut self,
+        link: Link,
+        piece: Piece,
+        value: u64,
+    ) -> Result<Option<(u32, BlockValues)>, AllocError>
+        requires { IsWidth W }
+        ensures same { code.IsSameBut self.old self.new }
+        ensures knows { (complete : List Bool) (n : ℕ) (e : Events W) → KnowsTable self.old.values complete n e →
+            KnowsTable self.new.values complete n e }
+        ensures next { IfOk result (λ next. (levels : List Level) (complete : List Bool) (l : Liberties) (e : Events W) →
+            KnowsCommits self.old levels complete l e → link.0 < length levels → IsPiece piece →
+            IsNext next self.new.values complete (length levels) (link, event.Commit (commit.Load piece value)) e) }
+    {
+        if !self.says_piece(link, piece) {
+            return Ok(None);
+        }
+        loaded_values(
+            self.alloc,
+            &self.judge,
+            &mut self.values,
+            link,
+            piece,
+            value,
+        )
     }
 
     /// Takes the beginning of a load of a piece. The error is `Memory`; then nothing changes.
     fn take_begin(&mut self, link: Link, piece: Piece) -> Result<(), CommitFault>
         requires { IsWidth W }
         ensures answer { Answers None result }
-        ensures knows { (levels : List Level) (l : Liberties) (e : Events W) → KnowsCopies self.old levels l e →
-            link.0 < length levels → IsPiece piece →
-            KnowsCopies self.new levels l (recorded_after result (link, event.Commit (commit.Begin piece)) e) }
+        ensures knows { (levels : List Level) (complete : List Bool) (l : Liberties) (e : Events W) →
+            KnowsCommits self.old levels complete l e → link.0 < length levels → IsPiece piece →
+            KnowsCommits self.new levels complete l (recorded_after result (link, event.Commit (commit.Begin piece)) e) }
     {
         if begin(&mut self.loads, link, piece).is_err() {
             return Err(CommitFault::Memory);
         }
-        renew(&self.judge, &mut self.loads);
+        self.record(None);
         Ok(())
     }
 
     /// Judges a commit, and takes it if it breaks no rule.
     fn take_commit(&mut self, link: Link, commit: Commit) -> Result<(), CommitFault>
         requires { IsWidth W }
-        ensures answer { (levels : List Level) (l : Liberties) (e : Events W) → KnowsCopies self.old levels l e →
-            IsCommit commit → Answers (broken_copy levels l link (event.Commit commit) e) result }
-        ensures knows { (levels : List Level) (l : Liberties) (e : Events W) → KnowsCopies self.old levels l e →
-            IsCommit commit → KnowsCopies self.new levels l (recorded_after result (link, event.Commit commit) e) }
+        ensures answer { (levels : List Level) (complete : List Bool) (l : Liberties) (e : Events W) →
+            KnowsCommits self.old levels complete l e → IsCommit commit →
+            Answers (broken_by_judge levels complete l link (event.Commit commit) e) result }
+        ensures knows { (levels : List Level) (complete : List Bool) (l : Liberties) (e : Events W) →
+            KnowsCommits self.old levels complete l e → IsCommit commit →
+            KnowsCommits self.new levels complete l (recorded_after result (link, event.Commit commit) e) }
     {
         if !has_cache(&self.levels, link) {
             let breach = CommitBreach::OfBeats(Breach::OfLink(Rule::L1));
             return Err(CommitFault::Broken(breach));
         }
         match commit {
-            Commit::Store { piece, .. } => broken_by(self.take_store(link, piece)),
-            Commit::Load { piece, .. } => broken_by(self.take_load(link, piece)),
+            Commit::Store { piece, value } => self.take_store(link, piece, value),
+            Commit::Load { piece, value } => self.take_load(link, piece, value),
             Commit::Begin { piece } => self.take_begin(link, piece),
         }
     }
@@ -189,10 +352,12 @@ impl<const W: usize> CopyJudge<W> {
     /// on.
     pub fn try_push(&mut self, link: Link, event: &Event<W>) -> Result<(), CommitFault>
         requires { IsWidth W }
-        ensures answer { (levels : List Level) (l : Liberties) (e : Events W) → KnowsCopies self.old levels l e →
-            IsEvent event.now → Answers (broken_copy levels l link event.now e) result }
-        ensures knows { (levels : List Level) (l : Liberties) (e : Events W) → KnowsCopies self.old levels l e →
-            IsEvent event.now → KnowsCopies self.new levels l (recorded_after result (link, event.now) e) }
+        ensures answer { (levels : List Level) (complete : List Bool) (l : Liberties) (e : Events W) →
+            KnowsCommits self.old levels complete l e → IsEvent event.now →
+            Answers (broken_by_judge levels complete l link event.now e) result }
+        ensures knows { (levels : List Level) (complete : List Bool) (l : Liberties) (e : Events W) →
+            KnowsCommits self.old levels complete l e → IsEvent event.now →
+            KnowsCommits self.new levels complete l (recorded_after result (link, event.now) e) }
     {
         match event {
             Event::Beat(beat) => self.take_beat(link, beat),

@@ -1,12 +1,21 @@
 //! Stores and loads of the cores on a manager's links, in one trace with the beats: their lines, and the rules M5 to M7.
 #![tactic(auto)]
 
+mod block_values;
+mod bringing;
 pub mod commit;
 pub mod commits;
+mod common;
 mod copies;
 pub mod fault;
+mod giving_back;
+mod giving_up;
 pub mod judge;
 pub mod law;
 mod loading;
+mod next_values;
+mod piece_values;
 pub mod read;
 pub mod rule;
+mod tellings;
+mod value_table;

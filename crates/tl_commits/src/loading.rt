@@ -1,6 +1,6 @@
 //! Loads that have begun and aren't in the trace yet.
 
-ghost use Rattle.std.specs.Prelude.{[], not, ◌∷◌, ◌++◌, ◌≡◌, ◌&&◌, ◌==◌, filter, find, option_copied, OnErr, OnOk};
+ghost use Rattle.std.specs.Prelude.{[], not, ◌∷◌, ◌++◌, ◌≡◌, ◌&&◌, ◌==◌, filter, find, is_some, option_copied, OnErr, OnOk};
 ghost use Rattle.std.specs.List.{AllZip};
 ghost use Rattle.tl_beat.specs.statement.Width.{IsWidth};
 ghost use Rattle.tl_commits.specs.code.Loading as code;
@@ -42,6 +42,13 @@ fn find(loads: &[Loading], link: Link, piece: Piece) -> Option<&Loading>
         }
     }
     None
+}
+
+/// Whether a load of this piece on this link has begun.
+pub(crate) fn has_begun(loads: &[Loading], link: Link, piece: Piece) -> bool
+    ensures { result ≡ is_some (find (code.is_of link.0 piece) loads.now) }
+{
+    find(loads, link, piece).is_some()
 }
 
 /// Whether a load of this piece on this link has begun, and could be performed at a moment since.

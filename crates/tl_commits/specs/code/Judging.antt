@@ -3,12 +3,13 @@ use Rattle.tl_together.specs.declared.fault.JudgeFault.{JudgeFault}
 use Rattle.tl_together.specs.declared.fault.JudgeFault.TheVariants as judge
 use Rattle.tl_commits.specs.declared.fault.CommitFault.{CommitFault}
 use Rattle.tl_commits.specs.declared.fault.CommitFault.TheVariants as fault
-use Rattle.tl_commits.specs.declared.rule.CommitBreach.TheVariants.{OfBeats}
+use Rattle.tl_commits.specs.declared.rule.CommitBreach.TheVariants.{OfBeats, OfCommits}
 use Rattle.tl_commits.specs.declared.rule.CommitRule.{CommitRule}
-use Rattle.tl_commits.specs.declared.commit.Event.{Event}
-use Rattle.tl_commits.specs.statement.Events.{Events}
-use Rattle.tl_beat.specs.declared.beat.Link.{Link}
-use Rattle.std.specs.Prelude.{ℕ, ◌∷◌, Option, Some, None}
+use Rattle.std.specs.Prelude.{ℕ, true, ◌≡◌, ◌==◌, if◌then◌else◌, List, Option, Some, None, is_some}
+use Rattle.tl_commits.specs.code.Loading.{AreRenewed}
+use Rattle.tl_commits.specs.code.ValueTable.{values_in}
+use Rattle.tl_commits.specs.declared.block_values.BlockValues.{BlockValues}
+use Rattle.tl_commits.specs.declared.judge.CommitJudge.{CommitJudge}
 
 abbrev pub of_judge : JudgeFault → CommitFault
 of_judge judge.Levels = fault.Levels
@@ -16,7 +17,26 @@ of_judge (judge.Broken breach) = fault.Broken (OfBeats breach)
 of_judge judge.Memory = fault.Memory
 of_judge judge.Closed = fault.Memory
 
--- the trace with one more event, unless it breaks a rule
-abbrev pub recorded_unless : {w : ℕ} → Option CommitRule → Link × Event w → Events w → Events w
-recorded_unless None x e = x ∷ e
-recorded_unless (Some rule) x e = e
+abbrev pub of_rule : CommitRule → CommitFault
+of_rule rule = fault.Broken (OfCommits rule)
+
+-- the judges are the same but for the values of blocks
+pub record IsSameBut {w : ℕ} (old new : CommitJudge w) : Type 0 where
+  pub judge_is : new.judge ≡ old.judge
+  pub levels_are : new.levels ≡ old.levels
+  pub complete_are : new.complete ≡ old.complete
+  pub loads_are : new.loads ≡ old.loads
+
+-- the table with the values of one block, if there are some
+abbrev pub HasPut : List (ℕ × BlockValues) → List (ℕ × BlockValues) → Option (ℕ × BlockValues) → Type 0
+HasPut old new None = new ≡ old
+HasPut old new (Some (block, values)) = is_some (values_in old block) ≡ true
+    → (k : ℕ) → values_in new k ≡ (if k == block then Some values else values_in old k)
+
+-- the values of one block are put into the judge, if there are some, and its loads are renewed
+pub record IsRecorded {w : ℕ} (old new : CommitJudge w) (next : Option (ℕ × BlockValues)) : Type 0 where
+  pub judge_is : new.judge ≡ old.judge
+  pub levels_are : new.levels ≡ old.levels
+  pub complete_are : new.complete ≡ old.complete
+  pub loads_are : AreRenewed old.judge old.loads.items new.loads.items
+  pub values_are : HasPut old.values new.values next

@@ -14,10 +14,11 @@ use Rattle.tl_rules.specs.statement.OpenMessages.{open_probe}
 use Rattle.tl_rules.specs.declared.past.Probe.{Probe}
 use Rattle.tl_rules.specs.statement.Conformance.{Trace, is_probe_block, on_link, same_perm}
 use Rattle.tl_rules.specs.statement.Effect.{byte_of}
-use Rattle.tl_rules.specs.statement.History.{block_at, is_grant, request_of, reported}
+use Rattle.tl_rules.specs.statement.History.{block_at, reported}
 use Rattle.tl_bytes.specs.declared.telling.Telling.{Telling}
-use Rattle.tl_bytes.specs.statement.Bytes.{after_beat, after_settling, asks_unread, carried_byte, tells}
+use Rattle.tl_bytes.specs.statement.Bytes.{after_beat, after_settling, carried_byte, tells}
 use Rattle.tl_bytes.specs.statement.Early.{telling_beats}
+use Rattle.tl_memory.specs.statement.ByteChanges.{grants_unread}
 use Rattle.tl_commits.specs.declared.commit.Commit.{Commit}
 use Rattle.tl_commits.specs.declared.commit.Commit.TheVariants as commit
 use Rattle.tl_commits.specs.declared.commit.Event.{Event}
@@ -27,11 +28,6 @@ use Rattle.tl_commits.specs.statement.Copies.{brought, holds_trunk, is_known, li
 use Rattle.tl_commits.specs.statement.Events.{Events, beats_of, is_loading}
 
 -- ---- memory
-
--- the beat is a Grant that answers an AcquirePerm
-abbrev pub grants_unread : {w : ℕ} → Beat w → History w → Bool
-grants_unread (beat.D x) past = is_grant x.opcode && asks_unread (request_of x.source past)
-grants_unread _ past = false
 
 -- the byte that a message says with this beat
 abbrev pub told_by : {w : ℕ} → ℕ → Beat w → History w → ℕ → List Telling

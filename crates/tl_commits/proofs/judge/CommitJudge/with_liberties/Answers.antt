@@ -1,0 +1,18 @@
+use Rattle.std.proofs.Common.{length}
+use Rattle.tl_commits.specs.statement.Events.{beats_of}
+use Rattle.tl_commits.proofs.LoadsNext.{no-loads}
+use Rattle.tl_commits.proofs.TableJudged.{table-first}
+use Rattle.tl_commits.proofs.judge.CommitJudge.with_liberties.Goals as goal
+
+pub returns : goal.returns
+unfolding beats_of
+returns g c = (
+  c.in-Ok.ensures.0,
+  record {
+    judge_is = c.in-Ok.ensures.1;
+    levels_are = c.in-Ok-from_slice.ensures.items;
+    complete_are = c.in-Ok-from_slice-2.ensures.items;
+    loads_are = rw c.new.ensures.items (no-loads (length c.args.levels.now));
+    values_are = table-first g.row.W c.new-2.result c.args.complete.now (length c.args.levels.now) c.new-2.ensures;
+  },
+)

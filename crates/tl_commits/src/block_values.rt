@@ -1,0 +1,164 @@
+//! The possible values of a block's bytes, by the beats and the commits.
+
+ghost use Rattle.std.specs.Prelude.{ℕ, ◌∷◌, ◌<◌, ◌≡◌, Bool, List, length, IfOk};
+ghost use Rattle.tl_beat.specs.declared.beat.Beat.{Beat};
+ghost use Rattle.tl_beat.specs.declared.beat.Link.{Link};
+ghost use Rattle.tl_bytes.specs.code.Tellings.{with_write};
+ghost use Rattle.tl_bytes.specs.statement.Known.{tellings_at};
+ghost use Rattle.tl_commits.specs.code.BlockValues as code;
+ghost use Rattle.tl_commits.specs.code.BlockValues.{AreFirst, KnowsValues};
+ghost use Rattle.tl_commits.specs.declared.commit.Event.TheVariants as event;
+ghost use Rattle.tl_commits.specs.statement.Commits;
+ghost use Rattle.tl_commits.specs.statement.Copies.{link_beats};
+ghost use Rattle.tl_commits.specs.statement.Events.{Events, beats_of};
+ghost use Rattle.tl_commits.specs.statement.Seen as seen;
+ghost use Rattle.tl_memory.specs.statement.ByteChanges.{IsByteChange};
+
+use crate::common::have_common;
+use crate::tellings::{Places, chosen, is_in, set, told, with_written, written};
+use std::alloc::{AllocError, Global};
+use tl_bytes::known_bytes::{BLOCK_BYTES, KnownBytes};
+use tl_bytes::telling::Told;
+use tl_bytes::write::Write;
+use tl_memory::byte_change::ByteChange;
+use tl_memory::message::{both, either};
+
+/// The possible values of a block's bytes, those of each byte the newest first.
+#[derive(Drop)]
+pub struct BlockValues {
+    /// By all beats and commits.
+    pub(crate) seen: Vec<Told>,
+    /// The places that were stored to since a message set them.
+    pub(crate) stored: Places,
+    /// What memory may have if no copy is given back.
+    pub(crate) memory: Vec<Told>,
+}
+
+/// These values after a beat that makes this change, if it sets none, at this moment.
+fn changed(
+    alloc: Global,
+    before: &[Told],
+    change: &ByteChange,
+    moment: u64,
+) -> Result<Vec<Told>, AllocError>
+    ensures { IfOk result (λ told. (place : ℕ) → place < 64 → tellings_at place told.items
+        ≡ code.changed change.now moment place (tellings_at place before.now)) }
+{
+    match change {
+        ByteChange::Written { write, standing } => written(alloc, before, write, *standing, moment),
+        _ => Vec::from_slice(alloc, before),
+    }
+}
+
+impl BlockValues {
+    /// A block before the trace: its bytes may have any value. The error means that there is no memory left.
+    pub fn new(alloc: Global) -> Result<Self, AllocError>
+        ensures { IfOk result AreFirst }
+    {
+        Ok(BlockValues {
+            seen: told(alloc, &KnownBytes::none(), 0)?,
+            stored: [false; 64],
+            memory: told(alloc, &KnownBytes::none(), 0)?,
+        })
+    }
+
+    /// The values of memory after a message that sets the block's bytes to these, unless it is a Grant that answers an
+    /// AcquirePerm.
+    fn memory_told(
+        &self,
+        alloc: Global,
+        values: &KnownBytes,
+        unread: bool,
+        moment: u64,
+    ) -> Result<Vec<Told>, AllocError>
+        ensures { IfOk result (λ told. (place : ℕ) → place < 64 → tellings_at place told.items
+            ≡ code.memory_told values.now unread moment place (tellings_at place self.now.memory.items)) }
+    {
+        if unread {
+            return Vec::from_slice(alloc, self.memory.as_slice());
+        }
+        told(alloc, values, moment)
+    }
+
+    /// The values after a beat that makes this change; `moment` is the number of beats before it. `loses` says whether
+    /// with it the stored bytes are lost, as the manager wants it. The error means that there is no memory left.
+    pub fn after_beat(
+        &self,
+        alloc: Global,
+        change: &ByteChange,
+        loses: bool,
+        moment: u64,
+    ) -> Result<Self, AllocError>
+        ensures { IfOk result (λ v. (w : ℕ) (complete : List Bool) (n block : ℕ) (x : Link × Beat w) (e : Events w) →
+            KnowsValues self.now complete n block e → IsByteChange change.now n block x (beats_of e) →
+            loses ≡ seen.loses_stores block x.1 (link_beats x.0.0 e) → moment ≡ length (beats_of e) →
+            KnowsValues v complete n block ((x.0, event.Beat x.1) ∷ e)) }
+    {
+        if let ByteChange::Told { values, unread } = change {
+            return Ok(BlockValues {
+                seen: told(alloc, values, moment)?,
+                stored: [false; 64],
+                memory: self.memory_told(alloc, values, *unread, moment)?,
+            });
+        }
+        let seen = changed(alloc, self.seen.as_slice(), change, moment)?;
+        let memory = changed(alloc, self.memory.as_slice(), change, moment)?;
+        if !loses {
+            return Ok(BlockValues {
+                seen,
+                stored: self.stored,
+                memory,
+            });
+        }
+        let kept = self.memory.as_slice();
+        Ok(BlockValues {
+            seen: chosen(alloc, &self.stored, kept, seen.as_slice())?,
+            stored: [false; 64],
+            memory,
+        })
+    }
+
+    /// The values after a store that writes these places; `moment` is the number of beats before it. The error means that
+    /// there is no memory left.
+    pub fn after_store(&self, alloc: Global, write: &Write, moment: u64) -> Result<Self, AllocError>
+        ensures { IfOk result (λ v. code.IsStored self.now v write.now moment) }
+    {
+        let places = with_written(&[false; 64], write);
+        Ok(BlockValues {
+            seen: set(alloc, self.seen.as_slice(), &places, write, moment)?,
+            stored: with_written(&self.stored, write),
+            memory: Vec::from_slice(alloc, self.memory.as_slice())?,
+        })
+    }
+
+    /// The values after a load that says the bytes of these places; `moment` is the number of beats before it. The error
+    /// means that there is no memory left.
+    pub fn after_load(
+        &self,
+        alloc: Global,
+        places: &Places,
+        write: &Write,
+        moment: u64,
+    ) -> Result<Self, AllocError>
+        ensures { IfOk result (λ v. code.IsLoaded self.now v places.now write.now moment) }
+    {
+        Ok(BlockValues {
+            seen: set(alloc, self.seen.as_slice(), places, write, moment)?,
+            stored: self.stored,
+            memory: Vec::from_slice(alloc, self.memory.as_slice())?,
+        })
+    }
+
+    /// Whether each byte that was stored may have a value that memory may have.
+    pub fn is_clean(&self) -> bool
+        ensures { (w : ℕ) (complete : List Bool) (n block : ℕ) (e : Events w) →
+            KnowsValues self.now complete n block e → result ≡ Commits.is_clean complete n block e }
+    {
+        let mut all = true;
+        for place in 0..BLOCK_BYTES {
+            let common = have_common(self.seen.as_slice(), self.memory.as_slice(), place);
+            all = both(either(!is_in(&self.stored, place), common), all);
+        }
+        all
+    }
+}

@@ -107,7 +107,7 @@ fn brings_each<const W: usize>(
     all
 }
 
-/// The same of what may be no piece.
+/// The same of numbers that may be those of no piece.
 pub(crate) fn brings_piece<const W: usize>(
     judge: &Judge<W>,
     table: &ValueTable,

@@ -1,15 +1,10 @@
--- M5 of a load, by the loads that have begun.
-use Rattle.std.proofs.Common.{◌≡◌, ◌<◌, ◌^◌, Bool, true, false, not, refl, sym, ◌∙◌}
+-- Pieces, by the test that a judge makes.
+use Rattle.std.proofs.Common.{◌≡◌, ◌<◌, ◌^◌, true, false, refl, sym, ◌∙◌}
 use Rattle.std.proofs.lemmas.Bool.{and_parts, le-leb, leb-true}
-use Rattle.std.specs.Prelude.{if◌then◌else◌, nat_le, Some, None}
+use Rattle.std.specs.Prelude.{nat_le}
 use Rattle.tl_rules.specs.statement.Legality.{is_aligned}
 use Rattle.tl_commits.specs.declared.commit.Piece.{Piece}
 use Rattle.tl_commits.specs.statement.CommitLine.{IsPiece, is_piece}
-use Rattle.tl_commits.specs.declared.rule.CommitRule.TheVariants.{M5}
-
-pub other-way : (b : Bool) → (if b then None else Some M5) ≡ (if not b then Some M5 else None)
-other-way true = refl
-other-way false = refl
 
 -- a piece passes the test of pieces, and one that passes it is a piece
 pub no-piece : {X : Type 0} (piece : Piece) → IsPiece piece → is_piece piece.size piece.address ≡ false → X

@@ -3,7 +3,7 @@ use Rattle.std.proofs.Common.{◌≡◌, ◌<◌, ℕ, Bool, true, false, ◌&&�
 use Rattle.std.proofs.Common.{inl, inr, length, slice_get}
 use Rattle.std.proofs.lemmas.Option.{slice_get_cases}
 use Rattle.tl_params.specs.declared.level.Level.{Level}
-use Rattle.std.specs.Prelude.{if◌then◌else◌, Option, Some, None, Err, is_none, is_some}
+use Rattle.std.specs.Prelude.{if◌then◌else◌, Option, Some, None, Err, is_some}
 use Rattle.tl_beat.specs.declared.beat.Link.{Link}
 use Rattle.tl_commits.specs.code.Judging.{of_rule}
 use Rattle.tl_commits.specs.declared.fault.CommitFault.{CommitFault}
@@ -34,10 +34,6 @@ use Rattle.tl_commits.specs.declared.rule.CommitBreach.{CommitBreach}
 use Rattle.tl_commits.proofs.Loads.{pieces-map, pieces-more}
 use Rattle.tl_commits.proofs.LoadsNext.{all-restarted, restarted-link, restarted-piece}
 use Rattle.tl_commits.specs.code.Loading.{restarted}
-
-pub none-is : {X : Type 0} (o : Option X) → is_none o ≡ true → o ≡ None
-none-is None e = refl
-none-is (Some x) e = absurd cc
 
 -- a load that has begun could be performed at a moment since
 was-is : {w : ℕ} (o : Option Loading) (link : ℕ) (piece : Piece) (e : Events w) → IsLoading o link piece e

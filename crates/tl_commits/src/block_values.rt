@@ -30,7 +30,7 @@ pub struct BlockValues {
     pub(crate) seen: Vec<Told>,
     /// The places that were stored to since a message set them.
     pub(crate) stored: Places,
-    /// The bytes that memory may have if no copy is given back.
+    /// Those that memory has, with all copies left out.
     pub(crate) memory: Vec<Told>,
 }
 

@@ -107,7 +107,7 @@ fn brings_each<const W: usize>(
     all
 }
 
-/// The same of numbers that may be those of no piece.
+/// The same for any size and address. False unless they are those of a piece.
 pub(crate) fn brings_piece<const W: usize>(
     judge: &Judge<W>,
     table: &ValueTable,

@@ -31,7 +31,7 @@ use Rattle.tl_engine.specs.statement.Lines.{IsOpen}
 use Rattle.tl_engine.specs.statement.Trace.{levels_text, header_line, trace_word, SpellsHeader}
 use Rattle.tl_engine.specs.code.Watching.{JudgesBeat, KnowsBeats, KnowsLines, KnowsTrace, Watches}
 use Rattle.tl_engine.specs.statement.JudgedSo.{JudgedSo, faults_by, said_by}
-use Rattle.tl_engine.specs.code.Watching.{end_by}
+use Rattle.tl_engine.specs.code.Watching.{end_by, is_together}
 use Rattle.tl_engine.proofs.Decoded.{open_fault}
 use Rattle.tl_engine.proofs.Headers.{header_or_none}
 use Rattle.tl_engine.proofs.JudgedTraces.{all_judged, bad_line, good_beat, header_unread, header_unseen, judged_behind}
@@ -41,18 +41,18 @@ use Rattle.tl_beat.proofs.SpelledLines.{ends_with_byte-line}
 -- ---- the header
 
 -- the first line spells none
-pub header_bad : (together : Bool) (alloc : Global) (line was : List ℕ)
+pub header_bad : (n : ℕ) (alloc : Global) (line was : List ℕ)
     → ((width : Width) (p : Profile) (levels : List Level) → ¬ SpellsHeader line width p levels)
-    → Stops (KnowsLines {together = together}) (JudgedSo together) (Waiting alloc) line was was Header
-header_bad together alloc line was none = λ lines before known more.
-    header_unread SpellsHeader (faults_by together) (said_by together) line before was lines none known.0
+    → Stops (KnowsLines {n = n}) (JudgedSo (is_together n)) (Waiting alloc) line was was Header
+header_bad n alloc line was none = λ lines before known more.
+    header_unread SpellsHeader (faults_by (is_together n)) (said_by (is_together n)) line before was lines none known.0
     known.1 more
 
 -- the first line isn't there
-pub header_missing : (together : Bool) (alloc : Global) (count : ℕ) (was : List ℕ)
-    → Finishes (KnowsLines {together = together}) (JudgedSo together) (Waiting alloc) count was was (Some Header)
-header_missing together alloc count was = λ lines before known counted.
-    header_unseen SpellsHeader (faults_by together) (said_by together) before was lines known.0 known.1
+pub header_missing : (n : ℕ) (alloc : Global) (count : ℕ) (was : List ℕ)
+    → Finishes (KnowsLines {n = n}) (JudgedSo (is_together n)) (Waiting alloc) count was was (Some Header)
+header_missing n alloc count was = λ lines before known counted.
+    header_unseen SpellsHeader (faults_by (is_together n)) (said_by (is_together n)) before was lines known.0 known.1
 
 -- ---- the line of a beat
 
@@ -83,29 +83,29 @@ watched_beat old new line link beat (Ok (Some fault)) spells judged = λ togethe
 watched_beat old new line link beat (Err e) spells judged = tt
 
 -- what a judge says of a line is what the handler says
-module _ {w : ℕ} (together : Bool) (wrap : BeatJudge w → MonitorLines together)
+module _ {w : ℕ} (n : ℕ) (wrap : BeatJudge w → MonitorLines n)
     (into : (judge : BeatJudge w) (lines : List (List ℕ)) (text : List ℕ) → KnowsLines (wrap judge) lines text
-    → KnowsTrace together judge lines text)
+    → KnowsTrace (is_together n) judge lines text)
     (out : (judge : BeatJudge w) (lines : List (List ℕ)) (text : List ℕ)
-    → KnowsTrace together judge lines text → KnowsLines (wrap judge) lines text) where
+    → KnowsTrace (is_together n) judge lines text → KnowsLines (wrap judge) lines text) where
   judges : (old new : BeatJudge w) (line was : List ℕ) (answer : Option Fault)
-      → Watches together old new line answer
-      → Judges KnowsLines (JudgedSo together) (wrap old) (wrap new) line was was answer
+      → Watches (is_together n) old new line answer
+      → Judges KnowsLines (JudgedSo (is_together n)) (wrap old) (wrap new) line was was answer
   judges old new line was None watches = λ lines before known.
       let k = into old lines (before ++ was) known in
       let (link, beat, spells, good, knows) = watches k.levels k.may k.trace k.known in
       out new (lines ++ line ∷ []) (before ++ was)
-      (good_beat SpellsHeader (faults_by together) (said_by together) (KnowsBeats together old) lines
-      (KnowsBeats together new) (before ++ was) line k link beat spells good knows)
+      (good_beat SpellsHeader (faults_by (is_together n)) (said_by (is_together n)) (KnowsBeats (is_together n) old) lines
+      (KnowsBeats (is_together n) new) (before ++ was) line k link beat spells good knows)
   judges old new line was (Some fault) watches = λ lines before known.
       let k = into old lines (before ++ was) known in
-      bad_line SpellsHeader (faults_by together) (said_by together) (KnowsBeats together old) lines
+      bad_line SpellsHeader (faults_by (is_together n)) (said_by (is_together n)) (KnowsBeats (is_together n) old) lines
       before was line fault k (watches k.levels k.may k.trace k.known)
 
   pub watched : {E : Type 0} (old new : BeatJudge w) (line was : List ℕ) (r : Result (Option Fault) E)
       → IfOk r (λ answer. (together : Bool) → Watches together old new line answer)
-      → IfOk r (Judges KnowsLines (JudgedSo together) (wrap old) (wrap new) line was was)
-  watched old new line was (Ok answer) watches = judges old new line was answer (watches together)
+      → IfOk r (Judges KnowsLines (JudgedSo (is_together n)) (wrap old) (wrap new) line was was)
+  watched old new line was (Ok answer) watches = judges old new line was answer (watches (is_together n))
   watched old new line was (Err e) watches = tt
 
 -- ---- where a header has been read
@@ -119,28 +119,28 @@ unread {w} together judge lines before said line k is =
     bad_line SpellsHeader (faults_by together) (said_by together) (KnowsBeats together judge) lines before said line
     (Line F1) k (inl (F1, open_fault w line is, refl))
 
-pub beat_open : (together : Bool) (monitor_lines : MonitorLines together) → ((alloc : Global) → monitor_lines ≡ Waiting alloc → ⊥)
+pub beat_open : (n : ℕ) (monitor_lines : MonitorLines n) → ((alloc : Global) → monitor_lines ≡ Waiting alloc → ⊥)
     → (line said : List ℕ) → IsOpen line
-    → Stops KnowsLines (JudgedSo together) monitor_lines line said said (Line F1)
-beat_open together (Waiting alloc) read line said is = absurd (read alloc refl)
-beat_open together (Four judge) read line said is = λ lines before k.
-    unread together judge lines before said line k is
-beat_open together (Eight judge) read line said is = λ lines before k.
-    unread together judge lines before said line k is
-beat_open together (Sixteen judge) read line said is = λ lines before k.
-    unread together judge lines before said line k is
+    → Stops KnowsLines (JudgedSo (is_together n)) monitor_lines line said said (Line F1)
+beat_open n (Waiting alloc) read line said is = absurd (read alloc refl)
+beat_open n (Four judge) read line said is = λ lines before k.
+    unread (is_together n) judge lines before said line k is
+beat_open n (Eight judge) read line said is = λ lines before k.
+    unread (is_together n) judge lines before said line k is
+beat_open n (Sixteen judge) read line said is = λ lines before k.
+    unread (is_together n) judge lines before said line k is
 
 -- all lines behind the header have a good beat
-pub all_clean : (together : Bool) (monitor_lines : MonitorLines together) → ((alloc : Global) → monitor_lines ≡ Waiting alloc → ⊥)
-    → (count : ℕ) (was is : List ℕ) → is ≡ was ++ end_by together (count - 1)
-    → Finishes KnowsLines (JudgedSo together) monitor_lines count was is None
-all_clean together (Waiting alloc) read count was is says = absurd (read alloc refl)
-all_clean together (Four judge) read count was is says = λ lines before k counted.
-    beats_end together judge count lines before was is says k counted
-all_clean together (Eight judge) read count was is says = λ lines before k counted.
-    beats_end together judge count lines before was is says k counted
-all_clean together (Sixteen judge) read count was is says = λ lines before k counted.
-    beats_end together judge count lines before was is says k counted
+pub all_clean : (n : ℕ) (monitor_lines : MonitorLines n) → ((alloc : Global) → monitor_lines ≡ Waiting alloc → ⊥)
+    → (count : ℕ) (was is : List ℕ) → is ≡ was ++ end_by (is_together n) (count - 1)
+    → Finishes KnowsLines (JudgedSo (is_together n)) monitor_lines count was is None
+all_clean n (Waiting alloc) read count was is says = absurd (read alloc refl)
+all_clean n (Four judge) read count was is says = λ lines before k counted.
+    beats_end (is_together n) judge count lines before was is says k counted
+all_clean n (Eight judge) read count was is says = λ lines before k counted.
+    beats_end (is_together n) judge count lines before was is says k counted
+all_clean n (Sixteen judge) read count was is says = λ lines before k counted.
+    beats_end (is_together n) judge count lines before was is says k counted
 
 -- ---- a header's line ends in LF, and is short
 
@@ -173,24 +173,24 @@ open_line line (inr long) wide p levels h =
     let short : length line ≤ 256 = rw h.is_line (header-short h.version levels h.so_many.1) in
     omega arith
 
-pub header_open : (together : Bool) (alloc : Global) (line said : List ℕ) → IsOpen line
-    → Stops (KnowsLines {together = together}) (JudgedSo together) (Waiting alloc) line said said Header
-header_open together alloc line said is = header_bad together alloc line said (open_line line is)
+pub header_open : (n : ℕ) (alloc : Global) (line said : List ℕ) → IsOpen line
+    → Stops (KnowsLines {n = n}) (JudgedSo (is_together n)) (Waiting alloc) line said said Header
+header_open n alloc line said is = header_bad n alloc line said (open_line line is)
 
 -- ---- each trace has a text
 
-judged_more : (together : Bool) (w : ℕ) → IsTrue (is_width w) → (judge : BeatJudge w) (lines : List (List ℕ)) (text : List ℕ)
-    → KnowsTrace together judge lines text
+judged_more : (n w : ℕ) → IsTrue (is_width w) → (judge : BeatJudge w) (lines : List (List ℕ)) (text : List ℕ)
+    → KnowsTrace (is_together n) judge lines text
     → (more : List (List ℕ)) → (rest : List ℕ) × (status : Status)
-    × JudgedSo together (lines ++ more) (text ++ rest) status
-judged_more together w width judge lines text k more =
-    judged_behind SpellsHeader (faults_by together) (said_by together) (KnowsBeats together judge)
+    × JudgedSo (is_together n) (lines ++ more) (text ++ rest) status
+judged_more n w width judge lines text k more =
+    judged_behind SpellsHeader (faults_by (is_together n)) (said_by (is_together n)) (KnowsBeats (is_together n) judge)
     width lines text k more
 
-pub judged_total : (together : Bool) → IsTotal {M = Unit {0}} (λ h. tt) (KnowsLines {together = together}) (λ m. JudgedSo together)
-judged_total together (Waiting alloc) lines text known more =
+pub judged_total : (n : ℕ) → IsTotal {M = Unit {0}} (λ h. tt) (KnowsLines {n = n}) (λ m. JudgedSo (is_together n))
+judged_total n (Waiting alloc) lines text known more =
     rw (known.0, known.1)
-    (judged_whole SpellsHeader (faults_by together) (said_by together) header_or_none more)
-judged_total together (Four judge) lines text k more = judged_more together 4 refl judge lines text k more
-judged_total together (Eight judge) lines text k more = judged_more together 8 refl judge lines text k more
-judged_total together (Sixteen judge) lines text k more = judged_more together 16 refl judge lines text k more
+    (judged_whole SpellsHeader (faults_by (is_together n)) (said_by (is_together n)) header_or_none more)
+judged_total n (Four judge) lines text k more = judged_more n 4 refl judge lines text k more
+judged_total n (Eight judge) lines text k more = judged_more n 8 refl judge lines text k more
+judged_total n (Sixteen judge) lines text k more = judged_more n 16 refl judge lines text k more

@@ -36,7 +36,7 @@ use Rattle.tl_engine.specs.code.Judging.{Finishes, IsTotal, Judges, Stops}
 use Rattle.tl_engine.specs.statement.Lines.{IsOpen}
 use Rattle.tl_engine.specs.statement.Played.{HeadsSchedule, Played, PlayedAfter, Plays, deliveries_text, event_text}
 use Rattle.tl_engine.specs.statement.Played.{header_text, number_text, outcome_after}
-use Rattle.tl_engine.specs.code.Playing.{KnowsPlay, KnowsSchedule, Opens, PlaysLine}
+use Rattle.tl_engine.specs.code.Playing.{KnowsPlay, KnowsSchedule, Opens, PlaysLine, is_trace}
 use Rattle.tl_engine.specs.statement.PlayableWorld.{Contained, HasHappened}
 use Rattle.tl_engine.specs.statement.Width.{bytes_of}
 use Rattle.tl_engine.proofs.OneText.{is_width_of}
@@ -66,42 +66,42 @@ header-plays trace line version wide config world heads is reached = record {
 }
 
 -- the first line is none
-pub header-none : (traces : Bool) (alloc : Global) (line was : List ℕ)
+pub header-none : (n : ℕ) (alloc : Global) (line was : List ℕ)
     → ((version : Version) (config : Config) → ¬ HeadsSchedule line version config)
-    → Stops (KnowsSchedule {traces = traces}) (Played traces) (Waiting alloc) line was was Header
+    → Stops (KnowsSchedule {n = n}) (Played (is_trace n)) (Waiting alloc) line was was Header
 unfolding Played
-header-none traces alloc line was none = λ lines before known more.
+header-none n alloc line was none = λ lines before known more.
     rw (← append_assoc before was (fault_text (length lines + 1) Header), known.0, known.1) (inr (none, refl, refl))
 
-pub header-refused : (traces : Bool) (alloc : Global) (line was is : List ℕ) (answer : Option (RunLines traces)) → answer ≡ None
+pub header-refused : (n : ℕ) (alloc : Global) (line was is : List ℕ) (answer : Option (RunLines n)) → answer ≡ None
     → Opens line was is answer
-    → Stops (KnowsSchedule {traces = traces}) (Played traces) (Waiting alloc) line was is Header
-header-refused traces alloc line was is None same (none, says) = rw says (header-none traces alloc line was none)
-header-refused traces alloc line was is (Some run_lines) same opens = absurd cc
+    → Stops (KnowsSchedule {n = n}) (Played (is_trace n)) (Waiting alloc) line was is Header
+header-refused n alloc line was is None same (none, says) = rw says (header-none n alloc line was none)
+header-refused n alloc line was is (Some run_lines) same opens = absurd cc
 
 -- a header begins a world
-pub header-opened : (traces : Bool) (alloc : Global) (run_lines : RunLines traces) (line was is : List ℕ)
-    (answer : Option (RunLines traces)) → answer ≡ Some run_lines → Opens line was is answer
-    → Judges (KnowsSchedule {traces = traces}) (Played traces) (Waiting alloc) run_lines line was is None
-header-opened traces alloc run_lines line was is None same opens = absurd cc
-header-opened traces alloc run_lines line was is (Some other) same (text, says, knows) = λ lines before known.
+pub header-opened : (n : ℕ) (alloc : Global) (run_lines : RunLines n) (line was is : List ℕ)
+    (answer : Option (RunLines n)) → answer ≡ Some run_lines → Opens line was is answer
+    → Judges (KnowsSchedule {n = n}) (Played (is_trace n)) (Waiting alloc) run_lines line was is None
+header-opened n alloc run_lines line was is None same opens = absurd cc
+header-opened n alloc run_lines line was is (Some other) same (text, says, knows) = λ lines before known.
     let whole : before ++ is ≡ text = ap (λ (t : List ℕ). before ++ t) says ∙ sym (append_assoc before was text) ∙ ap
     (λ (t : List ℕ). t ++ text) known.1 in
-    rw (known.0, whole) (subst (λ (p : RunLines traces). KnowsSchedule p (line ∷ []) text) (one same) knows)
+    rw (known.0, whole) (subst (λ (p : RunLines n). KnowsSchedule p (line ∷ []) text) (one same) knows)
   where
-    one : {x y : RunLines traces} → Some x ≡ Some y → x ≡ y
+    one : {x y : RunLines n} → Some x ≡ Some y → x ≡ y
     one e = cc
 
 -- the first line isn't there
-pub header-missing : (traces : Bool) (alloc : Global) (count : ℕ) (was : List ℕ)
-    → Finishes (KnowsSchedule {traces = traces}) (Played traces) (Waiting alloc) count was was (Some Header)
+pub header-missing : (n : ℕ) (alloc : Global) (count : ℕ) (was : List ℕ)
+    → Finishes (KnowsSchedule {n = n}) (Played (is_trace n)) (Waiting alloc) count was was (Some Header)
 unfolding Played
-header-missing traces alloc count was = λ lines before known counted.
+header-missing n alloc count was = λ lines before known counted.
     rw (← append_assoc before was (fault_text (length lines + 1) Header), known.0, known.1) (refl, refl)
 
-pub header-open : (traces : Bool) (alloc : Global) (line said : List ℕ) → IsOpen line
-    → Stops (KnowsSchedule {traces = traces}) (Played traces) (Waiting alloc) line said said Header
-header-open traces alloc line said is = header-none traces alloc line said (header-unopened line is)
+pub header-open : (n : ℕ) (alloc : Global) (line said : List ℕ) → IsOpen line
+    → Stops (KnowsSchedule {n = n}) (Played (is_trace n)) (Waiting alloc) line said said Header
+header-open n alloc line said is = header-none n alloc line said (header-unopened line is)
 
 -- ---- the lines behind it
 
@@ -144,22 +144,22 @@ lines-end : {w : ℕ} (trace : Bool) (world : Contained w) (lines : List (List �
 unfolding PlayedAfter
 lines-end trace world lines text k = rw (append-nil, append-nil) at (k.before [] [] Clean (refl, refl))
 
-module _ {w : ℕ} {traces : Bool} (wrap : Contained w → RunLines traces) (into : (m : Contained w) (lines : List (List ℕ)) (text : List ℕ)
-    → KnowsSchedule (wrap m) lines text → KnowsPlay traces m lines text)
-    (out : (m : Contained w) (lines : List (List ℕ)) (text : List ℕ) → KnowsPlay traces m lines text
+module _ {w n : ℕ} (wrap : Contained w → RunLines n) (into : (m : Contained w) (lines : List (List ℕ)) (text : List ℕ)
+    → KnowsSchedule (wrap m) lines text → KnowsPlay (is_trace n) m lines text)
+    (out : (m : Contained w) (lines : List (List ℕ)) (text : List ℕ) → KnowsPlay (is_trace n) m lines text
     → KnowsSchedule (wrap m) lines text) where
   judges : (old new : Contained w) (line was is : List ℕ) (answer : Option Fault)
-      → PlaysLine traces old new line was is answer
-      → Judges KnowsSchedule (Played traces) (wrap old) (wrap new) line was is answer
+      → PlaysLine (is_trace n) old new line was is answer
+      → Judges KnowsSchedule (Played (is_trace n)) (wrap old) (wrap new) line was is answer
   judges old new line was is None plays = λ lines before known.
-      out new (lines ++ line ∷ []) (before ++ is) (line-plays traces old new lines before was is line
+      out new (lines ++ line ∷ []) (before ++ is) (line-plays (is_trace n) old new lines before was is line
       (into old lines (before ++ was) known) plays)
   judges old new line was is (Some fault) (none, which, same) = λ lines before known.
-      rw (which, same) (line-fails traces old lines before was line (into old lines (before ++ was) known) none)
+      rw (which, same) (line-fails (is_trace n) old lines before was line (into old lines (before ++ was) known) none)
 
   pub judged : {E : Type 0} (old new : Contained w) (line was is : List ℕ) (r : Result (Option Fault) E)
-      → IfOk r (PlaysLine traces old new line was is)
-      → IfOk r (Judges KnowsSchedule (Played traces) (wrap old) (wrap new) line was is)
+      → IfOk r (PlaysLine (is_trace n) old new line was is)
+      → IfOk r (Judges KnowsSchedule (Played (is_trace n)) (wrap old) (wrap new) line was is)
   judged old new line was is (Ok answer) plays = judges old new line was is answer plays
   judged old new line was is (Err e) plays = tt
 
@@ -172,23 +172,23 @@ open-line : {w : ℕ} (trace : Bool) (world : Contained w) (line said : List ℕ
 open-line trace world line said wide is lines before k more =
     rw (← open-fault line is) (line-fails trace world lines before said line k (open-none line wide is) more)
 
-pub line-open : {traces : Bool} (run_lines : RunLines traces) → ((alloc : Global) → run_lines ≡ Waiting alloc → ⊥)
+pub line-open : {n : ℕ} (run_lines : RunLines n) → ((alloc : Global) → run_lines ≡ Waiting alloc → ⊥)
     → (line said : List ℕ) → IsOpen line
-    → Stops KnowsSchedule (Played traces) run_lines line said said (NoEvent F1)
+    → Stops KnowsSchedule (Played (is_trace n)) run_lines line said said (NoEvent F1)
 line-open (Waiting alloc) read line said is = absurd (read alloc refl)
-line-open {traces} (Four m) read line said is = λ lines before k. open-line traces m line said (inl refl) is lines
+line-open {n} (Four m) read line said is = λ lines before k. open-line (is_trace n) m line said (inl refl) is lines
     before k
-line-open {traces} (Eight m) read line said is = λ lines before k. open-line traces m line said (inr (inl refl)) is
+line-open {n} (Eight m) read line said is = λ lines before k. open-line (is_trace n) m line said (inr (inl refl)) is
     lines before k
-line-open {traces} (Sixteen m) read line said is = λ lines before k. open-line traces m line said (inr (inr refl)) is
+line-open {n} (Sixteen m) read line said is = λ lines before k. open-line (is_trace n) m line said (inr (inr refl)) is
     lines before k
 
-pub all-played : {traces : Bool} (run_lines : RunLines traces) → ((alloc : Global) → run_lines ≡ Waiting alloc → ⊥)
-    → (count : ℕ) (was : List ℕ) → Finishes KnowsSchedule (Played traces) run_lines count was was None
+pub all-played : {n : ℕ} (run_lines : RunLines n) → ((alloc : Global) → run_lines ≡ Waiting alloc → ⊥)
+    → (count : ℕ) (was : List ℕ) → Finishes KnowsSchedule (Played (is_trace n)) run_lines count was was None
 all-played (Waiting alloc) read count was = absurd (read alloc refl)
-all-played {traces} (Four m) read count was = λ lines before k counted. lines-end traces m lines (before ++ was) k
-all-played {traces} (Eight m) read count was = λ lines before k counted. lines-end traces m lines (before ++ was) k
-all-played {traces} (Sixteen m) read count was = λ lines before k counted. lines-end traces m lines (before ++ was) k
+all-played {n} (Four m) read count was = λ lines before k counted. lines-end (is_trace n) m lines (before ++ was) k
+all-played {n} (Eight m) read count was = λ lines before k counted. lines-end (is_trace n) m lines (before ++ was) k
+all-played {n} (Sixteen m) read count was = λ lines before k counted. lines-end (is_trace n) m lines (before ++ was) k
 
 -- ---- each schedule has a text
 
@@ -308,8 +308,8 @@ played-more trace world lines text k more =
     let (rest, status, played) = played-after trace k.config (length lines + 1) k.log more k.reached.given in
     (rest, status, k.before more rest status played)
 
-pub played-total : (traces : Bool) → IsTotal {M = Unit {0}} (λ h. tt) (KnowsSchedule {traces = traces}) (λ m. Played traces)
-played-total traces (Waiting alloc) lines text known more = rw (known.0, known.1) (played-whole traces more)
-played-total traces (Four m) lines text k more = played-more traces m lines text k more
-played-total traces (Eight m) lines text k more = played-more traces m lines text k more
-played-total traces (Sixteen m) lines text k more = played-more traces m lines text k more
+pub played-total : (n : ℕ) → IsTotal {M = Unit {0}} (λ h. tt) (KnowsSchedule {n = n}) (λ m. Played (is_trace n))
+played-total n (Waiting alloc) lines text known more = rw (known.0, known.1) (played-whole (is_trace n) more)
+played-total n (Four m) lines text k more = played-more (is_trace n) m lines text k more
+played-total n (Eight m) lines text k more = played-more (is_trace n) m lines text k more
+played-total n (Sixteen m) lines text k more = played-more (is_trace n) m lines text k more

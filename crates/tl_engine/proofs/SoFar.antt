@@ -11,8 +11,8 @@ use Rattle.tl_engine.specs.declared.run_lines.RunLines.{RunLines}
 use Rattle.tl_engine.specs.declared.run_lines.RunLines.TheVariants as playing
 use Rattle.tl_engine.specs.declared.status.Status.TheVariants.{Clean}
 use Rattle.tl_engine.specs.statement.PlayableWorld.{Contained}
-use Rattle.tl_engine.specs.code.Playing.{KnowsPlay, KnowsSchedule}
-use Rattle.tl_engine.specs.code.Watching.{KnowsLines, KnowsTrace}
+use Rattle.tl_engine.specs.code.Playing.{KnowsPlay, KnowsSchedule, is_trace}
+use Rattle.tl_engine.specs.code.Watching.{KnowsLines, KnowsTrace, is_together}
 use Rattle.tl_engine.specs.statement.JudgedSo.{JudgedSo, said_by}
 use Rattle.tl_engine.specs.statement.Decoded.{Decodes, DecodesBefore}
 use Rattle.tl_engine.specs.statement.Judged.{JudgedAfter}
@@ -31,30 +31,30 @@ SoFar together lines text =
     ((lines ≡ []) × (text ≡ []))
     ⊎ JudgedSo together lines (text ++ said_by together (length lines - 1)) Clean
 
-watched_so_far : {w : ℕ} (together : Bool) (judge : BeatJudge w) (lines : List (List ℕ)) (text : List ℕ)
-    → KnowsTrace together judge lines text → SoFar together lines text
+watched_so_far : {w : ℕ} (n : ℕ) (judge : BeatJudge w) (lines : List (List ℕ)) (text : List ℕ)
+    → KnowsTrace (is_together n) judge lines text → SoFar (is_together n) lines text
 unfolding JudgedAfter
-watched_so_far together judge lines text k =
+watched_so_far n judge lines text k =
     let beats : length lines - 1 ≡ length k.trace = omega (arith, k.counted) in
     inr (rw beats (rw (append-nil lines) at
-    (k.before [] (said_by together (length k.trace)) Clean (refl, refl))))
+    (k.before [] (said_by (is_together n) (length k.trace)) Clean (refl, refl))))
 
-pub judged_so_far : (together : Bool) (h : MonitorLines together) (lines : List (List ℕ)) (text : List ℕ) → KnowsLines h lines text
-    → SoFar together lines text
-judged_so_far together (watching.Waiting alloc) lines text known = inl known
-judged_so_far together (watching.Four judge) lines text known = watched_so_far together judge lines text known
-judged_so_far together (watching.Eight judge) lines text known = watched_so_far together judge lines text known
-judged_so_far together (watching.Sixteen judge) lines text known = watched_so_far together judge lines text known
+pub judged_so_far : (n : ℕ) (h : MonitorLines n) (lines : List (List ℕ)) (text : List ℕ) → KnowsLines h lines text
+    → SoFar (is_together n) lines text
+judged_so_far n (watching.Waiting alloc) lines text known = inl known
+judged_so_far n (watching.Four judge) lines text known = watched_so_far n judge lines text known
+judged_so_far n (watching.Eight judge) lines text known = watched_so_far n judge lines text known
+judged_so_far n (watching.Sixteen judge) lines text known = watched_so_far n judge lines text known
 
-world_so_far : {w : ℕ} (traces : Bool) (world : Contained w) (lines : List (List ℕ)) (text : List ℕ)
-    → KnowsPlay traces world lines text
-    → text_so_far (Run traces) lines text
+world_so_far : {w : ℕ} (n : ℕ) (world : Contained w) (lines : List (List ℕ)) (text : List ℕ)
+    → KnowsPlay (is_trace n) world lines text
+    → text_so_far (Run (is_trace n)) lines text
 unfolding PlayedAfter
-world_so_far traces world lines text k = inr (rw (append-nil lines) at (k.before [] [] Clean (refl, refl)))
+world_so_far n world lines text k = inr (rw (append-nil lines) at (k.before [] [] Clean (refl, refl)))
 
-pub played_so_far : (traces : Bool) (h : RunLines traces) (lines : List (List ℕ)) (text : List ℕ) → KnowsSchedule h lines text
-    → text_so_far (Run traces) lines text
-played_so_far traces (playing.Waiting alloc) lines text known = inl known
-played_so_far traces (playing.Four world) lines text known = world_so_far traces world lines text known
-played_so_far traces (playing.Eight world) lines text known = world_so_far traces world lines text known
-played_so_far traces (playing.Sixteen world) lines text known = world_so_far traces world lines text known
+pub played_so_far : (n : ℕ) (h : RunLines n) (lines : List (List ℕ)) (text : List ℕ) → KnowsSchedule h lines text
+    → text_so_far (Run (is_trace n)) lines text
+played_so_far n (playing.Waiting alloc) lines text known = inl known
+played_so_far n (playing.Four world) lines text known = world_so_far n world lines text known
+played_so_far n (playing.Eight world) lines text known = world_so_far n world lines text known
+played_so_far n (playing.Sixteen world) lines text known = world_so_far n world lines text known

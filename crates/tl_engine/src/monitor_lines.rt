@@ -6,7 +6,7 @@ ghost use Rattle.tl_engine.specs.code.Judging.{Judges};
 ghost use Rattle.tl_engine.specs.declared.monitor_lines.MonitorLines.{MonitorLines};
 ghost use Rattle.tl_engine.specs.code.Watching.{Begins, KnowsLines, Watches};
 ghost use Rattle.tl_engine.specs.statement.JudgedSo.{JudgedSo};
-ghost use Rattle.tl_engine.specs.code.Watching.{end_by, word_by};
+ghost use Rattle.tl_engine.specs.code.Watching.{end_by, is_together, word_by};
 
 use crate::beat_judge::BeatJudge;
 use crate::fault::Fault;
@@ -20,9 +20,9 @@ use tl_beat::read::read_into;
 use tl_params::width::Width;
 
 /// Judges the lines of a trace: the header, and then the beats of up to 16 links. Each link is judged by itself, or all
-/// together if `TOGETHER` says so.
+/// together if `TOGETHER` is 1.
 #[derive(Drop)]
-pub enum MonitorLines<const TOGETHER: bool> {
+pub enum MonitorLines<const TOGETHER: usize> {
     /// The header hasn't been read.
     Waiting(Global),
     Four(BeatJudge<4>),
@@ -62,7 +62,7 @@ pub fn append_end(together: bool, number: u64, out: &mut Vec<u8>) -> Result<(), 
 }
 
 /// Judges the links that a header names. None if the line is no header.
-fn begin<const TOGETHER: bool>(
+fn begin<const TOGETHER: usize>(
     alloc: Global,
     line: &[u8],
 ) -> Result<Option<MonitorLines<TOGETHER>>, AllocError>
@@ -71,10 +71,11 @@ fn begin<const TOGETHER: bool>(
     let Some(header) = read_header(line) else {
         return Ok(None);
     };
+    let together = TOGETHER == 1;
     let monitor_lines = match header.width {
-        Width::Four => MonitorLines::Four(BeatJudge::new(alloc, TOGETHER, &header)?),
-        Width::Eight => MonitorLines::Eight(BeatJudge::new(alloc, TOGETHER, &header)?),
-        Width::Sixteen => MonitorLines::Sixteen(BeatJudge::new(alloc, TOGETHER, &header)?),
+        Width::Four => MonitorLines::Four(BeatJudge::new(alloc, together, &header)?),
+        Width::Eight => MonitorLines::Eight(BeatJudge::new(alloc, together, &header)?),
+        Width::Sixteen => MonitorLines::Sixteen(BeatJudge::new(alloc, together, &header)?),
     };
     Ok(Some(monitor_lines))
 }
@@ -82,13 +83,13 @@ fn begin<const TOGETHER: bool>(
 /// Continues with the judge of the links that the header names. A line that is no header is at fault.
 #[cold]
 #[inline(never)]
-fn start<const TOGETHER: bool>(
+fn start<const TOGETHER: usize>(
     monitor_lines: &mut MonitorLines<TOGETHER>,
     alloc: Global,
     line: &[u8],
 ) -> Result<Option<Fault>, AllocError>
     requires { monitor_lines.old ≡ MonitorLines.Waiting alloc }
-    ensures { (said : List ℕ) → IfOk result (Judges KnowsLines (JudgedSo TOGETHER) monitor_lines.old
+    ensures { (said : List ℕ) → IfOk result (Judges KnowsLines (JudgedSo (is_together TOGETHER)) monitor_lines.old
         monitor_lines.new line.now said said) }
 {
     match begin(alloc, line)? {
@@ -100,12 +101,12 @@ fn start<const TOGETHER: bool>(
     }
 }
 
-impl<const TOGETHER: bool> LineHandler for MonitorLines<TOGETHER> {
+impl<const TOGETHER: usize> LineHandler for MonitorLines<TOGETHER> {
     ghost knows = { KnowsLines };
 
     ghost purpose = { λ _. tt };
 
-    ghost tells = { λ _. JudgedSo TOGETHER };
+    ghost tells = { λ _. JudgedSo (is_together TOGETHER) };
 
     ghost ends = { λ _ _. ⊤ };
 
@@ -137,7 +138,7 @@ impl<const TOGETHER: bool> LineHandler for MonitorLines<TOGETHER> {
         match self {
             MonitorLines::Waiting(_) => Ok(Some(Fault::Header)),
             _ => {
-                append_end(TOGETHER, count.saturating_sub(1), out)?;
+                append_end(TOGETHER == 1, count.saturating_sub(1), out)?;
                 Ok(None)
             }
         }

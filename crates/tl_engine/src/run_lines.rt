@@ -4,7 +4,7 @@ ghost use Rattle.std.specs.Prelude.{◌≡◌, IfOk, ⊤};
 ghost use Rattle.tl_engine.specs.declared.run_lines.RunLines.{RunLines};
 ghost use Rattle.tl_engine.specs.statement.Played.{Played};
 ghost use Rattle.tl_engine.specs.code.Judging.{Judges};
-ghost use Rattle.tl_engine.specs.code.Playing.{KnowsSchedule, Opens};
+ghost use Rattle.tl_engine.specs.code.Playing.{KnowsSchedule, Opens, is_trace};
 
 use crate::fault::Fault;
 use crate::line_handler::LineHandler;
@@ -19,9 +19,9 @@ use tl_schedule::line::EventFault;
 use tl_world::world::World;
 
 /// Plays the lines of a schedule: the header, and then the events of a world of the clients that it names. Writes the
-/// outcomes, or the trace if `TRACES` says so.
+/// outcomes, or the trace if `TRACES` is 1.
 #[derive(Drop)]
-pub enum RunLines<const TRACES: bool> {
+pub enum RunLines<const TRACES: usize> {
     /// The header hasn't been read.
     Waiting(Global),
     Four(World<4, AnyClient<4>, BitDirectory>),
@@ -30,7 +30,7 @@ pub enum RunLines<const TRACES: bool> {
 }
 
 /// A world of the clients that a header names. None if the line is no header.
-fn open<const TRACES: bool>(
+fn open<const TRACES: usize>(
     alloc: Global,
     line: &[u8],
     out: &mut Vec<u8>,
@@ -40,7 +40,7 @@ fn open<const TRACES: bool>(
     let Some(schedule) = read_schedule(line) else {
         return Ok(None);
     };
-    append_header(TRACES, schedule.version, &schedule.config, out)?;
+    append_header(TRACES == 1, schedule.version, &schedule.config, out)?;
     let run_lines = match schedule.version.width() {
         Width::Four => RunLines::Four(world_of(alloc, schedule.config)?),
         Width::Eight => RunLines::Eight(world_of(alloc, schedule.config)?),
@@ -52,14 +52,14 @@ fn open<const TRACES: bool>(
 /// Continues with the world that the header names. A line that is no header is at fault.
 #[cold]
 #[inline(never)]
-fn start<const TRACES: bool>(
+fn start<const TRACES: usize>(
     run_lines: &mut RunLines<TRACES>,
     alloc: Global,
     line: &[u8],
     out: &mut Vec<u8>,
 ) -> Result<Option<Fault>, AllocError>
     requires { run_lines.old ≡ RunLines.Waiting alloc }
-    ensures { IfOk result (Judges KnowsSchedule (Played TRACES) run_lines.old run_lines.new line.now
+    ensures { IfOk result (Judges KnowsSchedule (Played (is_trace TRACES)) run_lines.old run_lines.new line.now
         out.old.items out.new.items) }
 {
     match open(alloc, line, out)? {
@@ -71,12 +71,12 @@ fn start<const TRACES: bool>(
     }
 }
 
-impl<const TRACES: bool> LineHandler for RunLines<TRACES> {
+impl<const TRACES: usize> LineHandler for RunLines<TRACES> {
     ghost knows = { KnowsSchedule };
 
     ghost purpose = { λ _. tt };
 
-    ghost tells = { λ _. Played TRACES };
+    ghost tells = { λ _. Played (is_trace TRACES) };
 
     ghost ends = { λ _ _. ⊤ };
 
@@ -87,9 +87,9 @@ impl<const TRACES: bool> LineHandler for RunLines<TRACES> {
                 let alloc = *alloc;
                 start(self, alloc, line, out)
             }
-            RunLines::Four(world) => play(TRACES, world, line, out),
-            RunLines::Eight(world) => play(TRACES, world, line, out),
-            RunLines::Sixteen(world) => play(TRACES, world, line, out),
+            RunLines::Four(world) => play(TRACES == 1, world, line, out),
+            RunLines::Eight(world) => play(TRACES == 1, world, line, out),
+            RunLines::Sixteen(world) => play(TRACES == 1, world, line, out),
         }
     }
 

@@ -46,22 +46,22 @@ pub fn run_tool<R: Read, W: Write>(
             Width::Sixteen => handle_input(alloc, Decoder::<16> {}, reader, writer),
         },
         Command::Monitor => {
-            handle_input(alloc, MonitorLines::<false>::Waiting(alloc), reader, writer)
+            handle_input(alloc, MonitorLines::<0>::Waiting(alloc), reader, writer)
         }
         Command::Explain { coherent: false } => {
-            handle_input(alloc, MonitorLines::<false>::Waiting(alloc), reader, writer)
+            handle_input(alloc, MonitorLines::<0>::Waiting(alloc), reader, writer)
         }
         Command::Explain { coherent: true } => {
-            handle_input(alloc, MonitorLines::<true>::Waiting(alloc), reader, writer)
+            handle_input(alloc, MonitorLines::<1>::Waiting(alloc), reader, writer)
         }
         Command::Coherent => {
-            handle_input(alloc, MonitorLines::<true>::Waiting(alloc), reader, writer)
+            handle_input(alloc, MonitorLines::<1>::Waiting(alloc), reader, writer)
         }
         Command::Run { trace: false } => {
-            handle_input(alloc, RunLines::<false>::Waiting(alloc), reader, writer)
+            handle_input(alloc, RunLines::<0>::Waiting(alloc), reader, writer)
         }
         Command::Run { trace: true } => {
-            handle_input(alloc, RunLines::<true>::Waiting(alloc), reader, writer)
+            handle_input(alloc, RunLines::<1>::Waiting(alloc), reader, writer)
         }
     }
 }

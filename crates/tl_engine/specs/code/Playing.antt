@@ -62,15 +62,19 @@ pub record KnowsPlay {w : ℕ} (trace : Bool) (world : Contained w) (lines : Lis
       → PlayedAfter trace config (length lines + 1) log more rest status
       → Played trace (lines ++ more) (text ++ rest) status
 
+-- the number that stands for a trace
+abbrev pub is_trace : ℕ → Bool
+is_trace n = n == 1
+
 -- after these lines without a fault, this text has been appended
-abbrev pub KnowsSchedule : {traces : Bool} → RunLines traces → List (List ℕ) → List ℕ → Type 0
+abbrev pub KnowsSchedule : {n : ℕ} → RunLines n → List (List ℕ) → List ℕ → Type 0
 KnowsSchedule (Waiting alloc) lines text = (lines ≡ []) × (text ≡ [])
-KnowsSchedule {traces} (Four world) lines text = KnowsPlay traces world lines text
-KnowsSchedule {traces} (Eight world) lines text = KnowsPlay traces world lines text
-KnowsSchedule {traces} (Sixteen world) lines text = KnowsPlay traces world lines text
+KnowsSchedule {n} (Four world) lines text = KnowsPlay (is_trace n) world lines text
+KnowsSchedule {n} (Eight world) lines text = KnowsPlay (is_trace n) world lines text
+KnowsSchedule {n} (Sixteen world) lines text = KnowsPlay (is_trace n) world lines text
 
 -- what the first line begins: a handler that knows the header, whose text was appended, or none if
 -- it spells no header
-abbrev pub Opens : {traces : Bool} → List ℕ → List ℕ → List ℕ → Option (RunLines traces) → Type 0
+abbrev pub Opens : {n : ℕ} → List ℕ → List ℕ → List ℕ → Option (RunLines n) → Type 0
 Opens line was is None = ((version : Version) (config : Config) → ¬ HeadsSchedule line version config) × (is ≡ was)
-Opens line was is (Some run_lines) = (text : List ℕ) × (is ≡ was ++ text) × KnowsSchedule run_lines (line ∷ []) text
+Opens {n} line was is (Some run_lines) = (text : List ℕ) × (is ≡ was ++ text) × KnowsSchedule run_lines (line ∷ []) text

@@ -22,6 +22,10 @@ use Rattle.tl_engine.specs.statement.JudgedSo.{faults_by, said_by}
 use Rattle.tl_engine.specs.statement.Trace.{SpellsHeader}
 use Rattle.tl_params.specs.declared.width.Width.{Width}
 
+-- the number that stands for judging all links together
+abbrev pub is_together : ℕ → Bool
+is_together n = n == 1
+
 -- the word in front of that number
 abbrev pub word_by : Bool → List ℕ
 word_by false = codes "clean "
@@ -77,13 +81,13 @@ KnowsTrace together judge =
     KnowsTraceOf (KnowsBeats together judge) SpellsHeader (faults_by together) (said_by together)
 
 -- after these lines without a fault, this text has been appended
-abbrev pub KnowsLines : {together : Bool} → MonitorLines together → List (List ℕ) → List ℕ → Type 0
+abbrev pub KnowsLines : {n : ℕ} → MonitorLines n → List (List ℕ) → List ℕ → Type 0
 KnowsLines (Waiting alloc) lines text = (lines ≡ []) × (text ≡ [])
-KnowsLines {together} (Four judge) lines text = KnowsTrace together judge lines text
-KnowsLines {together} (Eight judge) lines text = KnowsTrace together judge lines text
-KnowsLines {together} (Sixteen judge) lines text = KnowsTrace together judge lines text
+KnowsLines {n} (Four judge) lines text = KnowsTrace (is_together n) judge lines text
+KnowsLines {n} (Eight judge) lines text = KnowsTrace (is_together n) judge lines text
+KnowsLines {n} (Sixteen judge) lines text = KnowsTrace (is_together n) judge lines text
 
 -- what the first line begins: a handler that knows the header, or none if it spells no header
-abbrev pub Begins : {together : Bool} → List ℕ → Option (MonitorLines together) → Type 0
+abbrev pub Begins : {n : ℕ} → List ℕ → Option (MonitorLines n) → Type 0
 Begins line None = (width : Width) (p : Profile) (levels : List Level) → ¬ SpellsHeader line width p levels
 Begins line (Some monitor_lines) = KnowsLines monitor_lines (line ∷ []) []

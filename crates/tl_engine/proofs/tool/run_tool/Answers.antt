@@ -26,22 +26,22 @@ pub handle_input-requires-in-Sixteen-clause-total : goal.handle_input-requires-i
 handle_input-requires-in-Sixteen-clause-total g c = λ handler. decodes_more 16 (judged_line 16 refl)
 
 pub handle_input-requires-in-Monitor-clause-total : goal.handle_input-requires-in-Monitor-clause-total
-handle_input-requires-in-Monitor-clause-total g c = judged_total false
+handle_input-requires-in-Monitor-clause-total g c = judged_total 0
 
 pub handle_input-requires-in-Explain-false-clause-total : goal.handle_input-requires-in-Explain-false-clause-total
-handle_input-requires-in-Explain-false-clause-total g c = judged_total false
+handle_input-requires-in-Explain-false-clause-total g c = judged_total 0
 
 pub handle_input-requires-in-Explain-true-clause-total : goal.handle_input-requires-in-Explain-true-clause-total
-handle_input-requires-in-Explain-true-clause-total g c = judged_total true
+handle_input-requires-in-Explain-true-clause-total g c = judged_total 1
 
 pub handle_input-requires-in-Coherent-clause-total : goal.handle_input-requires-in-Coherent-clause-total
-handle_input-requires-in-Coherent-clause-total g c = judged_total true
+handle_input-requires-in-Coherent-clause-total g c = judged_total 1
 
 pub handle_input-requires-in-Run-false-clause-total : goal.handle_input-requires-in-Run-false-clause-total
-handle_input-requires-in-Run-false-clause-total g c = played-total false
+handle_input-requires-in-Run-false-clause-total g c = played-total 0
 
 pub handle_input-requires-in-Run-true-clause-total : goal.handle_input-requires-in-Run-true-clause-total
-handle_input-requires-in-Run-true-clause-total g c = played-total true
+handle_input-requires-in-Run-true-clause-total g c = played-total 1
 
 pub returns-in-Four-clause-fault : goal.returns-in-Four-clause-fault
 returns-in-Four-clause-fault g c =
@@ -63,40 +63,40 @@ returns-in-Sixteen-clause-fault g c =
 
 pub returns-in-Monitor-clause-fault : goal.returns-in-Monitor-clause-fault
 returns-in-Monitor-clause-fault g c =
-    rw c.in-Monitor.is (told_without_purpose (KnowsLines {together = false}) Judged (text_so_far Monitor)
-    (λ lines text known. judged_so_far false known.0 lines text known.1)
+    rw c.in-Monitor.is (told_without_purpose (KnowsLines {n = 0}) Judged (text_so_far Monitor)
+    (λ lines text known. judged_so_far 0 known.0 lines text known.1)
     _ _ _ _ _ c.handle_input-in-Monitor.ensures.fault)
 
 pub returns-in-Explain-false-clause-fault : goal.returns-in-Explain-false-clause-fault
 returns-in-Explain-false-clause-fault g c =
     let apart : c.in-Explain-false.coherent ≡ false = search rules in
-    rw (c.in-Explain-false.is, apart) (told_without_purpose (KnowsLines {together = false}) Judged (text_so_far (Explain false))
-    (λ lines text known. judged_so_far false known.0 lines text known.1)
+    rw (c.in-Explain-false.is, apart) (told_without_purpose (KnowsLines {n = 0}) Judged (text_so_far (Explain false))
+    (λ lines text known. judged_so_far 0 known.0 lines text known.1)
     _ _ _ _ _ c.handle_input-in-Explain-false.ensures.fault)
 
 pub returns-in-Explain-true-clause-fault : goal.returns-in-Explain-true-clause-fault
 returns-in-Explain-true-clause-fault g c =
     let together : c.in-Explain-true.coherent ≡ true = search rules in
-    rw (c.in-Explain-true.is, together) (told_without_purpose (KnowsLines {together = true}) JudgedTogether (text_so_far (Explain true))
-    (λ lines text known. judged_so_far true known.0 lines text known.1)
+    rw (c.in-Explain-true.is, together) (told_without_purpose (KnowsLines {n = 1}) JudgedTogether (text_so_far (Explain true))
+    (λ lines text known. judged_so_far 1 known.0 lines text known.1)
     _ _ _ _ _ c.handle_input-in-Explain-true.ensures.fault)
 
 pub returns-in-Coherent-clause-fault : goal.returns-in-Coherent-clause-fault
 returns-in-Coherent-clause-fault g c =
-    rw c.in-Coherent.is (told_without_purpose (KnowsLines {together = true}) JudgedTogether (text_so_far Coherent)
-    (λ lines text known. judged_so_far true known.0 lines text known.1)
+    rw c.in-Coherent.is (told_without_purpose (KnowsLines {n = 1}) JudgedTogether (text_so_far Coherent)
+    (λ lines text known. judged_so_far 1 known.0 lines text known.1)
     _ _ _ _ _ c.handle_input-in-Coherent.ensures.fault)
 
 pub returns-in-Run-false-clause-fault : goal.returns-in-Run-false-clause-fault
 returns-in-Run-false-clause-fault g c =
     let shown : c.in-Run-false.trace ≡ false = search rules in
-    rw (c.in-Run-false.is, shown) (told_without_purpose (KnowsSchedule {traces = false}) (Played false) (text_so_far (Run false))
-    (λ lines text known. played_so_far false known.0 lines text known.1)
+    rw (c.in-Run-false.is, shown) (told_without_purpose (KnowsSchedule {n = 0}) (Played false) (text_so_far (Run false))
+    (λ lines text known. played_so_far 0 known.0 lines text known.1)
     _ _ _ _ _ c.handle_input-in-Run-false.ensures.fault)
 
 pub returns-in-Run-true-clause-fault : goal.returns-in-Run-true-clause-fault
 returns-in-Run-true-clause-fault g c =
     let shown : c.in-Run-true.trace ≡ true = search rules in
-    rw (c.in-Run-true.is, shown) (told_without_purpose (KnowsSchedule {traces = true}) (Played true) (text_so_far (Run true))
-    (λ lines text known. played_so_far true known.0 lines text known.1)
+    rw (c.in-Run-true.is, shown) (told_without_purpose (KnowsSchedule {n = 1}) (Played true) (text_so_far (Run true))
+    (λ lines text known. played_so_far 1 known.0 lines text known.1)
     _ _ _ _ _ c.handle_input-in-Run-true.ensures.fault)

@@ -63,7 +63,7 @@ pub fn in_memory(outcome: Result<Status, ToolFault>) -> Result<Status, ToolFault
 }
 
 /// Whether the rule is one of legality, which judges a beat by itself.
-fn is_legality(rule: Rule) -> bool
+pub fn is_legality(rule: Rule) -> bool
     ensures { result ≡ not (is_of_order rule) }
 {
     matches!(
@@ -74,7 +74,7 @@ fn is_legality(rule: Rule) -> bool
 
 #[tactic(auto, using(crate::proofs::Explaining::broken_by))]
 /// Whether the beat breaks the rule by itself, on a link with these liberties.
-fn is_illegal<const W: usize>(
+pub fn is_illegal<const W: usize>(
     may: Liberties,
     level: Option<Level>,
     rule: Rule,
@@ -248,7 +248,7 @@ fn explain_order<const W: usize, R: Read>(
 }
 
 /// The limits of `clean`, or of `coherent`.
-fn unsaid(coherent: bool) -> &'static str {
+pub fn unsaid(coherent: bool) -> &'static str {
     if coherent {
         "  coherent means that no beat breaks a rule of its own link or of memory; it says nothing about messages that never come, nor about a link that isn't in the trace\n"
     } else {

@@ -6,5 +6,6 @@ mod JudgedOnce
 pub mod PartsJudged
 pub mod TraceJudged
 pub mod WideHeaders
+pub mod WideReplaying
 mod WideTexts
 mod Worked

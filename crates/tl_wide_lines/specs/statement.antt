@@ -1,5 +1,6 @@
 pub mod JudgedTrace
 pub mod PartFaults
 pub mod WideDecoded
+pub mod WideExplained
 pub mod WideHeader
 pub mod WideText

@@ -28,7 +28,8 @@ use Rattle.tl_engine.specs.statement.LinksHeader.{NamesAllowed}
 use Rattle.tl_engine.specs.statement.Explained.{broken_alone, front_text, is_of_order}
 use Rattle.tl_engine.proofs.Replaying.{count_lines}
 
-same_link : {w : ℕ} (s : Subject) (link : Link) (x : Beat w) → IsSubject s link x → s.link ≡ link
+-- the subject has the link of the verdict
+pub same_link : {w : ℕ} (s : Subject) (link : Link) (x : Beat w) → IsSubject s link x → s.link ≡ link
 same_link s link (beat.A x) is = is.0
 same_link s link (beat.B x) is = is.0
 same_link s link (beat.C x) is = is.0

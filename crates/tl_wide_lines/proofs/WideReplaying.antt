@@ -2,7 +2,8 @@
 use Rattle.std.proofs.Common.{◌≡◌, ◌∙◌, ◌+◌, ℕ, suc, List, [], ◌∷◌, ◌++◌, length, true, false, refl, sym, ap, subst}
 use Rattle.std.proofs.Common.{arith, append_assoc, length-append, inl, inr, eqb-true}
 use Rattle.std.proofs.lemmas.List.{append-nil}
-use Rattle.std.specs.Prelude.{◌==◌, ◌⊎◌, Bool, slice_get, Option, ⊤}
+use Rattle.std.specs.Prelude.{◌==◌, ◌⊎◌, Bool, not, slice_get, IsTrue, OnOk, Option, Result, Ok, Err, ⊤}
+use Rattle.std.specs.Result.{is_err}
 use Rattle.std.specs.Io.KnownBytes.{Consumes}
 use Rattle.tl_beat.specs.declared.beat.Beat.{Beat}
 use Rattle.tl_beat.specs.declared.beat.Link.{Link}
@@ -11,12 +12,15 @@ use Rattle.tl_engine.specs.declared.fault.Fault.{Fault}
 use Rattle.tl_engine.specs.declared.fault.Fault.TheVariants as fault
 use Rattle.tl_engine.specs.declared.status.Status.{Status}
 use Rattle.tl_engine.specs.declared.status.Status.TheVariants.{Broken, Clean}
+use Rattle.tl_engine.proofs.Explaining.{same_link}
+use Rattle.tl_engine.specs.statement.Explained.{is_of_order}
 use Rattle.tl_engine.specs.statement.Fault.{fault_text}
 use Rattle.tl_engine.specs.statement.Lines.{lines_of}
 use Rattle.tl_explain.specs.code.Recorded.{IsRecordUnder}
 use Rattle.tl_explain.specs.declared.recorder.Recorder.{Recorder}
 use Rattle.tl_explain.specs.statement.Evidence.{next_line}
 use Rattle.tl_explain.specs.declared.turns.Subject.{Subject}
+use Rattle.tl_explain.specs.statement.Reasons.{IsEvidenceUnder, IsSubject}
 use Rattle.tl_params.specs.declared.level.Level.{Level}
 use Rattle.tl_params.specs.declared.liberties.Liberties.{Liberties}
 use Rattle.tl_params.specs.declared.rule.Rule.{Rule}
@@ -27,13 +31,20 @@ use Rattle.tl_wide.specs.statement.Narrowed.{beats_of, narrowed_from}
 use Rattle.tl_wide.specs.statement.Narrowing.{Follows}
 use Rattle.tl_wide.specs.statement.Pieces.{left_of}
 use Rattle.tl_wide.specs.statement.Verdict.{joined}
-use Rattle.tl_wide.specs.statement.Width.{part_width}
+use Rattle.tl_wide.specs.declared.parts.Parts.{Parts}
+use Rattle.tl_wide.specs.statement.Line.{WideSpells}
+use Rattle.tl_wide.specs.statement.Width.{IsWideWidth, part_width}
+use Rattle.tl_wide_lines.proofs.Decoded.{width-is}
 use Rattle.tl_wide_lines.proofs.FirstFaults.{all-become, behind-last, next-beats}
 use Rattle.tl_wide_lines.proofs.JudgedLines.{begin-more, begin-none}
 use Rattle.tl_wide_lines.specs.code.FirstFault.{beats_taken, behind, with_parts}
-use Rattle.tl_wide_lines.specs.code.WideReplaying.{AreRecorded, CountsLine, EndsReplay, GoesOnWide, GoesOrEnds, HasTold}
-use Rattle.tl_wide_lines.specs.code.WideReplaying.{IsFresh, IsGuilty, IsKept, IsReasoned, KnowsReplay, PassesBeat, ReadsBeat}
-use Rattle.tl_wide_lines.specs.code.WideReplaying.{Records, TakesHeader, TakesLine, TellsLine, sentence_of}
+use Rattle.tl_wide_lines.specs.code.WideDecoding.{is_wide_width}
+use Rattle.tl_wide_lines.specs.code.WideReplaying.{AreRecorded, Concludes, CountsLine, EndsReplay, GoesOnWide, GoesOrEnds}
+use Rattle.tl_wide_lines.specs.code.WideReplaying.{HasReason, HasTold, IsFresh, IsGuilty, IsKept, IsNoted, KnowsReplay}
+use Rattle.tl_wide_lines.specs.code.WideReplaying.{PassedBeat, PassesBeat, PassesParts, ReadsBeat, Records, TakesHeader}
+use Rattle.tl_wide_lines.specs.code.WideReplaying.{TakesLine, TellsLine, sentence_of}
+use Rattle.tl_wide_lines.specs.declared.reread.Passed.{Passed}
+use Rattle.tl_wide_lines.specs.declared.reread.Passed.TheVariants.{Strange, Taken, Told}
 use Rattle.tl_wide_lines.specs.declared.replay.WideReplay.{WideReplay}
 use Rattle.tl_wide_lines.specs.statement.WideExplained.{ExplainsWide, ExplainsWideFault, HasGuilty, IsConvicted}
 use Rattle.tl_wide_lines.specs.statement.JudgedTrace.{BeginWith}
@@ -42,8 +53,8 @@ use Rattle.tl_wide_lines.specs.statement.WideHeader.{NamesWide}
 
 -- ---- parts
 
-pub kept-all : {w : ℕ} (r : WideReplay w) → IsKept r r
-kept-all r = record {
+pub kept_all : {w : ℕ} (r : WideReplay w) → IsKept r r
+kept_all r = record {
   allow_is = refl;
   may_is = refl;
   level_is = refl;
@@ -53,8 +64,8 @@ kept-all r = record {
   count_is = refl;
 }
 
-pub kept-then : {w : ℕ} (old now new : WideReplay w) → IsKept old now → IsKept now new → IsKept old new
-kept-then old now new first more = record {
+pub kept_then : {w : ℕ} (old now new : WideReplay w) → IsKept old now → IsKept now new → IsKept old new
+kept_then old now new first more = record {
   allow_is = more.allow_is ∙ first.allow_is;
   may_is = more.may_is ∙ first.may_is;
   level_is = more.level_is ∙ first.level_is;
@@ -65,65 +76,58 @@ kept-then old now new first more = record {
 }
 
 -- one part more is the newest beat
-parts-more : {p : ℕ} (link : Link) (first : List (Beat p)) (x : Beat p) (t : Trace p)
+parts_more : {p : ℕ} (link : Link) (first : List (Beat p)) (x : Beat p) (t : Trace p)
     → with_parts link (first ++ x ∷ []) t ≡ (link, x) ∷ with_parts link first t
 unfolding behind
-parts-more link [] x t = refl
-parts-more link (y ∷ first) x t = parts-more link first x ((link, y) ∷ t)
+parts_more link [] x t = refl
+parts_more link (y ∷ first) x t = parts_more link first x ((link, y) ∷ t)
 
-one-part : {p : ℕ} (link : Link) (x : Beat p) (t : Trace p) → with_parts link (x ∷ []) t ≡ (link, x) ∷ t
+one_part : {p : ℕ} (link : Link) (x : Beat p) (t : Trace p) → with_parts link (x ∷ []) t ≡ (link, x) ∷ t
 unfolding behind
-one-part link x t = refl
+one_part link x t = refl
 
-no-part : {p : ℕ} (link : Link) (t : Trace p) → with_parts link [] t ≡ t
+no_part : {p : ℕ} (link : Link) (t : Trace p) → with_parts link [] t ≡ t
 unfolding behind
-no-part link t = refl
+no_part link t = refl
 
 -- one beat was recorded
-pub part-recorded : {w p : ℕ} (old : WideReplay w) (recorder : Recorder) (number : ℕ) (link : Link) (x : Beat p)
-    → number ≡ old.recorded + 1 → recorder.subject ≡ old.recorder.subject
+pub part_recorded : {w p : ℕ} (old new : WideReplay w) (number : ℕ) (link : Link) (x : Beat p) → IsKept old new
+    → new.narrower ≡ old.narrower → new.recorded ≡ number → number ≡ old.recorded + 1
     → ((l : Liberties) (t : Trace p) → number ≡ next_line t → IsRecordUnder l old.recorder t
-    → IsRecordUnder l recorder ((link, x) ∷ t))
-    → Records old (record old { recorder = recorder; recorded = number }) link (x ∷ [])
-part-recorded {w} {p} old recorder number link x next subject takes = record {
-  kept = record {
-    allow_is = refl;
-    may_is = refl;
-    level_is = refl;
-    fault_is = refl;
-    subject_is = subject;
-    told_is = refl;
-    count_is = refl;
-  };
-  narrower_is = refl;
-  records = λ t counted recorded.
-      let at : number ≡ next_line t = next ∙ counted in
-      subst (λ (u : Trace p). IsRecordUnder old.may recorder u × (number + 1 ≡ next_line u)) (sym (one-part link x t))
-      (takes old.may t at recorded, ap (λ (n : ℕ). n + 1) at);
+    → IsRecordUnder l new.recorder ((link, x) ∷ t))
+    → Records old new link (x ∷ [])
+part_recorded {w} {p} old new number link x kept narrower counted next takes = record {
+  kept = kept;
+  narrower_is = narrower;
+  records = λ t before recorded.
+      let at : number ≡ next_line t = next ∙ before in
+      subst (λ (u : Trace p). IsRecordUnder old.may new.recorder u × (new.recorded + 1 ≡ next_line u))
+      (sym (one_part link x t))
+      (takes old.may t at recorded, ap (λ (n : ℕ). n + 1) (counted ∙ at));
 }
 
 -- before the first part
-pub none-recorded : {w p : ℕ} (r : WideReplay w) (link : Link) → Records {p = p} r r link []
-none-recorded {w} {p} r link = record {
-  kept = kept-all r;
+pub none_recorded : {w p : ℕ} (r : WideReplay w) (link : Link) → Records {p = p} r r link []
+none_recorded {w} {p} r link = record {
+  kept = kept_all r;
   narrower_is = refl;
   records = λ t counted recorded.
-      subst (λ (u : Trace p). IsRecordUnder r.may r.recorder u × (r.recorded + 1 ≡ next_line u)) (sym (no-part link t))
+      subst (λ (u : Trace p). IsRecordUnder r.may r.recorder u × (r.recorded + 1 ≡ next_line u)) (sym (no_part link t))
       (recorded, counted);
 }
 
 -- one part more
-pub more-recorded : {w p : ℕ} (old now new : WideReplay w) (link : Link) (first : List (Beat p)) (x : Beat p)
+pub more_recorded : {w p : ℕ} (old now new : WideReplay w) (link : Link) (first : List (Beat p)) (x : Beat p)
     → Records old now link first → Records now new link (x ∷ []) → Records old new link (first ++ x ∷ [])
-more-recorded {w} {p} old now new link first x one more = record {
-  kept = kept-then old now new one.kept more.kept;
+more_recorded {w} {p} old now new link first x one more = record {
+  kept = kept_then old now new one.kept more.kept;
   narrower_is = more.narrower_is ∙ one.narrower_is;
   records = λ t counted recorded.
       let (so_far, number) = one.records t counted recorded in
       let (next, last) = more.records (with_parts link first t) number
       (subst (λ (l : Liberties). IsRecordUnder l now.recorder (with_parts link first t)) (sym one.kept.may_is) so_far) in
       subst (λ (u : Trace p). IsRecordUnder old.may new.recorder u × (new.recorded + 1 ≡ next_line u))
-      (one-part link x (with_parts link first t) ∙ sym (parts-more link first x t)) (
+      (one_part link x (with_parts link first t) ∙ sym (parts_more link first x t)) (
         subst (λ (l : Liberties). IsRecordUnder l new.recorder (with_parts link (x ∷ []) (with_parts link first t)))
             one.kept.may_is next,
         last,
@@ -136,39 +140,156 @@ pub record PartsPassed {w p : ℕ} (old now : WideReplay w) (link : Link) (parts
   pub are : parts ≡ first ++ left
   pub so_far : Records old now link first
 
-pub passed-none : {w p : ℕ} (r : WideReplay w) (link : Link) (parts : List (Beat p)) → PartsPassed r r link parts parts
-passed-none r link parts = record { first = []; are = refl; so_far = none-recorded r link }
+pub passed_none : {w p : ℕ} (r : WideReplay w) (link : Link) (parts : List (Beat p)) → PartsPassed r r link parts parts
+passed_none r link parts = record { first = []; are = refl; so_far = none_recorded r link }
 
-pub passed-more : {w p : ℕ} (old now new : WideReplay w) (link : Link) (parts left more : List (Beat p)) (x : Beat p)
+pub passed_more : {w p : ℕ} (old now new : WideReplay w) (link : Link) (parts left more : List (Beat p)) (x : Beat p)
     → left ≡ x ∷ more → PartsPassed old now link parts left → Records now new link (x ∷ [])
     → PartsPassed old new link parts more
-passed-more old now new link parts left more x is passed next = record {
+passed_more old now new link parts left more x is passed next = record {
   first = passed.first ++ x ∷ [];
   are = passed.are ∙ ap (λ rest. passed.first ++ rest) is ∙ sym (append_assoc passed.first (x ∷ []) more);
-  so_far = more-recorded old now new link passed.first x passed.so_far next;
+  so_far = more_recorded old now new link passed.first x passed.so_far next;
 }
 
-pub passed-all : {w p : ℕ} (old now : WideReplay w) (link : Link) (parts left : List (Beat p)) → left ≡ []
+pub passed_all : {w p : ℕ} (old now : WideReplay w) (link : Link) (parts left : List (Beat p)) → left ≡ []
     → PartsPassed old now link parts left → Records old now link parts
-passed-all {w} {p} old now link parts left none passed =
+passed_all {w} {p} old now link parts left none passed =
     subst (λ (xs : List (Beat p)). Records old now link xs)
     (sym (passed.are ∙ ap (λ rest. passed.first ++ rest) none ∙ append-nil passed.first)) passed.so_far
 
+module _ {w p : ℕ} (old now : WideReplay w) (link : Link) (parts left more : List (Beat p)) (x : Beat p) where
+  -- a part is at fault
+  pub passed_told : left ≡ x ∷ more → PartsPassed old now link parts left → IsGuilty now link x
+      → PassesParts old now link parts Told
+  passed_told is passed guilty = (
+    passed.first,
+    x,
+    more,
+    passed.are ∙ ap (λ rest. passed.first ++ rest) is,
+    passed.so_far,
+    guilty,
+  )
+
+  -- a part can't be recorded
+  pub passed_strange : (new : WideReplay w) → PartsPassed old now link parts left → new.told ≡ now.told
+      → PassesParts old new link parts Strange
+  passed_strange new passed same = same ∙ passed.so_far.kept.told_is
+
+-- a response or an error that isn't one is the former
+pub ok_of : {A E P : Type 0} (r : Result A E) → is_err r ≡ false → OnOk r P → P
+ok_of (Ok x) good has = has
+ok_of (Err e) good has = absurd cc
+
+-- ---- guilt
+
+guilty_rule : (f : Fault) (rule other : Rule) → f ≡ fault.Rule rule → f ≡ fault.Rule other → rule ≡ other
+guilty_rule f rule other is as_well = let same : fault.Rule rule ≡ fault.Rule other = sym is ∙ as_well in cc
+
+-- a part for which there is a reason breaks the rule of order
+pub guilty_by_order : {w p : ℕ} (r : WideReplay w) (rule : Rule) (link : Link) (x : Beat p) → r.fault ≡ fault.Rule rule
+    → not (is_of_order rule) ≡ false → IsSubject r.recorder.subject link x → HasReason r rule x → IsGuilty r link x
+guilty_by_order {w} {p} r rule link x is order of reasoned = λ other as_well.
+    let on : r.recorder.subject.link ≡ link = same_link r.recorder.subject link x of in
+    rw (← guilty_rule r.fault rule other is as_well) (
+      on,
+      λ t recorded.
+          let (reason, evidence, convicts) = reasoned t link recorded of in
+          record {
+            by_order = λ yes. (
+              reason,
+              subst (λ (k : Link). IsEvidenceUnder r.may k.0 x reason t) on evidence,
+              convicts,
+            );
+            by_itself = λ no. let both : false ≡ true = sym order ∙ ap not no in absurd cc;
+          },
+    )
+
 -- ---- lines
 
+-- a beat of which this came was passed, after its names had their numbers
+pub beat_passed : {w : ℕ} (p : ℕ) (old begun noted new : WideReplay w) (link : Link) (x : WideBeat w) (parts : Parts)
+    (outcome : Passed) → IsKept old begun → begun.recorder ≡ old.recorder → begun.recorded ≡ old.recorded
+    → IsNoted begun noted
+    → ((t : WideTrace w) → Follows old.narrower t → (is_beyond link ((link, x) ∷ t) ≡ false)
+    × (left_of {p = part_width w} x parts ≡ beats_of link x ((link, x) ∷ t)) × Follows begun.narrower ((link, x) ∷ t))
+    → PassesParts {p = p} noted new link (left_of {p = p} x parts) outcome → PassedBeat p old new link x outcome
+beat_passed {w} p old begun noted new link x parts outcome first recorder recorded (kept, follows, same, number) narrows
+    passes =
+    go outcome passes
+  where
+    it : (outcome : Passed) → PassesParts {p = p} noted new link (left_of {p = p} x parts) outcome
+        → PassesBeat p old new link x outcome
+    it outcome passes = record {
+      mid = noted;
+      kept = kept_then old begun noted first kept;
+      recorder_is = same ∙ recorder;
+      recorded_is = number ∙ recorded;
+      parts = parts;
+      narrows = λ t so_far. rw follows (narrows t so_far);
+      passes = passes;
+    }
+
+    go : (outcome : Passed) → PassesParts {p = p} noted new link (left_of {p = p} x parts) outcome
+        → PassedBeat p old new link x outcome
+    go Taken passes = it Taken passes
+    go Told passes = it Told passes
+    go Strange passes = passes ∙ kept.told_is ∙ first.told_is
+
+module _ {w : ℕ} (p : ℕ) (old mid new : WideReplay w) (line : List ℕ) (link : Link) (x : WideBeat w)
+    (spells : WideSpells line link x) where
+  -- the beat was told
+  pub line_told : PassesBeat p old mid link x Told → (on : Bool) → on ≡ false → Concludes mid new link x
+      → ReadsBeat p old new line on
+  line_told passed true is concludes = absurd cc
+  line_told passed false is (inl same) = inl (same ∙ passed.passes.4.kept.told_is ∙ passed.kept.told_is)
+  line_told passed false is (inr reasoned) = inr (record {
+    link = link;
+    beat = x;
+    spells = spells;
+    mid = mid;
+    passed = passed;
+    reasoned = reasoned;
+  })
+
+  -- the beat was recorded
+  pub line_taken : PassesBeat p old mid link x Taken → (on : Bool) → new.told ≡ mid.told
+      → (on ≡ true → CountsLine mid new) → ReadsBeat p old new line on
+  line_taken passed false same counts = inl (same ∙ passed.passes.kept.told_is ∙ passed.kept.told_is)
+  line_taken passed true same counts = record {
+    link = link;
+    beat = x;
+    spells = spells;
+    mid = mid;
+    passed = passed;
+    told_is = same;
+    counts = counts refl;
+  }
+
+-- where a wide beat has neither 4 nor 8 bytes its parts have 16
+pub sixteen_bytes : (w : ℕ) → IsTrue (is_wide_width w) → (w ≡ 4 → ⊥) → (w ≡ 8 → ⊥) → 16 ≡ part_width w
+sixteen_bytes w wide four eight = go (width-is w wide)
+  where
+    go : IsWideWidth w → 16 ≡ part_width w
+    go (inl is) = absurd (four is)
+    go (inr (inl is)) = absurd (eight is)
+    go (inr (inr (inl is))) = rw is refl
+    go (inr (inr (inr (inl is)))) = rw is refl
+    go (inr (inr (inr (inr is)))) = rw is refl
+
 -- the same of the level of the link
-convicted-on : {p : ℕ} (has may : Liberties) (level : Option Level) (levels : List Level) (on link : Link) (rule : Rule)
+convicted_on : {p : ℕ} (has may : Liberties) (level : Option Level) (levels : List Level) (on link : Link) (rule : Rule)
     (x : Beat p) (t : Trace p) → has ≡ may → level ≡ slice_get levels on.0 → on ≡ link
     → IsConvicted has level link rule x t → IsConvicted may (slice_get levels link.0) link rule x t
-convicted-on has may level levels on link rule x t same of_link here convicted =
+convicted_on has may level levels on link rule x t same of_link here convicted =
     subst (λ (l : Liberties). IsConvicted l (slice_get levels link.0) link rule x t) same
     (subst (λ (v : Option Level). IsConvicted has v link rule x t)
     (of_link ∙ ap (λ (k : Link). slice_get levels k.0) here) convicted)
 
 module _ {w : ℕ} (old new : WideReplay w) (line : List ℕ) where
-  pub header-read : (old.count == 0) ≡ true → new.told ≡ old.told → TakesHeader old new line → GoesOnWide old new line
+  pub header_read : (old.count == 0) ≡ true → new.told ≡ old.told → TakesHeader old new line → GoesOnWide old new line
   unfolding behind joined narrowed_from
-  header-read none told takes = λ lines known. (told ∙ known.0, inr (go lines known.1))
+  header_read none told takes = λ lines known. (told ∙ known.0, inr (go lines known.1))
     where
       go : (lines : List (List ℕ)) → ((lines ≡ []) × IsFresh old) ⊎ AreRecorded old lines
           → AreRecorded new (lines ++ line ∷ [])
@@ -194,8 +315,8 @@ module _ {w : ℕ} (old new : WideReplay w) (line : List ℕ) where
           absurd (omega (arith, zero_lines, k.counted))
 
   -- the parts of one beat more are recorded
-  beat-read : (old.count == 0) ≡ false → TakesLine (part_width w) old new line → GoesOnWide old new line
-  beat-read some takes = λ lines known. (
+  beat_read : (old.count == 0) ≡ false → TakesLine (part_width w) old new line → GoesOnWide old new line
+  beat_read some takes = λ lines known. (
     takes.told_is ∙ takes.passed.passes.kept.told_is ∙ takes.passed.kept.told_is ∙ known.0,
     inr (go lines known.1),
   )
@@ -204,7 +325,8 @@ module _ {w : ℕ} (old new : WideReplay w) (line : List ℕ) where
           → AreRecorded new (lines ++ line ∷ [])
       go lines (inl (is, fresh)) = let no : (0 == 0) ≡ false = rw fresh.count_is at some in absurd cc
       go lines (inr k) =
-          let (link, x) = (takes.link, takes.beat) in
+          let link : Link = takes.link in
+          let x : WideBeat w = takes.beat in
           let it = takes.passed in
           let (within, same, follows) = it.narrows (behind k.trace []) k.follows in
           let may : new.may ≡ old.may = takes.counts.may_is ∙ it.passes.kept.may_is ∙ it.kept.may_is in
@@ -252,15 +374,16 @@ module _ {w : ℕ} (old new : WideReplay w) (line : List ℕ) where
           }
 
   -- the line at fault was told
-  beat-told : (old.count == 0) ≡ false → TellsLine (part_width w) old new line → (lines : List (List ℕ))
+  beat_told : (old.count == 0) ≡ false → TellsLine (part_width w) old new line → (lines : List (List ℕ))
       → KnowsReplay old lines → (more : List (List ℕ)) → HasTold new (lines ++ line ∷ more)
-  beat-told some tells lines known more = go lines known.1
+  beat_told some tells lines known more = go lines known.1
     where
       go : (lines : List (List ℕ)) → ((lines ≡ []) × IsFresh old) ⊎ AreRecorded old lines
           → HasTold new (lines ++ line ∷ more)
       go lines (inl (is, fresh)) = let no : (0 == 0) ≡ false = rw fresh.count_is at some in absurd cc
       go lines (inr k) =
-          let (link, x) = (tells.link, tells.beat) in
+          let link : Link = tells.link in
+          let x : WideBeat w = tells.beat in
           let it = tells.passed in
           let (first, part, left, cut, so_far, guilty) = it.passes in
           let (within, same, follows) = it.narrows (behind k.trace []) k.follows in
@@ -297,7 +420,7 @@ module _ {w : ℕ} (old new : WideReplay w) (line : List ℕ) where
                   part = part;
                   left = left;
                   parts_are = sym same ∙ cut;
-                  convicted = convicted-on tells.mid.may old.may tells.mid.level k.levels
+                  convicted = convicted_on tells.mid.may old.may tells.mid.level k.levels
                       tells.mid.recorder.subject.link link rule part (with_parts link first (beats_taken k.trace)) may
                       level on (convicts (with_parts link first (beats_taken k.trace))
                       (subst (λ (l : Liberties). IsRecordUnder l tells.mid.recorder
@@ -311,24 +434,30 @@ module _ {w : ℕ} (old new : WideReplay w) (line : List ℕ) where
   pub unread : new.told ≡ old.told → GoesOrEnds old new line false
   unread same = λ lines known more told. let no : true ≡ false = sym told ∙ same ∙ known.0 in absurd cc
 
-  pub line-read : (p : ℕ) (on : Bool) → p ≡ part_width w → (old.count == 0) ≡ false → ReadsBeat p old new line on
+  pub line_read : (p : ℕ) (on : Bool) → p ≡ part_width w → (old.count == 0) ≡ false → ReadsBeat p old new line on
       → GoesOrEnds old new line on
-  line-read p true is some reads = beat-read some (subst (λ q. TakesLine q old new line) is reads)
-  line-read p false is some (inl same) = unread same
-  line-read p false is some (inr tells) = λ lines known more told.
-      beat-told some (subst (λ q. TellsLine q old new line) is tells) lines known more
+  line_read p true is some reads = beat_read some (subst (λ q. TakesLine q old new line) is reads)
+  line_read p false is some (inl same) = unread same
+  line_read p false is some (inr tells) = λ lines known more told.
+      beat_told some (subst (λ q. TellsLine q old new line) is tells) lines known more
+
+-- the header was read, or isn't one
+pub header_line : {w : ℕ} (old new : WideReplay w) (line : List ℕ) (on : Bool) → (old.count == 0) ≡ true
+    → new.told ≡ old.told → (on ≡ true → TakesHeader old new line) → GoesOrEnds old new line on
+header_line old new line true none same takes = header_read old new line none same (takes refl)
+header_line old new line false none same takes = unread old new line same
 
 -- ---- the reasons
 
 -- what is told of the line at fault explains it
-pub told-explains : {w : ℕ} (r : WideReplay w) (allow : Liberties) (old new : Option (List ℕ)) (read reasons : List ℕ)
+pub told_explains : {w : ℕ} (r : WideReplay w) (allow : Liberties) (old new : Option (List ℕ)) (read reasons : List ℕ)
     (status : Status) (verdict : List ℕ) → Consumes old new read → r.allow ≡ allow → r.told ≡ true
     → HasAll (λ (r : WideReplay w) lines (text : List ℕ). KnowsReplay r lines) EndsReplay r (lines_of read) status
     → reasons ≡ r.reasons.items → verdict ≡ fault_text (r.count + 1) r.fault
     → ExplainsWide allow old new verdict reasons Broken
-told-explains r allow old new read reasons Clean verdict consumed is told (text, known) same says =
+told_explains r allow old new read reasons Clean verdict consumed is told (text, known) same says =
     let no : true ≡ false = sym told ∙ known.0 in absurd cc
-told-explains {w} r allow old new read reasons Broken verdict consumed is told ends same says =
+told_explains {w} r allow old new read reasons Broken verdict consumed is told ends same says =
     (r.count + 1, r.fault, says, go r.fault refl)
   where
     it : HasTold r (lines_of read)

@@ -1,3 +1,4 @@
+pub mod Behind
 pub mod JudgedTrace
 pub mod PartFaults
 pub mod WideDecoded

@@ -56,7 +56,7 @@ fn start_of<const W: usize>(
         good,
         fault,
         wording: WideWording {
-            address: clue.address,
+            address: 0,
             source: clue.source,
             sink: clue.sink,
         },

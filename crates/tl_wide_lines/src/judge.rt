@@ -18,27 +18,25 @@ use tl_wide::narrow::Narrower;
 use tl_wide::parts::Parts;
 use tl_wide::read::read_wide_into;
 
-/// The names of a beat at fault: their numbers, and the names as they were written.
+/// The names of a beat at fault: their numbers, and its source and its sink as they were written.
 #[derive(Clone, Copy)]
 pub struct Clue {
     pub subject: Subject,
-    pub address: u64,
     pub source: u16,
     pub sink: u16,
 }
 
 /// The names of a beat of this subject.
 fn clue_of<const W: usize>(subject: Subject, beat: &WideBeat<W>) -> Clue {
-    let (address, source, sink) = match beat {
-        WideBeat::A(x) => (x.address, x.source, 0),
-        WideBeat::B(x) => (x.address, x.source, 0),
-        WideBeat::C(x) => (x.address, x.source, 0),
-        WideBeat::D(x) => (0, x.source, x.sink),
-        WideBeat::E(x) => (0, 0, x.sink),
+    let (source, sink) = match beat {
+        WideBeat::A(x) => (x.source, 0),
+        WideBeat::B(x) => (x.source, 0),
+        WideBeat::C(x) => (x.source, 0),
+        WideBeat::D(x) => (x.source, x.sink),
+        WideBeat::E(x) => (0, x.sink),
     };
     Clue {
         subject,
-        address,
         source,
         sink,
     }

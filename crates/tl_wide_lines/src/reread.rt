@@ -67,22 +67,27 @@ impl<const W: usize> WideReplay<W> {
         true
     }
 
-    /// Keeps the address of a request, if it has the link and the source of the line at fault. A Grant is about its
-    /// block.
-    fn note_request(&mut self, link: Link, beat: &WideBeat<W>)
+    /// Keeps the address of the block that the verdict is about: that of the beat at fault, or of the request that it
+    /// may answer.
+    fn note_address(&mut self, at_fault: bool, link: Link, beat: &WideBeat<W>)
         ensures { IsNoted self.old self.new }
     {
-        if let WideBeat::A(x) = beat {
-            if link == self.recorder.subject.link && x.source == self.wording.source {
+        let same_link = link == self.recorder.subject.link;
+        match beat {
+            WideBeat::A(x) if at_fault || same_link && x.source == self.wording.source => {
                 self.wording.address = x.address;
             }
+            WideBeat::B(x) if at_fault => self.wording.address = x.address,
+            WideBeat::C(x) if at_fault => self.wording.address = x.address,
+            _ => {}
         }
     }
 
     /// Records a part of a wide beat. Returns true if it can be recorded.
     fn take_part<const P: usize>(&mut self, cited: &[u8], link: Link, part: &Beat<P>) -> bool
         requires { IsWidth P }
-        ensures { result ≡ true → RecordsPart self.old self.new link part.now }
+        ensures told { self.new.told ≡ self.old.told }
+        ensures records { result ≡ true → RecordsPart self.old self.new link part.now }
     {
         let Some(number) = self.recorded.checked_add(1) else {
             return false;
@@ -94,6 +99,7 @@ impl<const W: usize> WideReplay<W> {
         true
     }
 
+    #[tactic(auto, using(crate::proofs::WideReplaying::passed_told, crate::proofs::WideReplaying::passed_strange))]
     /// Passes the parts of a wide beat in turn: records them, up to the first that is at fault if the beat is.
     fn pass_parts<const P: usize>(
         &mut self,
@@ -135,7 +141,7 @@ impl<const W: usize> WideReplay<W> {
         let Some(parts) = self.narrower.narrow::<W, P>(link, beat)? else {
             return Ok(Passed::Strange);
         };
-        self.note_request(link, beat);
+        self.note_address(at_fault, link, beat);
         let cited = citation(self.count.saturating_add(1), line);
         self.pass_parts::<P>(cited.as_slice(), at_fault, link, beat, parts, grounds)
     }
@@ -191,6 +197,7 @@ impl<const W: usize> WideReplay<W> {
         }
     }
 
+    #[tactic(auto, using(crate::proofs::WideReplaying::header_line, crate::proofs::WideReplaying::line_read, crate::proofs::WideReplaying::sixteen_bytes))]
     /// Takes the next line. Returns true if it may be the same as before, and isn't the one at fault.
     fn take_line(&mut self, line: &[u8]) -> Result<bool, AllocError>
         ensures { IfOk result (λ on. GoesOrEnds self.old self.new line.now on) }

@@ -68,7 +68,7 @@ PassesParts old new link parts Taken = Records old new link parts
 PassesParts {w} {p} old new link parts Told =
     (first : List (Beat p)) × (part : Beat p) × (left : List (Beat p)) × (parts ≡ first ++ part ∷ left)
     × Records old new link first × IsGuilty new link part
-PassesParts old new link parts Strange = IsKept old new
+PassesParts old new link parts Strange = new.told ≡ old.told
 
 -- ---- lines
 

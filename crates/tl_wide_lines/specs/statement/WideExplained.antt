@@ -30,7 +30,7 @@ use Rattle.tl_wide.specs.statement.Line.{WideSpells}
 use Rattle.tl_wide.specs.statement.Naming.{WideTrace}
 use Rattle.tl_wide.specs.statement.Narrowed.{beats_of}
 use Rattle.tl_wide.specs.statement.Width.{part_width, wide_bytes_of}
-use Rattle.tl_wide_lines.specs.code.FirstFault.{beats_taken, behind, with_parts}
+use Rattle.tl_wide_lines.specs.statement.Behind.{beats_taken, behind, with_parts}
 use Rattle.tl_wide_lines.specs.statement.JudgedTrace.{BeginWith, JudgedTrace}
 use Rattle.tl_wide_lines.specs.statement.WideHeader.{NamesWide}
 use Rattle.tl_wide_lines.specs.statement.WideText.{wide_text_of}

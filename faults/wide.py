@@ -5,7 +5,9 @@ one; some with a line spoiled. TOOL must say of each what it says of the narrow 
 docs/FORMATS.md, at the line of the wide beat whose part is at fault, `monitor` and `coherent` each. `cover --json` must count
 what it counts of the narrow trace, with the lines of the wide beats. Traces with names beyond a limit are F9. With `--all` and a
 report it must find what it finds line by line in the trace without the lines found before, and count the beats of the others.
-`decode --wide` must write of each what this program writes of its fields. Ends with 'wide: N passed, M failed'."""
+`explain` must write of a trace at fault what it writes of
+the narrow trace, with the lines and the names of the wide one. `decode --wide` must write of each what this program writes of its
+fields. Ends with 'wide: N passed, M failed'."""
 import collections
 import concurrent.futures
 import hashlib
@@ -373,7 +375,7 @@ def wanted_reasons(tool, liberties, levels, beats, width):
             owner = owners[int(number[1]) - 2]
             shown = words if len(ought) == 2 else cited
             ought.append(f"  {owner}: {shown(wide[owner - 2])}")
-        elif not line.startswith("  (allowed"):
+        elif not line.startswith("  (allowed") and (width <= 16 or not line.startswith("  mask is ")):
             ought.append(line if len(ought) == 1 else in_wide_words(line, owners, wide, names, width))
     return "\n".join(ought) + "\n"
 

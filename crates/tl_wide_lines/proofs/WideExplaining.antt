@@ -1,12 +1,16 @@
 -- What the two readings of a wide trace bring.
 use Rattle.std.proofs.Common.{◌≡◌, ◌+◌, ◌++◌, ℕ, Bool, false, List, [], ◌∷◌, refl, subst, sym}
-use Rattle.std.specs.Prelude.{Option, Some, None}
+use Rattle.std.specs.Prelude.{◌≢◌, Option, Some, None}
 use Rattle.std.specs.Io.KnownBytes.{Consumes}
 use Rattle.tl_engine.specs.code.Judging.{Judges}
+use Rattle.tl_engine.specs.declared.explain_fault.ExplainFault.{ExplainFault}
+use Rattle.tl_engine.specs.declared.explain_fault.ExplainFault.TheVariants.{Changed, Tool}
 use Rattle.tl_engine.specs.declared.fault.Fault.{Fault}
 use Rattle.tl_engine.specs.declared.fault.Fault.TheVariants as fault
 use Rattle.tl_engine.specs.declared.status.Status.{Status}
 use Rattle.tl_engine.specs.declared.status.Status.TheVariants.{Broken, Clean}
+use Rattle.tl_engine.specs.declared.status.ToolFault.{ToolFault}
+use Rattle.tl_engine.specs.declared.status.ToolFault.TheVariants.{Memory, Read, Write}
 use Rattle.tl_engine.specs.statement.Fault.{fault_text}
 use Rattle.tl_engine.specs.statement.Lines.{lines_of}
 use Rattle.tl_engine.specs.statement.Run.{EndsAs}
@@ -16,7 +20,7 @@ use Rattle.tl_wide_lines.specs.code.WideWatching.{KnowsTraceLines}
 use Rattle.tl_wide_lines.specs.declared.examine.WideExaminer.{WideExaminer}
 use Rattle.tl_wide_lines.specs.declared.lines.TraceLines.{TraceLines}
 use Rattle.tl_wide_lines.specs.statement.JudgedTrace.{JudgedTrace}
-use Rattle.tl_wide_lines.specs.statement.WideExplained.{ExplainsWide, ReachesBoth, ReachesWide}
+use Rattle.tl_wide_lines.specs.statement.WideExplained.{ExplainsWide, GivesUpWide, ReachesWide}
 
 -- an examiner judges as its judge does
 pub examined : (old new : WideExaminer) (mid : TraceLines) (tells : List (List ℕ) → List ℕ → Status → Type 0)
@@ -49,3 +53,19 @@ other_explains allow old new verdict good (fault.Line of_line) other says = (goo
 other_explains allow old new verdict good (fault.Event of_event) other says = (good + 1, fault.Event of_event, says, tt)
 other_explains allow old new verdict good fault.Header other says = (good + 1, fault.Header, says, tt)
 other_explains allow old new verdict good fault.Beyond other says = (good + 1, fault.Beyond, says, tt)
+
+module _ (together : Bool) (allow : Liberties) (had left had_again left_again held holds : Option (List ℕ)) where
+  -- the second reading ended with this fault, and nothing was written
+  pub given_up : (failed : ExplainFault) → failed ≢ Tool Write → holds ≡ held
+      → GivesUpWide together allow had left had_again left_again held holds failed
+  given_up (Tool Write) other same = absurd (other refl)
+  given_up (Tool Read) other same = same
+  given_up (Tool Memory) other same = same
+  given_up Changed other same = same
+
+  -- the first reading did
+  pub given_up_first : (failed : ToolFault) → failed ≢ Write → holds ≡ held
+      → GivesUpWide together allow had left had_again left_again held holds (Tool failed)
+  given_up_first Write other same = absurd (other refl)
+  given_up_first Read other same = same
+  given_up_first Memory other same = same

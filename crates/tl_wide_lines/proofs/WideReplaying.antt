@@ -103,7 +103,7 @@ part_recorded {w} {p} old new number link x kept narrower counted next takes = r
       let at : number ≡ next_line t = next ∙ before in
       subst (λ (u : Trace p). IsRecordUnder old.may new.recorder u × (new.recorded + 1 ≡ next_line u))
       (sym (one_part link x t))
-      (takes old.may t at recorded, ap (λ (n : ℕ). n + 1) (counted ∙ at));
+      (takes old.may t at recorded, omega (arith, counted, at));
 }
 
 -- before the first part
@@ -265,6 +265,14 @@ module _ {w : ℕ} (p : ℕ) (old mid new : WideReplay w) (line : List ℕ) (lin
     told_is = same;
     counts = counts refl;
   }
+
+-- a width is one of those that a handler is made for
+pub is_wide : (w : ℕ) → IsWideWidth w → IsTrue (is_wide_width w)
+is_wide w (inl is) = rw is refl
+is_wide w (inr (inl is)) = rw is refl
+is_wide w (inr (inr (inl is))) = rw is refl
+is_wide w (inr (inr (inr (inl is)))) = rw is refl
+is_wide w (inr (inr (inr (inr is)))) = rw is refl
 
 -- where a wide beat has neither 4 nor 8 bytes its parts have 16
 pub sixteen_bytes : (w : ℕ) → IsTrue (is_wide_width w) → (w ≡ 4 → ⊥) → (w ≡ 8 → ⊥) → 16 ≡ part_width w

@@ -35,6 +35,7 @@ fn is_rule(fault: Fault) -> bool
     matches!(fault, Fault::Rule(_) | Fault::MemoryRule(_))
 }
 
+#[tactic(auto, using(crate::proofs::WideReplaying::is_wide))]
 /// Begins to read again up to the line at fault, with these names.
 fn start_of<const W: usize>(
     alloc: Global,
@@ -88,7 +89,10 @@ fn explain_rule<const W: usize, R: Read>(
     let mut text = Vec::new(alloc);
     judge_input(alloc, &mut lines, reader, &mut text)?;
     let replay = lines.into_handler();
-    if !replay.told || replay.allow != allow {
+    if !replay.told {
+        return Err(ExplainFault::Changed);
+    }
+    if replay.allow != allow {
         return Err(ExplainFault::Changed);
     }
     if !is_verdict(alloc, replay.count, replay.fault, verdict)? {
@@ -134,6 +138,7 @@ fn explain_beat<R: Read>(
     }
 }
 
+#[tactic(auto, using(crate::proofs::WideExplaining::other_explains))]
 /// Explains a line that spells no wide beat, or whose beat names too much: the verdict says all.
 fn explain_other(alloc: Global, good: u64, fault: Fault, verdict: &[u8]) -> Result<(), ExplainFault>
     ensures ok { OnOk result ((old new : Option (List ℕ)) (allow : Liberties) →
@@ -171,13 +176,39 @@ fn explain_found<R: Read>(
     }
 }
 
+/// Appends the reasons of a verdict. A trace at fault is read again.
+fn reasons<R: Read>(
+    alloc: Global,
+    coherent: bool,
+    allow: Liberties,
+    reader: &mut R,
+    found: &Found,
+    status: Status,
+    verdict: &[u8],
+    out: &mut Vec<u8>,
+) -> Result<(), ExplainFault>
+    requires { out.old.items ≡ [] }
+    ensures ok { OnOk result (ExplainsWide allow (R.remaining reader.old) (R.remaining reader.new) verdict.now
+        out.new.items status) }
+    ensures fault { IfErr result (λ fault. fault ≢ ExplainFault.Tool ToolFault.Write) }
+{
+    match status {
+        Status::Clean => {
+            out.extend_from_slice(unsaid(coherent).as_bytes())?;
+            Ok(())
+        }
+        Status::Broken => explain_found(alloc, allow, reader, found, verdict, out),
+    }
+}
+
+#[tactic(auto, using(crate::proofs::WideExplaining::given_up, crate::proofs::WideExplaining::given_up_first))]
 /// Writes the verdict of `monitor`, or of `coherent`, on a wide trace, and the reasons after it. The links have the
 /// liberties that the header names and those that are allowed. The two readers read the same file from its front. The
 /// second reads up to the line at fault.
 ///
-/// A broken rule is told by its sentence and the wide beat that breaks it, as it was written. For a rule of a link the
-/// evidence follows, of what the beats before it became; a cited line of more than 56 bytes is shown without its data.
-/// After a trace without a fault comes what the verdict doesn't say; of what is pending there is no list.
+/// For a broken rule they are its sentence and the wide beat that breaks it, as it was written. For a rule of a link the
+/// evidence follows, from the beats that those before it became; a cited line of more than 56 bytes is shown without
+/// its data. After a trace without a fault come the limits of the verdict, and no list of pending messages.
 ///
 /// Nothing is written before both readings have reached their ends. After that the only fault is `Write`: the writer
 /// took only a front of the text. `Changed` comes only after the verdict: the readings differ.
@@ -199,12 +230,9 @@ pub fn explain_wide<R: Read, S: Read, W: Write>(
     let mut verdict = Vec::new(alloc);
     let (found, status) = examine(alloc, coherent, allow, first, &mut verdict)?;
     let mut why = Vec::new(alloc);
-    match status {
-        Status::Clean => why.extend_from_slice(unsaid(coherent).as_bytes())?,
-        Status::Broken => {
-            explain_found(alloc, allow, second, &found, verdict.as_slice(), &mut why)?
-        }
-    }
+    reasons(
+        alloc, coherent, allow, second, &found, status, &verdict, &mut why,
+    )?;
     write_both(&verdict, &why, writer)?;
     Ok(status)
 }

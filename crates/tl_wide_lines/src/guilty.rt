@@ -47,6 +47,10 @@ impl<const W: usize> WideReplay<W> {
         if !is_illegal(self.may, self.level, rule, part) {
             return Ok(false);
         }
+        // The mask of a part of more than one is in no line.
+        if rule == Rule::L5 && W > 16 {
+            return Ok(true);
+        }
         let told = legal::tell_in(&self.wording, self.may, self.level, rule, part, grounds);
         told.map_err(|_| AllocError)?;
         Ok(true)

@@ -1,4 +1,4 @@
-//! What is kept while the lines of a wide trace are read again.
+//! The state of a second reading of a wide trace.
 
 ghost use Rattle.std.specs.Prelude.{IsTrue};
 ghost use Rattle.tl_wide_lines.specs.code.WideDecoding.{is_wide_width};
@@ -11,7 +11,7 @@ use tl_params::level::Level;
 use tl_params::liberties::Liberties;
 use tl_wide::narrow::Narrower;
 
-/// Records what the wide beats before the line at fault become, and explains that line. It returns `Header` at that
+/// Records the beats that the wide beats before the line at fault become, and explains that line. It returns `Header` at that
 /// line, and before it if the lines differ from the first reading.
 #[derive(Drop)]
 pub struct WideReplay<const W: usize> {

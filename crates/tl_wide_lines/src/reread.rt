@@ -22,7 +22,7 @@ use tl_wide::parts::Parts;
 use tl_wide::read::read_wide_into;
 use tl_wide::width::WideWidth;
 
-/// What came of the parts of a wide beat.
+/// The outcome of passing the parts of a wide beat.
 #[derive(Clone, Copy, PartialEq, Eq)]
 pub enum Passed {
     /// All were recorded.

@@ -56,7 +56,8 @@ pub record IsConvicted {p : ℕ} (may : Liberties) (level : Option Level) (link 
       → (reason : Reason) × IsEvidenceUnder may link.0 x reason t × (convicted_under may x reason ≡ Some rule)
   pub by_itself : is_of_order rule ≡ false → broken_alone may level x ≡ Some rule
 
--- A part of the wide beat breaks the rule, after what the trace before it became and the beat's parts before this one.
+-- A part of the wide beat breaks the rule, after the beats that the trace before it became and the parts before this
+-- one.
 pub record HasGuilty {w : ℕ} (rule : Rule) (may : Liberties) (levels : List Level) (trace : WideTrace w) (link : Link)
     (x : WideBeat w) : Type 0 where
   pub first : List (Beat (part_width w))
@@ -67,7 +68,7 @@ pub record HasGuilty {w : ℕ} (rule : Rule) (may : Liberties) (levels : List Le
 
 -- ---- the reasons
 
--- what is claimed of a wide beat after a wide trace, on links with these liberties and levels
+-- a claim about a wide beat after a wide trace, on links with these liberties and levels
 abbrev pub Claims : Type 1
 Claims = (w : ℕ) → Liberties → List Level → WideTrace w → Link → WideBeat w → Type 0
 

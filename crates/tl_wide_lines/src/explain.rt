@@ -201,7 +201,6 @@ fn reasons<R: Read>(
     }
 }
 
-#[tactic(auto, using(crate::proofs::WideExplaining::given_up, crate::proofs::WideExplaining::given_up_first))]
 /// Writes the verdict of `monitor`, or of `coherent`, on a wide trace, and the reasons after it. The links have the
 /// liberties that the header names and those that are allowed. The two readers read the same file from its front. The
 /// second reads up to the line at fault.

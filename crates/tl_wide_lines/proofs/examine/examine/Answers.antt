@@ -8,5 +8,5 @@ pub returns-clause-ok : goal.returns-clause-ok
 returns-clause-ok g c =
     let h = c.in_ok-status.ensures.ok in
     reached _ c.args.together c.args.allow _ _ h.0 _ c.in_ok-status.status
-    (ap (λ (e : WideExaminer). trace_judged_for e.trace) c.new-lines.ensures.handler ∙ c.new-trace.ensures.purpose) h.1
+    (ap (λ (e : WideExaminer). trace_judged_for e.trace) c.new-lines.ensures.handler ∙ c.new.ensures.purpose) h.1
     h.2 h.3

@@ -1,4 +1,4 @@
-use Rattle.std.proofs.Common.{ap, rules, sym, ◌∙◌}
+use Rattle.std.proofs.Common.{rules}
 use Rattle.tl_engine.proofs.Replaying.{same_liberties}
 use Rattle.tl_wide_lines.proofs.WideReplaying.{told_explains}
 use Rattle.tl_wide_lines.proofs.explain.explain_rule.Goals as goal

@@ -39,6 +39,22 @@ WIDE_WORDS = f"""00 A AcquireBlock NtoT size=6 source=0100 address=0000000180000
 01 D GrantData toB size=6 source=0002 sink=0011 denied=0 data={64 * '0'} corrupt=0
 01 E GrantAck sink=0011
 """
+# The reasons for a wrong report, as those of the narrow trace but for lines and names.
+WIDE_REASONS = """line 6 H12
+  H12 (ProbeAck, ProbeAckData): the param isn't the report of the Probe's cap and the permission held
+  6: 00 C ProbeAck TtoN size=6 source=0000 address=ffffffff80000040 data=- corrupt=0
+  the Probe, of line 5:
+  5: 00 B ProbeBlock toN size=6 source=0000 address=ffffffff80000040 mask=ffffffffffffffff data=- corrupt=0
+  block ffffffff80000040 is held as Branch since line 3:
+  3: 00 D GrantData toB size=6 source=0000 sink=0000 denied=0 data=..
+  wanted: BtoN
+"""
+WIDE_MEMORY = """line 6 M3
+  M3 (AccessAckData): a requested byte h
+  6: 00 D AccessAckData 0 size=5 source=
+"""
+CLEAN_MEANS = """  clean means that no beat breaks a rule of its own link; it says nothing about two links together, nor about the data
+"""
 PERMISSIONS = """permissions on link 0       None  Branch   Trunk
 grant-toT                      1       0       -
 grant-toB                      0       -       -
@@ -49,7 +65,7 @@ release-toB                    -       -       0
 release-toN                    -       0       0
 
 """
-WIDE = "tltool: the header is of wide beats, which only monitor, coherent and cover read\n"
+WIDE = "tltool: the header is of wide beats, which only monitor, coherent, explain and cover read\n"
 NUMBER = "a number from 0 to 18446744073709551615"
 LIST = "1 to 16 clients with commas between them, each UL, UH or C with its number of sources from 1 to 8, as C:2,C:2,UH:1"
 
@@ -205,10 +221,13 @@ ROWS = [
     ("sed '1s/none //' wide/two_caches.trace | tltool monitor", 1, F7.format(1), ""),
     ("sed '1s/tltrace 5/tltrace 6/' wide/two_caches.trace | tltool monitor", 1, F7.format(1), ""),
     ("head -c -1 wide/two_caches.trace | tltool monitor", 1, F1.format(12), ""),
-    *(
-        (f"tltool {words} wide/two_caches.trace", 1, f"{F7.format(1)}..", WIDE)
-        for words in ("explain", "explain --coherent")
-    ),
+    ("tltool explain wide/two_caches.trace", 0, f"clean 11\n{CLEAN_MEANS}", ""),
+    ("tltool explain --coherent wide/two_caches.trace", 0, "coherent 11\n  coherent means ..", ""),
+    ("tltool explain wide/wrong_report.trace", 1, WIDE_REASONS, ""),
+    ("tltool explain --coherent wide/second_part.trace | cut -c1-40", 0, WIDE_MEMORY, ""),
+    ("tltool explain <wide/wrong_report.trace", 1, "line 6 H12\n", ""),
+    ("sed '1s/64/32/' wide/wrong_report.trace >narrower.trace; tltool explain narrower.trace", 1, F3.format(2), ""),
+    ("(head -5 wide/wrong_report.trace; tail -1 wide/wrong_report.trace | sed 's/C 4 1/C 4 2/') >right.trace; tltool explain right.trace | head -1", 0, "clean 5\n", ""),
     *(
         (f"tltool {words} {way}wide/two_caches.trace", 0, f"{words.split()[0].replace('monitor', 'clean')} 11\n", "")
         for words in ("monitor --all 3", "coherent --all 3", "monitor --report wide.json", "coherent --junit wide.xml") for way in ("", "<")

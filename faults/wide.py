@@ -5,7 +5,9 @@ one; some with a line spoiled. TOOL must say of each what it says of the narrow 
 docs/FORMATS.md, at the line of the wide beat whose part is at fault, `monitor` and `coherent` each. `cover --json` must count
 what it counts of the narrow trace, with the lines of the wide beats. Traces with names beyond a limit are F9. With `--all` and a
 report it must find what it finds line by line in the trace without the lines found before, and count the beats of the others.
-`decode --wide` must write of each what this program writes of its fields. Ends with 'wide: N passed, M failed'."""
+`explain` must write of a trace at fault what it writes of
+the narrow trace, with the lines and the names of the wide one. `decode --wide` must write of each what this program writes of its
+fields. Ends with 'wide: N passed, M failed'."""
 import collections
 import concurrent.futures
 import hashlib
@@ -13,6 +15,7 @@ import json
 import os
 import pathlib
 import random
+import re
 import subprocess
 import sys
 import tempfile
@@ -311,6 +314,72 @@ def wanted_all(tool, words, liberties, levels, beats, width, most):
     return found, [beat for number, beat in left if number < found[-1][0]]
 
 
+# ---- explanations
+
+
+def file_of(tool, words, text):
+    """What a command writes of a file with this text."""
+    with tempfile.NamedTemporaryFile("w", suffix=".trace") as file:
+        file.write(text)
+        file.flush()
+        return of(tool, *words, file.name)
+
+
+def cited(line):
+    """A wide line in words, as it is cited: without its data if it has more than 56 bytes."""
+    told = words(line)
+    return told if len(line) < 56 else told[:told.index(" data=")] + " data=.."
+
+
+def in_wide_words(told, owners, lines, names, width):
+    """A line of an explanation of a narrow trace, with the lines and the names of the wide one."""
+    parts = max(1, width // 16)
+    for pattern, other in (
+        (r"line (\d+)", lambda it: f"line {owners[int(it) - 2]}"),
+        (r"block ([0-9a-f]{8})", lambda it: f"block {names['blocks'][int(it, 16) // BLOCK] * BLOCK:016x}"),
+        (r"(?<=source is )(..)(?=,)", lambda it: f"{names['sources'][int(it, 16)]:04x}"),
+        (r"(?<=sink is )(..)(?=,)", lambda it: f"{names['sinks'][int(it, 16)]:04x}"),
+        (r"(?<=source )([0-9a-f]{2})(?=[ :])", lambda it: f"{names['sources'][int(it, 16)]:04x}"),
+        (r"(?<=source=)([0-9a-f]{2})$", lambda it: f"{names['sources'][int(it, 16)]:04x}"),
+        (r"(?<=sink )([0-9a-f]{2})(?= of)", lambda it: f"{names['sinks'][int(it, 16)]:04x}"),
+        (r"(?<=legal: )(00)$", lambda it: "0000"),
+        (r"(?<=address is )(.{8})(?=,)", lambda it: f"{names['blocks'][int(it, 16) // BLOCK] * BLOCK + int(it, 16) % BLOCK:016x}"),
+        (r"(\d+)(?= of \d+ beats| of which)", lambda it: str(-(-int(it) // parts))),
+        (r"(?<= of )(\d+)(?= beats)|(?<=has )(\d+)(?= beats)", lambda it: str(-(-int(it) // parts))),
+    ):
+        told = re.sub(pattern, lambda found: other(found[0] if pattern[0] in "(" else found[1]), told)
+    return told
+
+
+def wanted_reasons(tool, liberties, levels, beats, width):
+    """The explanation of a wide trace, by that of the narrow one; None if it has no part at fault."""
+    lines, owners, _ = narrow_trace(liberties, levels, beats, width)
+    _, text = file_of(tool, ["explain"], "\n".join(lines) + "\n")
+    verdict, *told = text.splitlines()
+    if not verdict.startswith("line "):
+        return None
+    names = {"blocks": {}, "sources": {0: 0}, "sinks": {0: 0}}
+    at_fault = owners[int(verdict.split()[1]) - 2]
+    for beat, parts in zip(beats[:at_fault - 1], narrowed(beats, width)):
+        if beat.channel in "ABC":
+            names["blocks"][parts[0].address // BLOCK] = beat.address // BLOCK
+        if beat.channel in "ABCD" and beat.link == beats[at_fault - 2].link:
+            names["sources"][parts[0].source] = beat.source
+        if beat.channel in "DE":
+            names["sinks"][parts[0].sink] = beat.sink
+    wide = [it.line(width, 4, 16) for it in beats]
+    ought = [in_wide_words(verdict, owners, wide, names, width)]
+    for line in told:
+        number = re.match(r"  (\d+): ", line)
+        if number:
+            owner = owners[int(number[1]) - 2]
+            shown = words if len(ought) == 2 else cited
+            ought.append(f"  {owner}: {shown(wide[owner - 2])}")
+        elif not line.startswith("  (allowed") and (width <= 16 or not line.startswith("  mask is ")):
+            ought.append(line if len(ought) == 1 else in_wide_words(line, owners, wide, names, width))
+    return "\n".join(ought) + "\n"
+
+
 def message(beat):
     """The link, channel and message of a beat, in the order of reports."""
     return int(beat.link, 16), beat.channel, 0 if beat.channel == "E" else int(beat.opcode, 16)
@@ -380,6 +449,9 @@ def slips(tool, seed):
             wrong.append(f"{' '.join(command)} says {says}, and ought to say {ought}")
         if right and width == narrow and ought[0]:
             wrong.append(f"{' '.join(command)} finds a fault in a right trace: {ought[1]}")
+    ought = wanted_reasons(tool, liberties, levels, beats, width)
+    if ought and file_of(tool, ["explain"], text) != (1, ought):
+        wrong.append(f"explain ought to say {ought}")
     if miscounted(tool, text, liberties, levels, beats, width):
         wrong.append("cover counts other situations than those of the narrow trace")
         most = rng.choice([1, 2, 3, 20])

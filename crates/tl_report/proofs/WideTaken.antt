@@ -122,7 +122,7 @@ module _ {w p : ℕ} (width : p ≡ part_width w) (terms : Terms)
             ≡ beats_taken (reverse ((link, x) ∷ t))
         beats-are =
             sym (ap (λ u. beats_taken u) (newest-last (link, x) t)
-            ∙ next-beats terms.together terms.may terms.levels (reverse t) k.taken (link, x) within-order
+            ∙ next-beats (reverse t) k.taken.complete (link, x) within-order
             ∙ ap (λ l. with_parts link l (beats_taken (reverse t))) parts-are
             ∙ ap (λ u. with_parts link (left_of {p = part_width w} x parts) u) (sym k.are_beats))
 

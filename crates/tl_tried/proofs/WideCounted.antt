@@ -151,13 +151,13 @@ module _ {wide : WideWidth} (allow : Liberties) (old : WideCovering (part_width 
               (length k.judged.levels) (beats_taken k.judged.trace) first refl few
               ∙ ap (λ (parts : List (Trace (part_width (wide_bytes_of wide)))). map (at_wide_line parts)
               (covered k.judged.may (length k.judged.levels) (behind first (beats_taken k.judged.trace))))
-              (sym (becomes false k.judged.may k.judged.levels k.judged.trace k.judged.taken (link, x) within))
+              (sym (becomes k.judged.trace k.judged.taken.complete (link, x) within))
               ∙ ap (map (at_wide_line (narrowed after))) (sym rows)
 
           next-beats-are : before_fault k.judged.levels k.judged.may (joined (narrowed after)) [] ≡ taken_of_it
           next-beats-are =
               ap (λ (beats : Trace (part_width (wide_bytes_of wide))). before_fault k.judged.levels k.judged.may beats [])
-              (joins false k.judged.may k.judged.levels k.judged.trace k.judged.taken (link, x) within)
+              (joins k.judged.trace k.judged.taken.complete (link, x) within)
               ∙ before-more k.judged.levels k.judged.may (joined (narrowed k.judged.trace))
               (on_one_link link parts_of_it) [] k.judged.taken.good
               ∙ taken-before k.judged.levels k.judged.may link parts_of_it (beats_taken k.judged.trace)
@@ -175,7 +175,7 @@ module _ {wide : WideWidth} (allow : Liberties) (old : WideCovering (part_width 
           let (within, same, follows) = narrows (behind k.judged.trace []) k.judged.follows in
           let (good, covers) = (rw same at takes) k.judged.levels k.judged.may (beats_taken k.judged.trace) k.covers in
           let all = all-taken false k.judged.levels k.judged.may link parts_of_it (beats_taken k.judged.trace) good in
-          let beats = next-beats false k.judged.may k.judged.levels k.judged.trace k.judged.taken (link, x) within in
+          let beats = next-beats k.judged.trace k.judged.taken.complete (link, x) within in
           let covers_all = subst (λ t. Covers new.covering k.judged.levels k.judged.may t false) all covers in
           record {
             judged = beat-taken false allow (judge_in old) lines text k.judged (judge_in new) line link x spells within

@@ -213,6 +213,34 @@ module _ {p : ℕ} (together : Bool) (levels : List Level) (may : Liberties) whe
           let same : other ≡ found = cc in
           (length t, ap (λ (f : Fault). Some (length t, f)) same, omega arith, omega arith)
 
+-- ---- what a wide trace with one more beat becomes
+
+-- the parts of a beat after a wide trace
+abbrev parts_after : {w : ℕ} → WideTrace w → Link × WideBeat w → List (Beat (part_width w))
+parts_after trace x = beats_of x.0 x.1 (x ∷ behind trace [])
+
+module _ {w : ℕ} (trace : WideTrace w) (complete : length (narrowed trace) ≡ length trace) (x : Link × WideBeat w)
+    (within : is_beyond x.0 (x ∷ behind trace []) ≡ false) where
+  pub becomes : narrowed (trace ++ x ∷ []) ≡ narrowed trace ++ on_one_link x.0 (parts_after trace x) ∷ []
+  becomes =
+      narrowed-more [] trace x complete
+      ∙ ap (λ rest. narrowed trace ++ rest) (narrowed-one (behind trace []) x within)
+
+  pub joins : joined (narrowed (trace ++ x ∷ [])) ≡ joined (narrowed trace) ++ on_one_link x.0 (parts_after trace x)
+  joins = ap joined becomes ∙ joined-more (narrowed trace) (on_one_link x.0 (parts_after trace x))
+
+  pub all-become : length (narrowed (trace ++ x ∷ [])) ≡ length (trace ++ x ∷ [])
+  all-become =
+      let parts = ap (λ (l : List (Trace (part_width w))). length l) becomes in
+      let all = length-append (narrowed trace) (on_one_link x.0 (parts_after trace x) ∷ []) in
+      let more = length-append trace (x ∷ []) in
+      omega (arith, parts, all, complete, more)
+
+  pub next-beats : beats_taken (trace ++ x ∷ []) ≡ with_parts x.0 (parts_after trace x) (beats_taken trace)
+  next-beats =
+      ap (λ beats. behind beats []) joins
+      ∙ behind-more (joined (narrowed trace)) (on_one_link x.0 (parts_after trace x)) []
+
 -- ---- a wide trace with one more beat
 
 module _ {w : ℕ} (together : Bool) (may : Liberties) (levels : List Level) (trace : WideTrace w)
@@ -225,46 +253,26 @@ module _ {w : ℕ} (together : Bool) (may : Liberties) (levels : List Level) (tr
 
   module _ (x : Link × WideBeat w) where
     abbrev parts_of_it : List (Beat (part_width w))
-    parts_of_it = beats_of x.0 x.1 (x ∷ behind trace [])
+    parts_of_it = parts_after trace x
 
     one-more : length (trace ++ x ∷ []) ≡ suc (length trace)
     one-more = let all = length-append trace (x ∷ []) in omega (arith, all)
-
-    pub becomes : is_beyond x.0 (x ∷ behind trace []) ≡ false
-        → narrowed (trace ++ x ∷ []) ≡ narrowed trace ++ on_one_link x.0 parts_of_it ∷ []
-    becomes within =
-        narrowed-more [] trace x taken.complete
-        ∙ ap (λ rest. narrowed trace ++ rest) (narrowed-one (behind trace []) x within)
-
-    pub joins : is_beyond x.0 (x ∷ behind trace []) ≡ false
-        → joined (narrowed (trace ++ x ∷ [])) ≡ joined (narrowed trace) ++ on_one_link x.0 parts_of_it
-    joins within =
-        ap joined (becomes within) ∙ joined-more (narrowed trace) (on_one_link x.0 parts_of_it)
 
     -- behind those that were taken its parts are judged
     judges : is_beyond x.0 (x ∷ behind trace []) ≡ false
         → fault_from together levels may [] (joined (narrowed (trace ++ x ∷ [])))
         ≡ fault_from together levels may (beats_taken trace) (on_one_link x.0 parts_of_it)
     judges within =
-        ap (fault_from together levels may []) (joins within)
+        ap (fault_from together levels may []) (joins trace taken.complete x within)
         ∙ from-more together levels may [] (joined (narrowed trace)) (on_one_link x.0 parts_of_it) taken.good
 
     pub next-taken : is_beyond x.0 (x ∷ behind trace []) ≡ false
         → part_fault together levels may x.0 parts_of_it (beats_taken trace) ≡ None
         → IsTaken together may levels (trace ++ x ∷ [])
     next-taken within good = record {
-      complete =
-          let parts = ap (λ (l : List (Trace (part_width w))). length l) (becomes within) in
-          let all = length-append (narrowed trace) (on_one_link x.0 parts_of_it ∷ []) in
-          omega (arith, parts, all, taken.complete, one-more);
+      complete = all-become trace taken.complete x within;
       good = judges within ∙ parts-good together levels may x.0 parts_of_it (beats_taken trace) good;
     }
-
-    pub next-beats : is_beyond x.0 (x ∷ behind trace []) ≡ false
-        → beats_taken (trace ++ x ∷ []) ≡ with_parts x.0 parts_of_it (beats_taken trace)
-    next-beats within =
-        ap (λ beats. behind beats []) (joins within)
-        ∙ behind-more (joined (narrowed trace)) (on_one_link x.0 parts_of_it) []
 
     -- a part of the next beat is at fault
     pub next-bad : is_beyond x.0 (x ∷ behind trace []) ≡ false → (found : Fault)
@@ -280,7 +288,7 @@ module _ {w : ℕ} (together : Bool) (may : Liberties) (levels : List Level) (tr
         first-is together may levels (trace ++ x ∷ [])
         ∙ ap (beat_at_fault (narrowed (trace ++ x ∷ [])) (length (trace ++ x ∷ []))) (judges within ∙ is)
         ∙ ap (λ place. Some (place, found))
-        (ap (λ parts. owner parts i) (becomes within) ∙ at ∙ taken.complete)
+        (ap (λ parts. owner parts i) (becomes trace taken.complete x within) ∙ at ∙ taken.complete)
 
     -- a beat that names one too many becomes nothing
     pub stays : is_beyond x.0 (x ∷ behind trace []) ≡ true → narrowed (trace ++ x ∷ []) ≡ narrowed trace

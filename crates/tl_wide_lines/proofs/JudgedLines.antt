@@ -232,7 +232,7 @@ module _ {wide : WideWidth} (together : Bool) (allow : Liberties) (old : WideJud
           omega (arith, all, beats, k.counted);
       follows = subst (λ t. Follows new.narrower t) (sym (behind-last k.trace (link, x))) follows;
       known = subst (λ t. KnowsBeats together new.judge k.levels k.may t)
-          (sym (next-beats together k.may k.levels k.trace k.taken (link, x) within)) known;
+          (sym (next-beats k.trace k.taken.complete (link, x) within)) known;
       taken = next-taken together k.may k.levels k.trace k.taken (link, x) within good;
       silent = k.silent;
     }

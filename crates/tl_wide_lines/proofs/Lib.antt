@@ -6,5 +6,7 @@ mod JudgedOnce
 pub mod PartsJudged
 pub mod TraceJudged
 pub mod WideHeaders
+pub mod WideExplaining
+pub mod WideReplaying
 mod WideTexts
 mod Worked

@@ -1,5 +1,7 @@
+pub mod Behind
 pub mod JudgedTrace
 pub mod PartFaults
 pub mod WideDecoded
+pub mod WideExplained
 pub mod WideHeader
 pub mod WideText

@@ -7,14 +7,40 @@ ghost use Rattle.tl_wide.specs.statement.Width.{IsWideWidth, part_width};
 ghost use Rattle.tl_wide_lines.specs.code.WideJudging.{JudgesParts, JudgesWideBeat, JudgesWideLine, KnowsNone};
 
 use std::alloc::{AllocError, Global};
-use tl_beat::beat::Link;
+use tl_beat::beat::{Beat, Link};
+use tl_engine::explain::subject_of;
 use tl_engine::fault::Fault;
 use tl_engine::links_header::LinksHeader;
 use tl_engine::trace_judge::TraceJudge;
+use tl_explain::turns::Subject;
 use tl_wide::beat::{WideBeat, WideBeatE};
 use tl_wide::narrow::Narrower;
 use tl_wide::parts::Parts;
 use tl_wide::read::read_wide_into;
+
+/// The names of a beat at fault: their numbers, and its source and its sink as they were written.
+#[derive(Clone, Copy)]
+pub struct Clue {
+    pub subject: Subject,
+    pub source: u16,
+    pub sink: u16,
+}
+
+/// The names of a beat of this subject.
+fn clue_of<const W: usize>(subject: Subject, beat: &WideBeat<W>) -> Clue {
+    let (source, sink) = match beat {
+        WideBeat::A(x) => (x.source, 0),
+        WideBeat::B(x) => (x.source, 0),
+        WideBeat::C(x) => (x.source, 0),
+        WideBeat::D(x) => (x.source, x.sink),
+        WideBeat::E(x) => (0, x.sink),
+    };
+    Clue {
+        subject,
+        source,
+        sink,
+    }
+}
 
 /// A judge of wide beats: the numbers of their names, and a judge of the narrow beats that they become, of `P` bytes.
 #[derive(Drop)]
@@ -88,5 +114,29 @@ impl<const P: usize> WideJudge<P> {
             Ok(link) => self.push(link, &beat),
             Err(fault) => Ok(Some(Fault::Line(fault))),
         }
+    }
+
+    /// The names of the beat in a line that is at fault, if it has numbers for them. The error means that there is no
+    /// memory left.
+    pub fn clue<const W: usize>(&mut self, line: &[u8]) -> Result<Option<Clue>, AllocError>
+        requires width { IsWideWidth W }
+        requires part { P ≡ part_width W }
+    {
+        let mut beat = WideBeat::E(WideBeatE { sink: 0 });
+        let Ok(link) = read_wide_into::<W>(line, &mut beat) else {
+            return Ok(None);
+        };
+        let Some(parts) = self.narrower.narrow::<W, P>(link, &beat)? else {
+            return Ok(None);
+        };
+        let mut left = parts;
+        let Some(part) = left.next::<W, P>(&beat) else {
+            return Ok(None);
+        };
+        let block = match &part {
+            Beat::D(x) => self.judge.request(link, x.source).map(|asked| asked.block),
+            _ => None,
+        };
+        Ok(Some(clue_of(subject_of(link, &part, block), &beat)))
     }
 }

@@ -7,7 +7,7 @@ ghost use Rattle.tl_wide_lines.specs.code.WideWatching.{trace_judged_for};
 ghost use Rattle.tl_wide_lines.specs.statement.JudgedTrace.{JudgedTrace};
 
 use crate::header::read_wide_for;
-use crate::judge::WideJudge;
+use crate::judge::{Clue, WideJudge};
 use std::alloc::{AllocError, Global};
 use tl_beat::fault::LineFault;
 use tl_engine::fault::Fault;
@@ -74,6 +74,17 @@ impl WideLinks {
             WideLinks::SixtyFour(judge) => judge.judge_line::<64>(line),
         }
     }
+
+    /// The names of the wide beat in a line that is at fault.
+    fn clue(&mut self, line: &[u8]) -> Result<Option<Clue>, AllocError> {
+        match self {
+            WideLinks::Four(judge) => judge.clue::<4>(line),
+            WideLinks::Eight(judge) => judge.clue::<8>(line),
+            WideLinks::Sixteen(judge) => judge.clue::<16>(line),
+            WideLinks::ThirtyTwo(judge) => judge.clue::<32>(line),
+            WideLinks::SixtyFour(judge) => judge.clue::<64>(line),
+        }
+    }
 }
 
 impl TraceLines {
@@ -85,6 +96,17 @@ impl TraceLines {
         TraceLines {
             narrow: LinkLines::new(alloc, together, allow),
             wide: None,
+        }
+    }
+
+    /// The names of the beat in a line that is at fault, if it is a wide one. The error means that there is no memory
+    /// left.
+    pub fn clue(&mut self, line: &[u8]) -> Result<Option<Clue>, AllocError>
+        ensures { trace_judged_for self.new ≡ trace_judged_for self.old }
+    {
+        match &mut self.wide {
+            None => Ok(None),
+            Some(links) => links.clue(line),
         }
     }
 

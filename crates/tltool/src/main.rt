@@ -10,6 +10,7 @@ mod cover;
 mod decode;
 mod report;
 mod unread;
+mod wide;
 
 use cover::cover;
 use decode::decode;
@@ -31,13 +32,13 @@ use tl_engine::output::{write_all, write_changed, write_once, write_open_fault};
 use tl_engine::status::{Status, ToolFault, exit_of};
 use tl_engine::tool::run_tool;
 use tl_links::allowing::append_allowed;
-use tl_links::run::run_links;
 use tl_params::liberties::Liberties;
 use tl_random::schedule::write_schedule;
 use tl_report::find::find_all;
 use tl_wide_lines::run::run_trace;
 use tl_words::words::{WordsFault, invocation, usage_status};
 use unread::{front_of, tell_unread, tell_unread_in};
+use wide::{explain_wide_over, is_wide_file};
 
 /// The exit status of a run. Its fault is printed on standard error.
 pub(crate) fn told(rt: &HostRuntime, outcome: Result<Status, ToolFault>) -> u8
@@ -86,7 +87,7 @@ fn run_over<R: Read, W: Write>(
         Command::Monitor => told(rt, run_trace(rt.alloc(), false, allow, input, output)),
         Command::Coherent => told(rt, run_trace(rt.alloc(), true, allow, input, output)),
         Command::Explain { coherent } => {
-            told(rt, run_links(rt.alloc(), coherent, allow, input, output))
+            told(rt, run_trace(rt.alloc(), coherent, allow, input, output))
         }
         _ => told(rt, run_tool(rt.alloc(), command, input, output)),
     }
@@ -143,7 +144,11 @@ fn is_read_once(file: &File) -> bool {
 }
 
 /// The exit status of an explanation. Its fault is printed on standard error.
-fn told_explained(rt: &HostRuntime, name: &str, outcome: Result<Status, ExplainFault>) -> u8
+pub(crate) fn told_explained(
+    rt: &HostRuntime,
+    name: &str,
+    outcome: Result<Status, ExplainFault>,
+) -> u8
     ensures { result ≡ explain_status outcome }
 {
     match outcome {
@@ -210,6 +215,17 @@ fn explain(rt: &HostRuntime, coherent: bool, allow: Liberties, name: &str) -> u8
         return unopened(rt, name);
     };
     let mut output = io::writer(rt);
+    if is_wide_file(rt, name) {
+        return explain_wide_over(
+            rt,
+            coherent,
+            allow,
+            name,
+            &mut first,
+            &mut second,
+            &mut output,
+        );
+    }
     let explained = explain_over(
         rt,
         coherent,
@@ -219,7 +235,6 @@ fn explain(rt: &HostRuntime, coherent: bool, allow: Liberties, name: &str) -> u8
         &mut second,
         &mut output,
     );
-    let explained = tell_unread_in(rt, name, explained);
     if coherent || explained != 1 {
         return explained;
     }

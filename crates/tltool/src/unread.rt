@@ -10,7 +10,7 @@ use tl_wide_lines::header::read_wide;
 
 /// The line for standard error.
 const UNREAD: &str =
-    "tltool: the header is of wide beats, which only monitor, coherent and cover read";
+    "tltool: the header is of wide beats, which only monitor, coherent, explain and cover read";
 
 /// The number of bytes of a first line that are read.
 const LOOKED_AT: usize = 257;

@@ -8,20 +8,10 @@ use Rattle.tl_params.specs.declared.level.Level.{Level}
 use Rattle.tl_params.specs.declared.liberties.Liberties.{Liberties}
 use Rattle.tl_rules.specs.statement.Conformance.{Trace}
 use Rattle.tl_wide.specs.statement.Naming.{WideTrace}
-use Rattle.tl_wide.specs.statement.Narrowed.{narrowed, on_one_link}
+use Rattle.tl_wide.specs.statement.Narrowed.{narrowed}
 use Rattle.tl_wide.specs.statement.Verdict.{joined}
-use Rattle.tl_wide.specs.statement.Width.{part_width}
-
--- these, of which the newest is the last, behind others, of which the newest is the first
-unfoldable pub behind : {A : Type 0} → List A → List A → List A
-behind [] before = before
-behind (x ∷ xs) before = behind xs (x ∷ before)
-
--- ---- parts of a beat
-
--- the beats of t, and these parts behind them
-abbrev pub with_parts : {p : ℕ} → Link → List (Beat p) → Trace p → Trace p
-with_parts link parts t = behind (on_one_link link parts) t
+unfoldable pub use Rattle.tl_wide_lines.specs.statement.Behind.{behind}
+pub use Rattle.tl_wide_lines.specs.statement.Behind.{beats_taken, with_parts}
 
 -- ---- a trace
 
@@ -37,10 +27,6 @@ fault_from together levels may before [] = None
 fault_from {p} together levels may before (x ∷ trace) =
     fault_here (faults_by together p levels may x before) (length before)
     (fault_from together levels may (x ∷ before) trace)
-
--- the beats that a wide trace became, the newest first
-abbrev pub beats_taken : {w : ℕ} → WideTrace w → Trace (part_width w)
-beats_taken trace = behind (joined (narrowed trace)) []
 
 -- a wide trace has no fault: each beat became beats, and none of these is at fault
 pub record IsTaken {w : ℕ} (together : Bool) (may : Liberties) (levels : List Level) (trace : WideTrace w) : Type 0

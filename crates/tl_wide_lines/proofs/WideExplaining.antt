@@ -1,0 +1,37 @@
+-- What the two readings of a wide trace bring.
+use Rattle.std.proofs.Common.{◌≡◌, ◌+◌, ℕ, Bool, false, List, [], subst}
+use Rattle.std.specs.Prelude.{Option}
+use Rattle.std.specs.Io.KnownBytes.{Consumes}
+use Rattle.tl_engine.specs.declared.fault.Fault.{Fault}
+use Rattle.tl_engine.specs.declared.fault.Fault.TheVariants as fault
+use Rattle.tl_engine.specs.declared.status.Status.{Status}
+use Rattle.tl_engine.specs.declared.status.Status.TheVariants.{Broken}
+use Rattle.tl_engine.specs.statement.Fault.{fault_text}
+use Rattle.tl_engine.specs.statement.Lines.{lines_of}
+use Rattle.tl_engine.specs.statement.Run.{EndsAs}
+use Rattle.tl_params.specs.declared.liberties.Liberties.{Liberties}
+use Rattle.tl_wide_lines.specs.code.WideReplaying.{is_rule}
+use Rattle.tl_wide_lines.specs.statement.JudgedTrace.{JudgedTrace}
+use Rattle.tl_wide_lines.specs.statement.WideExplained.{ExplainsWide, ReachesWide}
+
+-- the first reading reached its verdict
+pub reached : (p : Bool × Liberties) (together : Bool) (allow : Liberties) (had left : Option (List ℕ))
+    (read verdict : List ℕ) (status : Status) → p ≡ (together, allow) → Consumes had left read
+    → JudgedTrace p.0 p.1 (lines_of read) verdict status
+    → EndsAs (JudgedTrace p.0 p.1) left read verdict status → ReachesWide together allow had left verdict status
+reached p together allow had left read verdict status is consumed judged ends = (
+  read,
+  consumed,
+  subst (λ (q : Bool × Liberties). JudgedTrace q.0 q.1 (lines_of read) verdict status) is judged,
+  subst (λ (q : Bool × Liberties). EndsAs (JudgedTrace q.0 q.1) left read verdict status) is ends,
+)
+
+-- of a fault that is no breach of a rule nothing is claimed but the verdict
+pub other_explains : (allow : Liberties) (old new : Option (List ℕ)) (verdict : List ℕ) (good : ℕ) (found : Fault)
+    → is_rule found ≡ false → verdict ≡ fault_text (good + 1) found → ExplainsWide allow old new verdict [] Broken
+other_explains allow old new verdict good (fault.Rule rule) other says = absurd cc
+other_explains allow old new verdict good (fault.MemoryRule rule) other says = absurd cc
+other_explains allow old new verdict good (fault.Line of_line) other says = (good + 1, fault.Line of_line, says, tt)
+other_explains allow old new verdict good (fault.Event of_event) other says = (good + 1, fault.Event of_event, says, tt)
+other_explains allow old new verdict good fault.Header other says = (good + 1, fault.Header, says, tt)
+other_explains allow old new verdict good fault.Beyond other says = (good + 1, fault.Beyond, says, tt)

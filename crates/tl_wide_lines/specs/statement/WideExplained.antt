@@ -1,0 +1,143 @@
+-- The reasons for the verdict on a wide trace: those for the first part of its beat at fault that breaks the rule.
+use Rattle.std.specs.Prelude.{◌≡◌, ◌⊎◌, ◌+◌, ◌++◌, ℕ, Bool, true, false, List, [], ◌∷◌, length, slice_get, Option, Some, ⊤, codes}
+use Rattle.std.specs.Fmt.{decimal}
+use Rattle.std.specs.Io.KnownBytes.{Consumes}
+use Rattle.tl_beat.specs.declared.beat.Beat.{Beat}
+use Rattle.tl_beat.specs.declared.beat.Link.{Link}
+use Rattle.tl_engine.specs.declared.explain_fault.ExplainFault.{ExplainFault}
+use Rattle.tl_engine.specs.declared.explain_fault.ExplainFault.TheVariants.{Changed, Tool}
+use Rattle.tl_engine.specs.declared.fault.Fault.{Fault}
+use Rattle.tl_engine.specs.declared.fault.Fault.TheVariants.{Rule as Breaks, MemoryRule as BreaksTogether}
+use Rattle.tl_engine.specs.declared.status.Status.{Status}
+use Rattle.tl_engine.specs.declared.status.Status.TheVariants.{Clean, Broken}
+use Rattle.tl_engine.specs.declared.status.ToolFault.TheVariants.{Write}
+use Rattle.tl_engine.specs.statement.Explained.{broken_alone, is_of_order}
+use Rattle.tl_engine.specs.statement.Fault.{fault_text}
+use Rattle.tl_engine.specs.statement.Lines.{lines_of}
+use Rattle.tl_engine.specs.statement.Parts.{AppendsShort}
+use Rattle.tl_engine.specs.statement.Run.{EndsAs}
+use Rattle.tl_explain.specs.declared.reason.Reason.{Reason}
+use Rattle.tl_explain.specs.statement.Reasons.{IsEvidenceUnder, convicted_under}
+use Rattle.tl_explain.specs.statement.Sentences.{memory_rule_line, rule_line}
+use Rattle.tl_params.specs.declared.level.Level.{Level}
+use Rattle.tl_params.specs.declared.liberties.Liberties.{Liberties}
+use Rattle.tl_params.specs.declared.memory_rule.MemoryRule.{MemoryRule}
+use Rattle.tl_params.specs.declared.rule.Rule.{Rule}
+use Rattle.tl_rules.specs.statement.Conformance.{Trace}
+use Rattle.tl_wide.specs.declared.beat.WideBeat.{WideBeat}
+use Rattle.tl_wide.specs.declared.width.WideWidth.{WideWidth}
+use Rattle.tl_wide.specs.statement.Line.{WideSpells}
+use Rattle.tl_wide.specs.statement.Naming.{WideTrace}
+use Rattle.tl_wide.specs.statement.Narrowed.{beats_of}
+use Rattle.tl_wide.specs.statement.Width.{part_width, wide_bytes_of}
+use Rattle.tl_wide_lines.specs.statement.Behind.{beats_taken, behind, with_parts}
+use Rattle.tl_wide_lines.specs.statement.JudgedTrace.{BeginWith, JudgedTrace}
+use Rattle.tl_wide_lines.specs.statement.WideHeader.{NamesWide}
+use Rattle.tl_wide_lines.specs.statement.WideText.{wide_text_of}
+
+-- ---- the text
+
+-- the words of a wide beat, after the number of its line
+unfoldable pub wide_beat_line : {w : ℕ} → ℕ → Link → WideBeat w → List ℕ
+wide_beat_line n link x = codes "  " ++ decimal n ++ codes ": " ++ wide_text_of link x
+
+-- the first lines of the reasons: the line of the rule, and the wide beat of line n, as it was written, that breaks it
+abbrev pub wide_front_text : {w : ℕ} → List ℕ → ℕ → Link → WideBeat w → List ℕ
+wide_front_text sentence n link x = codes "  " ++ sentence ++ wide_beat_line n link x
+
+-- ---- why a part of a wide beat breaks a rule
+
+-- A beat of a link of this level, which has these liberties, breaks the rule after t: a rule of legality by itself, and
+-- a rule of order by a reason. The claim of the reason is true of t, and the rule follows from the reason, the liberties
+-- and the beat alone.
+pub record IsConvicted {p : ℕ} (may : Liberties) (level : Option Level) (link : Link) (rule : Rule) (x : Beat p)
+    (t : Trace p) : Type 0 where
+  pub by_order : is_of_order rule ≡ true
+      → (reason : Reason) × IsEvidenceUnder may link.0 x reason t × (convicted_under may x reason ≡ Some rule)
+  pub by_itself : is_of_order rule ≡ false → broken_alone may level x ≡ Some rule
+
+-- A part of the wide beat breaks the rule, after the beats that the trace before it became and the parts before this
+-- one.
+pub record HasGuilty {w : ℕ} (rule : Rule) (may : Liberties) (levels : List Level) (trace : WideTrace w) (link : Link)
+    (x : WideBeat w) : Type 0 where
+  pub first : List (Beat (part_width w))
+  pub part : Beat (part_width w)
+  pub left : List (Beat (part_width w))
+  pub parts_are : beats_of link x ((link, x) ∷ behind trace []) ≡ first ++ part ∷ left
+  pub convicted : IsConvicted may (slice_get levels link.0) link rule part (with_parts link first (beats_taken trace))
+
+-- ---- the reasons
+
+-- a claim about a wide beat after a wide trace, on links with these liberties and levels
+abbrev pub Claims : Type 1
+Claims = (w : ℕ) → Liberties → List Level → WideTrace w → Link → WideBeat w → Type 0
+
+-- Line n of the input that was read spells a wide beat of which this claim is true. The lines before it are a header and
+-- a wide trace. The links have the liberties that the header names and those that are allowed. The reasons begin with
+-- this line of a rule, and with that beat.
+pub record IsShownWide (claims : Claims) (sentence : List ℕ) (allow : Liberties) (old new : Option (List ℕ)) (n : ℕ)
+    (reasons : List ℕ) : Type 0 where
+  pub width : WideWidth
+  pub may : Liberties
+  pub levels : List Level
+  pub read : List ℕ
+  pub consumed : Consumes old new read
+  pub header : List ℕ
+  pub names : NamesWide allow header width may levels
+  pub bytes : ℕ
+  pub of_width : wide_bytes_of width ≡ bytes
+  pub trace : WideTrace bytes
+  pub before : List (List ℕ)
+  pub spelled : BeginWith trace before []
+  pub line : List ℕ
+  pub more : List (List ℕ)
+  pub stands : lines_of read ≡ (header ∷ before) ++ line ∷ more
+  pub number : n ≡ length trace + 2
+  pub link : Link
+  pub beat : WideBeat bytes
+  pub spells : WideSpells line link beat
+  pub claimed : claims bytes may levels trace link beat
+  pub grounds : List ℕ
+  pub begins : reasons ≡ wide_front_text sentence n link beat ++ grounds
+
+-- the input that was read and the reasons explain the fault of line n, if a rule is broken; of a rule of memory only
+-- the line is shown
+abbrev pub ExplainsWideFault : Liberties → Option (List ℕ) → Option (List ℕ) → ℕ → List ℕ → Fault → Type 0
+ExplainsWideFault allow old new n reasons (Breaks rule) =
+    IsShownWide (λ w. HasGuilty {w = w} rule) (rule_line rule) allow old new n reasons
+ExplainsWideFault allow old new n reasons (BreaksTogether rule) =
+    IsShownWide (λ w may levels trace link x. ⊤) (memory_rule_line rule) allow old new n reasons
+ExplainsWideFault allow old new n reasons _ = ⊤
+
+-- the input that was read and the reasons explain the verdict, if a rule is broken
+abbrev pub ExplainsWide : Liberties → Option (List ℕ) → Option (List ℕ) → List ℕ → List ℕ → Status → Type 0
+ExplainsWide allow old new verdict reasons Clean = ⊤
+ExplainsWide allow old new verdict reasons Broken = (n : ℕ) × (fault : Fault) × (verdict ≡ fault_text n fault)
+    × ExplainsWideFault allow old new n reasons fault
+
+-- ---- a file with two readers
+
+-- The first reading, of each link by itself or of all together, reached its verdict: at the end of the input, or at a
+-- line at fault that no continuation can mend.
+abbrev pub ReachesWide : Bool → Liberties → Option (List ℕ) → Option (List ℕ) → List ℕ → Status → Type 0
+ReachesWide together allow had left verdict status =
+    (read : List ℕ) × Consumes had left read × JudgedTrace together allow (lines_of read) verdict status
+    × EndsAs (JudgedTrace together allow) left read verdict status
+
+-- Both readings reached their ends, with this verdict and these reasons.
+pub record ReachesBoth (together : Bool) (allow : Liberties) (had left had_again left_again : Option (List ℕ))
+    (text : List ℕ) (status : Status) : Type 0 where
+  pub verdict : List ℕ
+  pub reasons : List ℕ
+  pub reached : ReachesWide together allow had left verdict status
+  pub explained : ExplainsWide allow had_again left_again verdict reasons status
+  pub said : text ≡ verdict ++ reasons
+
+-- An explanation ended with this fault. `Write`: both readings reached their ends, and the writer took only a front of
+-- the text. Otherwise nothing was written.
+abbrev pub GivesUpWide : Bool → Liberties → Option (List ℕ) → Option (List ℕ) → Option (List ℕ) → Option (List ℕ)
+    → Option (List ℕ) → Option (List ℕ) → ExplainFault → Type 0
+GivesUpWide together allow had left had_again left_again held holds (Tool Write) =
+    (text : List ℕ) × (status : Status) × ReachesBoth together allow had left had_again left_again text status
+    × AppendsShort held holds text
+GivesUpWide together allow had left had_again left_again held holds fault = holds ≡ held

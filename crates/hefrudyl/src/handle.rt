@@ -3,6 +3,7 @@
 ghost use Rattle.std.specs.Prelude.{◌≡◌, ◌⊎◌, Option, Some, None, is_some, option_map, IsTrue};
 ghost use Rattle.std.specs.Coded.{coded_option};
 ghost use Rattle.hefrudyl.specs.code.Owned.{owned};
+ghost use Rattle.hefrudyl.specs.code.Taking.{Takes};
 ghost use Rattle.hefrudyl.specs.declared.session.Session.{Session};
 ghost use Rattle.hefrudyl.specs.contracts.session.Session.{the_row};
 ghost use Rattle.std.specs.contracts.impls.GlobalAllocator.TheImpl.{ghosts};
@@ -11,7 +12,8 @@ use crate::parts::Parts;
 use crate::session::Session;
 use std::alloc::Global;
 use std::marker::Model;
-use std::ptr;
+use std::{mem, ptr};
+use tl_pictures::answer::Answer;
 
 /// The memory of a session, as C sees it.
 #[repr(C)]
@@ -105,6 +107,28 @@ impl Handle {
             Some(place.into_parts().into_box())
         } else {
             None
+        }
+    }
+
+    /// Takes a session that was opened, and answers as the call that opened it. A full handle stays, which is bad input.
+    /// Without memory for the session an empty handle stays empty.
+    pub fn take(&mut self, alloc: Global, opened: Result<Session, Answer>) -> Answer
+        ensures { Takes opened self.old.place.value self.new.place.value result }
+    {
+        if let Some(session) = mem::replace(self, Handle::empty(alloc)).into_box() {
+            *self = Handle::of(session);
+            return Answer::BAD;
+        }
+        let session = match opened {
+            Err(answer) => return answer,
+            Ok(session) => session,
+        };
+        match Box::new(alloc, session) {
+            Err(_) => Answer::NO_MEMORY,
+            Ok(session) => {
+                *self = Handle::of(session);
+                Answer::OK
+            }
         }
     }
 }

@@ -26,10 +26,9 @@ pub extern "C" fn tl_client_new(
 ) -> Answer
     ensures { ClientOpenTold client.old.place.value client.new.place.value level blocks sources width profile result }
 {
-    opened!(
+    client.take(
         alloc,
-        client,
-        Session::open_client(alloc, level, blocks, sources, width, profile)
+        Session::open_client(alloc, level, blocks, sources, width, profile),
     )
 }
 

@@ -22,7 +22,7 @@ pub extern "C" fn tl_cover_new(
 ) -> Answer
     ensures { CoverOpenTold cover.old.place.value cover.new.place.value levels.now width liberties result }
 {
-    opened!(alloc, cover, covered::open(alloc, levels, width, liberties))
+    cover.take(alloc, covered::open(alloc, levels, width, liberties))
 }
 
 /// Judges a beat of a link, and counts the situations of the message that begins with it.

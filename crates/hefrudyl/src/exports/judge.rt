@@ -21,11 +21,7 @@ pub extern "C" fn tl_judge_new(
 ) -> Answer
     ensures { JudgeOpenTold judge.old.place.value judge.new.place.value levels.now width profile result }
 {
-    opened!(
-        alloc,
-        judge,
-        Session::open_judge(alloc, levels, width, profile)
-    )
+    judge.take(alloc, Session::open_judge(alloc, levels, width, profile))
 }
 
 /// Makes a judge of all links of a manager, of these levels and with these liberties, bit 0 for `ids` to bit 7 for
@@ -40,10 +36,9 @@ pub extern "C" fn tl_judge_new_under(
 ) -> Answer
     ensures { JudgeOpenUnderTold judge.old.place.value judge.new.place.value levels.now width liberties result }
 {
-    opened!(
+    judge.take(
         alloc,
-        judge,
-        Session::open_judge_under(alloc, levels, width, liberties)
+        Session::open_judge_under(alloc, levels, width, liberties),
     )
 }
 

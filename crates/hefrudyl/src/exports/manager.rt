@@ -26,10 +26,9 @@ pub extern "C" fn tl_manager_new(
     ensures { ManagerOpenTold manager.old.place.value manager.new.place.value links.now blocks trackers
         width profile result }
 {
-    opened!(
+    manager.take(
         alloc,
-        manager,
-        Session::open_manager(alloc, links, blocks, trackers, width, profile)
+        Session::open_manager(alloc, links, blocks, trackers, width, profile),
     )
 }
 
@@ -50,9 +49,8 @@ pub extern "C" fn tl_manager_new_under(
     ensures { ManagerOpenUnderTold manager.old.place.value manager.new.place.value links.now blocks trackers
         width liberties probe_sources.now result }
 {
-    opened!(
+    manager.take(
         alloc,
-        manager,
         Session::open_manager_under(
             alloc,
             links,
@@ -60,8 +58,8 @@ pub extern "C" fn tl_manager_new_under(
             trackers,
             width,
             liberties,
-            probe_sources
-        )
+            probe_sources,
+        ),
     )
 }
 

@@ -22,7 +22,7 @@ pub extern "C" fn tl_monitor_new(
 ) -> Answer
     ensures { MonitorOpenTold monitor.old.place.value monitor.new.place.value levels.now width profile result }
 {
-    opened!(alloc, monitor, Session::open(alloc, levels, width, profile))
+    monitor.take(alloc, Session::open(alloc, levels, width, profile))
 }
 
 /// Makes a monitor of links of these levels with these liberties, bit 0 for `ids` to bit 7 for `uncorrupt`, in an empty
@@ -37,11 +37,7 @@ pub extern "C" fn tl_monitor_new_under(
 ) -> Answer
     ensures { MonitorOpenUnderTold monitor.old.place.value monitor.new.place.value levels.now width liberties result }
 {
-    opened!(
-        alloc,
-        monitor,
-        Session::open_under(alloc, levels, width, liberties)
-    )
+    monitor.take(alloc, Session::open_under(alloc, levels, width, liberties))
 }
 
 /// Judges a beat of a link.

@@ -21,10 +21,9 @@ pub extern "C" fn tl_monitor_new_wide(
 ) -> Answer
     ensures { WideMonitorOpenTold monitor.old.place.value monitor.new.place.value levels.now width liberties result }
 {
-    opened!(
+    monitor.take(
         alloc,
-        monitor,
-        wide_session::open_monitor(alloc, levels, width, liberties)
+        wide_session::open_monitor(alloc, levels, width, liberties),
     )
 }
 
@@ -39,10 +38,9 @@ pub extern "C" fn tl_judge_new_wide(
 ) -> Answer
     ensures { WideJudgeOpenTold judge.old.place.value judge.new.place.value levels.now width liberties result }
 {
-    opened!(
+    judge.take(
         alloc,
-        judge,
-        wide_session::open_judge(alloc, levels, width, liberties)
+        wide_session::open_judge(alloc, levels, width, liberties),
     )
 }
 

@@ -225,7 +225,6 @@ ROWS = [
     ("tltool explain --coherent wide/two_caches.trace", 0, "coherent 11\n  coherent means ..", ""),
     ("tltool explain wide/wrong_report.trace", 1, WIDE_REASONS, ""),
     ("tltool explain --coherent wide/second_part.trace | cut -c1-40", 0, WIDE_MEMORY, ""),
-    ("tltool explain <wide/wrong_report.trace", 1, "line 6 H12\n", ""),
     ("sed '1s/64/32/' wide/wrong_report.trace >narrower.trace; tltool explain narrower.trace", 1, F3.format(2), ""),
     ("(head -5 wide/wrong_report.trace; tail -1 wide/wrong_report.trace | sed 's/C 4 1/C 4 2/') >right.trace; tltool explain right.trace | head -1", 0, "clean 5\n", ""),
     *(

@@ -2,7 +2,7 @@
 """commits_trial.py [--runs N] [--without PART]: tries the rules for stores and loads in a trace (M5, M6, M7) on the memories of
 early_trial.py. The cores of right caches store and load; no run may be convicted. Of each wrong cache it prints how many runs
 are convicted, by rule, and how many the beats alone convict. `--without` leaves out one part of the rules."""
-import argparse, collections
+import collections
 
 import early_trial
 from early_trial import BEATS, BRANCH, CACHES, NONE, TRUNK, Judge, Message, Thunk, World, could_be
@@ -240,13 +240,17 @@ class Cores(World):
             c["copy"] = list(old)
         return right
 
+    def without_data(self, gives_up, link, block, c):
+        """Gives a copy up as a clean one, and without data."""
+        c["dirty"], chance = False, self.chance
+        self.chance = lambda p: False
+        gives_up(link, block, c)
+        self.chance = chance
+
     def release(self, link, block, c):
         right, dirty = self.spoil(link, block, c) if c["copy"] else None, c["dirty"]
         if self.wrong == "releases a dirty copy without data" and self.chance(0.5):
-            c["dirty"], chance = False, self.chance
-            self.chance = lambda p: False
-            super().release(link, block, c)
-            self.chance = chance
+            self.without_data(super().release, link, block, c)
         else:
             super().release(link, block, c)
         c["copy"], c["upgraded"] = right, False
@@ -254,10 +258,7 @@ class Cores(World):
     def answer_probe(self, link, block, c):
         right = self.spoil(link, block, c) if c["copy"] else None
         if self.wrong == "reports a dirty copy without data" and self.chance(0.5) or c.pop("perm_only", False):
-            c["dirty"], chance = False, self.chance
-            self.chance = lambda p: False
-            super().answer_probe(link, block, c)
-            self.chance = chance
+            self.without_data(super().answer_probe, link, block, c)
         else:
             super().answer_probe(link, block, c)
         c["copy"], c["upgraded"] = right, False
@@ -321,11 +322,7 @@ BUGS = ["releases a dirty copy without data", "reports a dirty copy without data
 
 
 def main():
-    p = argparse.ArgumentParser()
-    p.add_argument("--runs", type=int, default=1000)
-    p.add_argument("--steps", type=int, default=600)
-    p.add_argument("--without", default="")
-    p.add_argument("--show", action="store_true")
+    p = early_trial.options()
     a = p.parse_args()
     out = set(filter(None, a.without.split(",")))
     for bug in [None] + ([] if out else BUGS):

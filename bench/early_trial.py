@@ -629,12 +629,18 @@ def tell(log):
         print(f"{m.link} {m.channel} {m.op} {b.index}/{m.beats} block {m.block} at {m.at} size {m.size} param {m.param} value {b.value}")
 
 
-def main():
+def options():
+    """The options of this model and of those over it."""
     p = argparse.ArgumentParser()
     p.add_argument("--runs", type=int, default=1000)
     p.add_argument("--steps", type=int, default=600)
     p.add_argument("--without", default="")
     p.add_argument("--show", action="store_true")
+    return p
+
+
+def main():
+    p = options()
     p.add_argument("--traces")
     a = p.parse_args()
     folder = pathlib.Path(a.traces) if a.traces else None

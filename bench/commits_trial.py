@@ -1,11 +1,12 @@
 #!/usr/bin/env python3
-"""commits_trial.py [--runs N] [--without PART]: tries the rules for stores and loads in a trace (M5, M6, M7) on the memories of
-early_trial.py. The cores of right caches store and load; no run may be convicted. Of each wrong cache it prints how many runs
-are convicted, by rule, and how many the beats alone convict. `--without` leaves out one part of the rules."""
+"""commits_trial.py [--runs N] [--without PART] [--traces FOLDER]: tries the rules for stores and loads in a trace (M5, M6, M7) on
+the memories of early_trial.py. The cores of right caches store and load; no run may be convicted. Of each wrong cache it prints
+how many runs are convicted, by rule, and how many the beats alone convict. `--without` leaves out one part of the rules. With
+`--traces` each run is written as a trace with the verdict beside it, as early_trial.py does."""
 import collections
 
 import early_trial
-from early_trial import BEATS, BRANCH, CACHES, NONE, TRUNK, Judge, Message, Thunk, World, could_be
+from early_trial import BEATS, BRANCH, CACHES, DEVICES, NONE, TRUNK, Judge, Message, Thunk, World, could_be
 
 PARTS = ["probe_perm", "unrecorded", "under_way", "late_loads", "sets_judged"]
 REPORTS = ("ProbeAck", "Release")
@@ -84,7 +85,8 @@ class CommitJudge(Judge):
             return None
         if m.data:
             if (self.complete[m.link] or "unrecorded" in self.out) and b.value is not None:
-                if not any(could_be(b.value, u) for u, _ in self.may[m.block][b.index]):
+                known = self.brought(m.link, m.block, b.index) or [u for u, _ in self.may[m.block][b.index]]
+                if not any(could_be(b.value, u) for u in known):
                     return "M7"
             return None
         if m.op == "ProbeAck" and self.perm_only.get((m.link, m.block)) and "probe_perm" not in self.out:
@@ -138,15 +140,18 @@ class Cores(World):
         self.drops = self.chance(0.5)
         self.judge = CommitJudge(self.links, self.blocks, left_out, self.complete)
         self.judge.alone = self.alone = alone                 # the beats alone are judged
-        self.fault, self.commits = None, 0
+        self.fault, self.commits, self.lines = None, 0, 0     # at fault is the last of so many events
         self.old = [[None] * self.blocks for _ in range(CACHES)]
         self.late = []                                        # loads under way: (link, block, i, value)
 
     def commit(self, call, *words):
+        if self.fault:
+            return
         self.commits += 1
         self.log.append((call.__name__,) + words)
         if not self.alone:
-            self.fault = self.fault or call(*words)
+            self.fault = call(*words)
+            self.lines = len(self.log)
 
     def act(self):
         if self.chance(0.4):
@@ -321,9 +326,27 @@ BUGS = ["releases a dirty copy without data", "reports a dirty copy without data
     "loads after it gave the copy up", "loads the wrong beat of a Grant"]
 
 
+LETTER = {"store": "S", "load": "L", "load_begins": "I"}
+
+
+def line(event):
+    """The line of a beat or a commit. Byte i of the model is a word of four bytes."""
+    if not isinstance(event, tuple):
+        return early_trial.line(event)
+    call, link, block, i, *value = event
+    return f"{link:02x} {LETTER[call]} 2 {64 * block + 4 * i:08x}" + "".join(f" {v:02x}{v:02x}{v:02x}{v:02x}" for v in value)
+
+
+def header(world):
+    levels = "".join(" C+" if complete else " C" for complete in world.complete[:CACHES]) + " UH" * DEVICES
+    return f"tltrace 4 4 early,{'drops,' if world.drops else ''}reports{levels}"
+
+
 def main():
-    p = early_trial.options()
-    a = p.parse_args()
+    global BEATS
+    a = early_trial.options().parse_args()
+    folder = early_trial.folder_of(a.traces)
+    BEATS = early_trial.BEATS
     out = set(filter(None, a.without.split(",")))
     for bug in [None] + ([] if out else BUGS):
         verdicts, alone, beats, commits = collections.Counter(), 0, 0, 0
@@ -334,6 +357,8 @@ def main():
             alone += bug is not None and Cores(seed, bug, out, True).run(a.steps) != "coherent"
             commits += w.commits
             beats += len(w.log) - w.commits
+            if folder:
+                early_trial.write(folder, f"{(bug or 'right').replace(' ', '_')}_{seed}", header(w), [line(e) for e in w.log[:w.lines if w.fault else None]], v)
             if v != "coherent" and bug is None and a.show:
                 for e in w.log[-120:]:
                     if isinstance(e, tuple):

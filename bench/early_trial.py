@@ -605,7 +605,7 @@ def line(b):
         mask = "0" if m.op == "Put" and b.value is None else "f"
         return f"{link} A {LINE[m.op]} 0 {size} {m.source:02x} {address:08x} {mask} {data} 0"
     if m.channel == "B":
-        return f"{link} B 6 {CAP[m.param]} 6 00 {address:08x} f - 0"
+        return f"{link} B {7 if getattr(m, 'perm_only', False) else 6} {CAP[m.param]} 6 00 {address:08x} f - 0"
     if m.channel == "C":
         op = (4 if m.op == "ProbeAck" else 6) + (1 if m.data else 0)
         source = m.source if m.op == "Release" else 0
@@ -616,11 +616,22 @@ def line(b):
     return f"{link} D {LINE[m.op]} {param} {size} {m.source:02x} {m.sink % 256 if grants else 0:02x} 0 {data} 0"
 
 
-def write(folder, name, world, verdict):
-    lines = ["tltrace 4 4 early,reports" + " C" * CACHES + " UH" * DEVICES] + [line(b) for b in world.log]
-    said = f"coherent {len(world.log)}" if verdict == "coherent" else f"line {len(lines)} {verdict}"
-    (folder / f"{name}.trace").write_text("\n".join(lines) + "\n")
+def write(folder, name, header, lines, verdict):
+    """Writes a trace, and beside it the verdict on its last line or on all of them."""
+    said = f"coherent {len(lines)}" if verdict == "coherent" else f"line {len(lines) + 1} {verdict}"
+    (folder / f"{name}.trace").write_text("\n".join([header] + lines) + "\n")
     (folder / f"{name}.verdict").write_text(said + "\n")
+
+
+def folder_of(name):
+    """The folder for traces, or None. Blocks have 16 beats then."""
+    global BEATS, SIZES
+    if not name:
+        return None
+    BEATS, SIZES = 16, [1, 2, 4, 8, 16]
+    folder = pathlib.Path(name)
+    folder.mkdir(parents=True, exist_ok=True)
+    return folder
 
 
 def tell(log):
@@ -636,18 +647,13 @@ def options():
     p.add_argument("--steps", type=int, default=600)
     p.add_argument("--without", default="")
     p.add_argument("--show", action="store_true")
+    p.add_argument("--traces")
     return p
 
 
 def main():
-    p = options()
-    p.add_argument("--traces")
-    a = p.parse_args()
-    folder = pathlib.Path(a.traces) if a.traces else None
-    if folder:
-        global BEATS, SIZES
-        BEATS, SIZES = 16, [1, 2, 4, 8, 16]
-        folder.mkdir(parents=True, exist_ok=True)
+    a = options().parse_args()
+    folder = folder_of(a.traces)
     out = set(filter(None, a.without.split(",")))
     for bug in [None] + ([] if out else BUGS):
         verdicts, lengths = collections.Counter(), 0
@@ -656,7 +662,8 @@ def main():
             v = w.run(a.steps)
             lengths += len(w.log)
             if folder:
-                write(folder, f"{(bug or 'right').replace(' ', '_')}_{seed}", w, v)
+                header = "tltrace 4 4 early,reports" + " C" * CACHES + " UH" * DEVICES
+                write(folder, f"{(bug or 'right').replace(' ', '_')}_{seed}", header, [line(b) for b in w.log], v)
             verdicts[v] += 1
             if v != "coherent" and bug is None and a.show:
                 tell(w.log)

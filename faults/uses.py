@@ -108,6 +108,20 @@ def of_liberties(right):
 AT_FAULT_EARLY = (("M1_early", 6), ("M2_early_grant", 7), ("M2_early_release", 8), ("M3_early", 7), ("M4_early", 6))
 RIGHT_EARLY = (("M1_early", 7), ("M2_early_grant", 8), ("M2_early_release", 9), ("M3_early", 6), ("M4_early", 5))
 WITHOUT_EARLY = (("M1_early", 4, "H8"), ("M2_early_grant", 6, "H8"), ("M2_early_release", 6, "H2"), ("M3_early", 5, "H2"), ("M4_early", 5, "H2"))
+# The traces with stores and loads: their lines after the header, and what `coherent` writes.
+COMMITS = (
+    ("L1_commit", 1, "line 2 L1"), ("L1_commit_right", 1, "coherent 1"), ("M5", 4, "line 5 M5"), ("M5_right", 4, "coherent 4"),
+    ("M5_load", 2, "line 3 M5"), ("M5_load_right", 3, "coherent 3"), ("M5_begun", 7, "line 8 M5"), ("M5_begun_right", 7, "coherent 7"),
+    ("M6", 5, "line 6 M6"), ("M6_right", 5, "coherent 5"), ("M6_unmarked_right", 5, "coherent 5"), ("M7", 5, "line 6 M7"),
+    ("M7_right", 5, "coherent 5"), ("M7_dropped", 8, "line 9 M7"), ("M7_dropped_right", 8, "coherent 8"), ("M7_asked_right", 9, "coherent 9"),
+    ("M7_coming", 17, "line 18 M7"), ("M7_coming_right", 24, "coherent 24"))
+COMMITS_UNREAD = "tltool: the header has a level C+, which only monitor and coherent read"
+# Lines of no commit, with their faults, and headers in which a mark isn't at its place.
+NO_COMMITS = (("00 S 0 00000000", "F1"), ("00 I 0 00000000 05", "F1"), ("00 L 0 00000000 05 0", "F1"), ("00 T 0 00000000 05", "F2"),
+    ("00 s 0 00000000 05", "F2"), ("00 S 4 00000000 05", "F3"), ("00 S 1 00000001 0505", "F3"), ("00 S 1 00000000 05", "F3"),
+    ("00 S 0 0000000 05", "F3"), ("00 L 3 00000000 00000000000000G5", "F3"), ("00 A 0 00000000 05", "F1"))
+NO_MARKS = ("tltrace 4 8 none UH+", "tltrace 4 8 none C++", "tltrace 4 8 none C +", "tltrace 4 8 none +C", "tltrace 2 8 C+", "tltrace 3 8 1 C+",
+    "tltrace 5 8 none C+", "tltrace 4 32 none C+", "tltrace 4 8 C+")
 # What each liberty allows: the last beat of a trace breaks the rule without it, and none with it.
 UNDER = of_liberties(True)
 # The nearest trace whose last beat breaks this rule with it too.
@@ -361,6 +375,35 @@ ROWS = [
     ("tltool monitor rules/M4.trace", 0, "clean 4\n", ""),
     ("tltool coherent rules/M4.trace", 1, "line 5 M4\n", ""),
     ("tltool coherent rules/M4_right.trace", 0, "coherent 7\n", ""),
+    *((f"tltool monitor rules/{name}.trace", 0, f"clean {lines}\n", "") for name, lines, _ in COMMITS),
+    *((f"tltool coherent rules/{name}.trace", "M" in end or "L" in end, f"{end}\n", "") for name, _, end in COMMITS),
+    # the mark is of its link alone
+    ("sed '1s/C+/C C+/' rules/M6.trace | tltool coherent", 0, "coherent 5\n", ""),
+    ("sed '1s/C+/C C+/; s/^00/01/' rules/M6.trace | tltool coherent", 1, "line 6 M6\n", ""),
+    ("sed '1s/C+/UL C+/' rules/M5.trace | tltool coherent", 1, "line 2 L1\n", ""),
+    # beats of other widths
+    ("sed '1s/ 8 / 4 /; s/ ff / f /' rules/M6.trace | tltool coherent", 1, "line 6 M6\n", ""),
+    ("sed '1s/ 8 / 16 /; s/ ff / ffff /' rules/M6.trace | tltool coherent", 1, "line 6 M6\n", ""),
+    # a copy that is dropped in silence: its bytes are lost too
+    ("sed '9s/.*/00 A 6 1 6 01 00000000 ffff - 0/' rules/M7_dropped.trace | tltool coherent", 1, "line 9 H5\n", ""),
+    ("sed '9s/.*/00 A 6 1 6 01 00000000 ffff - 0/' rules/M7_dropped.trace | tltool coherent --allow drops", 1, "line 9 M7\n", ""),
+    ("sed '1s/none/drops/; 9s/.*/00 A 6 1 6 01 00000000 ffff - 0/' rules/M7_dropped.trace | tltool coherent", 1, "line 9 M7\n", ""),
+    # lines of commits
+    *((f"sed '6s/.*/{line}/' rules/M6_right.trace | tltool {command}", 1, f"line 6 {fault}\n", "") for command in ("monitor", "coherent") for line, fault in NO_COMMITS),
+    ("(cat rules/M6_right.trace; printf '00 L 0') | tltool coherent", 1, "line 7 F1\n", ""),
+    ("sed '1s/C+/C/' rules/M6_right.trace | tltool coherent", 1, "line 5 F2\n", ""),
+    ("sed '1s/C+/C/' rules/M6_right.trace | tltool monitor", 1, "line 5 F2\n", ""),
+    # headers with the mark
+    *((f"sed '1s/.*/{header}/' rules/M6_right.trace | tltool {command}", 1, "line 1 F7\n", "") for command in ("monitor", "coherent") for header in NO_MARKS),
+    ("printf 'tltrace 4 8 none C+' | tltool coherent", 1, "line 1 F7\n", ""),
+    ("echo 'tltrace 4 8 none C+' | tltool coherent", 0, "coherent 0\n", ""),
+    ("echo 'tltrace 4 8 none C+' | tltool monitor", 0, "clean 0\n", ""),
+    ("tltool chart rules/M6.trace", 1, "..", f"{COMMITS_UNREAD}\n"),
+    ("tltool chart <rules/M6.trace", 1, "..", f"{COMMITS_UNREAD}\n"),
+    ("tltool explain rules/M6.trace", 1, "line 1 F7\n..", f"{COMMITS_UNREAD}\n"),
+    ("tltool explain --coherent rules/M6.trace", 1, "line 1 F7\n..", f"{COMMITS_UNREAD}\n"),
+    ("tltool cover rules/M6.trace", 1, "line 1 F7\n..", ""),
+    ("tltool coherent --all 2 rules/M6.trace", 1, "line 1 F7\n..", ""),
     ("sed 4q rules/M1.trace | tltool coherent", 0, "coherent 3\n", ""),
     ("(cat rules/M1.trace; echo x) | tltool coherent", 1, "line 5 M1\n", ""),
     ("sed '1s/.*/tltrace 1 C/' rules/M1.trace | tltool coherent", 1, "line 4 L1\n", ""),
@@ -379,7 +422,10 @@ ROWS = [
     ("tltool explain M2", 0, "M2 (GrantData): ..", ""),
     ("tltool explain M3", 0, "M3 (AccessAckData): ..", ""),
     ("tltool explain M4", 0, "M4 (AccessAck, AccessAckData): ..", ""),
-    ("tltool explain M5", 3, "", "tltool: cannot open M5\n"),
+    ("tltool explain M5", 0, "M5 (S, L): ..", ""),
+    ("tltool explain M6", 0, "M6 (L): ..", ""),
+    ("tltool explain M7", 0, "M7 (ProbeAck, ProbeAckData, Release, ReleaseData, Acquire): ..", ""),
+    ("tltool explain M8", 3, "", "tltool: cannot open M8\n"),
     ("tltool run schedules/nothing_happens.schedule", 0, "..", ""),
     ("tltool explain wrong_report.trace", 1, "line ..", ""),
     ("tltool explain H12", 0, "H12 (ProbeAck, ProbeAckData): ..", ""),

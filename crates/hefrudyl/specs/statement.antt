@@ -1,6 +1,8 @@
 pub mod Client
 pub mod ClientOpened
 pub mod Covering
+pub mod Events
+pub mod EventsOpened
 pub mod Handled
 pub mod Judged
 pub mod Manager

@@ -5,9 +5,11 @@
 mod client;
 mod cover;
 mod covered;
+mod event_judge;
 mod exports;
 mod handle;
 mod judge;
+mod judge_session;
 mod manager;
 mod monitor;
 mod opening;

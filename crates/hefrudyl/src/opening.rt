@@ -3,20 +3,25 @@
 ghost use Rattle.std.specs.Prelude.{◌≡◌, ◌≤◌, ◌++◌, drop, map, length, replicate, IfOk};
 ghost use Rattle.tl_beat.specs.statement.Width.{IsWidth};
 ghost use Rattle.hefrudyl.specs.statement.Opened.{may_open, may_open_under, new_answer, Makes, MakesUnder};
-ghost use Rattle.tl_pictures.specs.statement.Codes.{level_at};
+ghost use Rattle.tl_pictures.specs.statement.Codes.{level_at, flag_at};
 ghost use Rattle.hefrudyl.specs.statement.Covering.{MakesCovering};
 ghost use Rattle.hefrudyl.specs.statement.ClientOpened.{may_open_client, MakesClient};
 ghost use Rattle.hefrudyl.specs.statement.ManagerOpened.{may_open_manager, profile_code, MakesManager};
 ghost use Rattle.hefrudyl.specs.statement.TogetherOpened.{MakesJudge};
+ghost use Rattle.hefrudyl.specs.statement.EventsOpened.{may_open_events, MakesEvents};
 ghost use Rattle.hefrudyl.specs.statement.WideOpened.{may_open_wide};
 
+use crate::event_judge::EventJudge;
 use std::alloc::{AllocError, Global};
+use tl_commits::fault::CommitFault;
+use tl_commits::judge::CommitJudge;
 use tl_cover::covering::Covering;
 use tl_monitor::monitor::Monitor;
 use tl_partner::terms::Terms;
 use tl_pictures::answer::Answer;
 use tl_pictures::codes::{
-    are_levels, is_profile, is_wide_width, is_width, level_of, liberties_of, profile_of,
+    are_flags, are_levels, flag_of, is_profile, is_wide_width, is_width, level_of, liberties_of,
+    profile_of,
 };
 use tl_pictures::config::{LinkConfig, config_of, links_fit};
 use tl_ports::client::ClientPort;
@@ -116,6 +121,51 @@ pub fn make_judge<const W: usize>(
     match Judge::with_liberties(alloc, levels.as_slice(), liberties) {
         Ok(judge) => Ok(judge),
         Err(JudgeFault::Memory) => Err(Answer::NO_MEMORY),
+        Err(_) => Err(Answer::BAD),
+    }
+}
+
+/// Whether the arguments fit: 1 to 16 levels, 0 to 2 each, a flag of 0 or 1 for each, and a width of 4, 8 or 16.
+pub fn may_open_events(codes: &[u8], complete: &[u8], width: u8) -> bool
+    ensures { result ≡ may_open_events codes.now complete.now width }
+{
+    may_open_under(codes, width) && complete.len() == codes.len() && are_flags(complete)
+}
+
+fn flags_of(alloc: Global, codes: &[u8]) -> Result<Vec<bool>, AllocError>
+    ensures { IfOk result (λ flags. flags.items ≡ map flag_at codes.now) }
+{
+    let mut flags = Vec::new(alloc);
+    for code in codes {
+        flags.push(flag_of(*code))?;
+    }
+    Ok(flags)
+}
+
+/// A judge of beats and commits of all links with these liberties that has judged no event. `complete` says which links
+/// have all their stores in the trace.
+pub fn make_events<const W: usize>(
+    alloc: Global,
+    codes: &[u8],
+    complete: &[u8],
+    liberties: u8,
+) -> Result<EventJudge<W>, Answer>
+    requires width { IsWidth W }
+    ensures { MakesEvents codes.now complete.now liberties result }
+{
+    let Ok(levels) = levels_of(alloc, codes) else {
+        return Err(Answer::NO_MEMORY);
+    };
+    let Ok(flags) = flags_of(alloc, complete) else {
+        return Err(Answer::NO_MEMORY);
+    };
+    let liberties = liberties_of(liberties);
+    match CommitJudge::with_liberties(alloc, levels.as_slice(), flags.as_slice(), liberties) {
+        Ok(judge) => Ok(EventJudge {
+            judge,
+            closed: false,
+        }),
+        Err(CommitFault::Memory) => Err(Answer::NO_MEMORY),
         Err(_) => Err(Answer::BAD),
     }
 }

@@ -1,10 +1,8 @@
 //! The session in a handle. A call on a session of another kind is bad input.
 
 ghost use Rattle.std.specs.Prelude.{◌≡◌, true};
-ghost use Rattle.hefrudyl.specs.statement.Opened.{OpensTo, OpensUnder, may_open_under, ok_of, answer_in};
+ghost use Rattle.hefrudyl.specs.statement.Opened.{OpensTo, OpensUnder, ok_of, answer_in};
 ghost use Rattle.hefrudyl.specs.statement.Sessions.{PushSession, TrySession, LineSession, EntriesSession};
-ghost use Rattle.hefrudyl.specs.statement.Sessions.{JudgeOpens, JudgeOpensUnder, OpensJudge};
-ghost use Rattle.hefrudyl.specs.statement.Sessions.{JudgesSession, TriesSession, JudgesLineSession};
 ghost use Rattle.hefrudyl.specs.statement.Sessions.{ClientOpens, AsksSession, OffersSession, StallsSession};
 ghost use Rattle.hefrudyl.specs.statement.Sessions.{NextSession, PopSession, HeldSession, CopySession, ClosedSession};
 ghost use Rattle.hefrudyl.specs.statement.ManagerOpened.{may_open_manager};
@@ -14,27 +12,27 @@ ghost use Rattle.hefrudyl.specs.statement.Sessions.{PopAtSession, ClosedAtSessio
 
 use crate::client::AnyPort;
 use crate::cover::AnyCovering;
+use crate::event_judge::AnyEventJudge;
 use crate::judge::AnyJudge;
 use crate::manager::AnyManager;
 use crate::monitor::AnyMonitor;
 use crate::opening::{
-    make, make_client, make_judge, make_manager, make_under, may_open, may_open_client,
-    may_open_manager, may_open_under, probe_sources, profile_code,
+    make, make_client, make_manager, make_under, may_open, may_open_client, may_open_manager,
+    may_open_under, probe_sources, profile_code,
 };
 use crate::wide::AnyWide;
-use crate::{client, judge, manager, monitor};
+use crate::{client, manager, monitor};
 use std::alloc::Global;
 use tl_partner::terms::Terms;
 use tl_pictures::answer::Answer;
-use tl_pictures::codes::{liberties_of, profile_of};
+use tl_pictures::codes::liberties_of;
 use tl_pictures::config::LinkConfig;
 use tl_pictures::operation::Operation;
 use tl_pictures::outcome::{Outcome, Reception};
 use tl_pictures::picture::Picture;
-use tl_rules::liberties::Liberties;
 
 /// The contents of a handle: a monitor, a judge of all links, a covering, a client or manager with its beats to send,
-/// or a monitor or judge of wide beats.
+/// a monitor or judge of wide beats, or a judge of beats and commits.
 #[derive(Drop)]
 pub enum Session {
     Monitor(AnyMonitor),
@@ -44,9 +42,10 @@ pub enum Session {
     Manager(AnyManager),
     WideMonitor(AnyWide),
     WideJudge(AnyWide),
+    Events(AnyEventJudge),
 }
 
-/// The answer of the monitor, judge, client or manager in a session, of any width. A session of another kind is bad
+/// The answer of the monitor, client or manager in a session, of any width. A session of another kind is bad
 /// input.
 macro_rules! of_any {
     ($held:ident, $any:ident, $session:expr, $port:ident => $answer:expr) => {
@@ -123,76 +122,6 @@ impl Session {
         ensures { EntriesSession link entries.old entries.new result self.now }
     {
         of_any!(Monitor, AnyMonitor, self, held => monitor::entries(held, link, entries))
-    }
-
-    /// A new judge of all links of a manager with these liberties, of this width.
-    fn judge_of(
-        alloc: Global,
-        codes: &[u8],
-        width: u8,
-        liberties: Liberties,
-    ) -> Result<Session, Answer>
-        requires fits { may_open_under codes.now width ≡ true }
-        ensures told { OpensJudge codes.now width liberties true (ok_of result) (answer_in result) }
-    {
-        let judge = match width {
-            4 => AnyJudge::Four(make_judge(alloc, codes, liberties)?),
-            8 => AnyJudge::Eight(make_judge(alloc, codes, liberties)?),
-            16 => AnyJudge::Sixteen(make_judge(alloc, codes, liberties)?),
-            _ => return Err(Answer::BAD),
-        };
-        Ok(Session::Judge(judge))
-    }
-
-    /// A new judge of all links of a manager, of this width.
-    pub fn open_judge(
-        alloc: Global,
-        codes: &[u8],
-        width: u8,
-        profile: u8,
-    ) -> Result<Session, Answer>
-        ensures told { JudgeOpens codes.now width profile (ok_of result) (answer_in result) }
-    {
-        if !may_open(codes, width, profile) {
-            return Err(Answer::BAD);
-        }
-        Self::judge_of(alloc, codes, width, Liberties::of(profile_of(profile)))
-    }
-
-    /// A new judge of all links of a manager with these liberties, of this width.
-    pub fn open_judge_under(
-        alloc: Global,
-        codes: &[u8],
-        width: u8,
-        liberties: u8,
-    ) -> Result<Session, Answer>
-        ensures told { JudgeOpensUnder codes.now width liberties (ok_of result) (answer_in result) }
-    {
-        if !may_open_under(codes, width) {
-            return Err(Answer::BAD);
-        }
-        Self::judge_of(alloc, codes, width, liberties_of(liberties))
-    }
-
-    /// Judges a beat of a link with the session's judge. A beat that breaks a rule closes it.
-    pub fn judge(&mut self, link: u8, beat: &Picture) -> Answer
-        ensures { JudgesSession link beat.now result self.old self.new }
-    {
-        of_any!(Judge, AnyJudge, self, held => judge::push(held, link, beat))
-    }
-
-    /// Judges a beat of a link with the session's judge. A beat that breaks a rule doesn't close it.
-    pub fn try_judge(&mut self, link: u8, beat: &Picture) -> Answer
-        ensures { TriesSession link beat.now result self.old self.new }
-    {
-        of_any!(Judge, AnyJudge, self, held => judge::try_push(held, link, beat))
-    }
-
-    /// Judges the beat of a line of a trace with the session's judge.
-    pub fn judge_line(&mut self, line: &[u8]) -> Answer
-        ensures { JudgesLineSession line.now result self.old self.new }
-    {
-        of_any!(Judge, AnyJudge, self, held => judge::push_line(held, line))
     }
 
     /// A new client of this level, with this many blocks and sources, on a link of this width.

@@ -3,8 +3,8 @@ use Rattle.std.proofs.Common.{◌≡◌, ◌<◌, ◌^◌, true, false, refl, sy
 use Rattle.std.proofs.lemmas.Bool.{and_parts, le-leb, leb-true}
 use Rattle.std.specs.Prelude.{nat_le}
 use Rattle.tl_rules.specs.statement.Legality.{is_aligned}
-use Rattle.tl_commits.specs.declared.commit.Piece.{Piece}
-use Rattle.tl_commits.specs.statement.CommitLine.{IsPiece, is_piece}
+use Rattle.tl_events.specs.declared.commit.Piece.{Piece}
+use Rattle.tl_events.specs.statement.CommitLine.{IsPiece, is_piece}
 
 -- a piece passes the test of pieces, and one that passes it is a piece
 pub no-piece : {X : Type 0} (piece : Piece) → IsPiece piece → is_piece piece.size piece.address ≡ false → X

@@ -1,5 +1,5 @@
 -- The answers of a judge to beats.
-use Rattle.std.proofs.Common.{◌≡◌, ℕ, Bool, true, false, List, refl, ap, subst, ◌∙◌, length}
+use Rattle.std.proofs.Common.{◌≡◌, ◌&&◌, ◌||◌, not, ℕ, Bool, true, false, List, refl, ap, subst, ◌∙◌, length}
 use Rattle.std.specs.Prelude.{if◌then◌else◌, Option, Some, None, Err}
 use Rattle.tl_beat.specs.declared.beat.Beat.{Beat}
 use Rattle.tl_beat.specs.declared.beat.Link.{Link}
@@ -20,15 +20,20 @@ use Rattle.tl_commits.specs.code.Judging.{of_judge}
 use Rattle.tl_commits.specs.code.ValueTable.{KnowsTable}
 use Rattle.tl_commits.specs.declared.fault.CommitFault.{CommitFault}
 use Rattle.tl_commits.specs.declared.judge.CommitJudge.{CommitJudge}
-use Rattle.tl_commits.specs.declared.rule.CommitRule.{CommitRule}
-use Rattle.tl_commits.specs.declared.rule.CommitRule.TheVariants.{M7}
+use Rattle.tl_events.specs.declared.rule.CommitRule.{CommitRule}
+use Rattle.tl_events.specs.declared.rule.CommitRule.TheVariants.{M7}
 use Rattle.tl_commits.specs.statement.Breaches.{breach_of}
 use Rattle.tl_commits.specs.statement.Commits.{broken_report, gives_truly, keeps_stores, takes_trunk}
 use Rattle.tl_commits.specs.code.GivingBack.{carries}
 use Rattle.tl_beat.specs.declared.beat.BeatC.{BeatC}
+use Rattle.tl_beat.specs.declared.beat.BeatD.{BeatD}
+use Rattle.tl_beat.specs.declared.opcode.OpD.{OpD}
+use Rattle.tl_rules.specs.statement.Admission.{is_spoiled}
+use Rattle.tl_bytes.specs.statement.Bytes.{is_true}
+use Rattle.tl_commits.specs.statement.True.{is_true_seen}
 use Rattle.tl_commits.specs.statement.Copies.{link_beats}
 use Rattle.tl_commits.specs.statement.Events.{Events, beats_of}
-use Rattle.tl_commits.specs.statement.Knows.{Answers, JudgesBeatsButResponses, KnowsCommits}
+use Rattle.tl_commits.specs.statement.Knows.{Answers, JudgesBeatsWithoutBytes, KnowsCommits, brings_bytes}
 
 -- M7 of a beat that has no data on channel C
 pub report-bare : {w : ℕ} (complete : List Bool) (n link : ℕ) (x : Beat w) (e : Events w) → carries x ≡ false
@@ -107,12 +112,30 @@ refused-beat (Some breach) rule (Some other) f is same = is
 
 -- ---- all rules
 
-pub no-responses : (w : ℕ) → JudgesBeatsButResponses w
-no-responses w levels complete l link (Beat.A x) e other = refl
-no-responses w levels complete l link (Beat.B x) e other = refl
-no-responses w levels complete l link (Beat.C x) e other = refl
-no-responses w levels complete l link (Beat.D x) e other = absurd cc
-no-responses w levels complete l link (Beat.E x) e other = refl
+-- spoiled bytes
+both : (spoiled a b : Bool) → not spoiled ≡ false → ((spoiled || a) ≡ true) × ((spoiled || b) ≡ true)
+both true a b none = (refl, refl)
+both false a b none = absurd cc
+
+-- a response without bytes that are judged
+true-both : {w : ℕ} (complete : List Bool) (opcode : OpD) (n link : ℕ) (x : BeatD w) (e : Events w)
+    → (brings_bytes opcode && not (is_spoiled (Beat.D x))) ≡ false
+    → (is_true opcode n link x (beats_of e) ≡ true) × (is_true_seen complete opcode n link x e ≡ true)
+true-both complete OpD.GrantData n link x e none = both (is_spoiled (Beat.D x)) _ _ none
+true-both complete OpD.AccessAckData n link x e none = both (is_spoiled (Beat.D x)) _ _ none
+true-both complete OpD.AccessAck n link x e none = (refl, refl)
+true-both complete OpD.HintAck n link x e none = (refl, refl)
+true-both complete OpD.Grant n link x e none = (refl, refl)
+true-both complete OpD.ReleaseAck n link x e none = (refl, refl)
+
+pub no-bytes : (w : ℕ) → JudgesBeatsWithoutBytes w
+no-bytes w levels complete l link (Beat.A x) e none = refl
+no-bytes w levels complete l link (Beat.B x) e none = refl
+no-bytes w levels complete l link (Beat.C x) e none = refl
+no-bytes w levels complete l link (Beat.D x) e none =
+    let both = true-both complete x.opcode (length levels) link.0 x e none in
+    rw (both.0, both.1) refl
+no-bytes w levels complete l link (Beat.E x) e none = refl
 
 pub none-broken : (o : Option Breach) → o ≡ None → broken o ≡ None
 none-broken None e = refl

@@ -9,10 +9,10 @@ use Rattle.tl_params.specs.declared.liberties.Liberties.{Liberties}
 use Rattle.tl_rules.specs.statement.Conformance.{Trace}
 use Rattle.tl_together.specs.declared.breach.Breach.{Breach}
 use Rattle.tl_together.specs.statement.Coherence.{breach_from, breach_or, broken_memory, broken_together}
-use Rattle.tl_commits.specs.declared.commit.Event.TheVariants as event
+use Rattle.tl_events.specs.declared.commit.Event.TheVariants as event
 use Rattle.tl_commits.specs.declared.rule.CommitBreach.{CommitBreach}
 use Rattle.tl_commits.specs.declared.rule.CommitBreach.TheVariants.{OfBeats}
-use Rattle.tl_commits.specs.declared.rule.CommitRule.{CommitRule}
+use Rattle.tl_events.specs.declared.rule.CommitRule.{CommitRule}
 use Rattle.tl_commits.specs.statement.Alone.{JudgesAlone, JudgesBeats, alone, as_commits, of_beats}
 use Rattle.tl_commits.specs.statement.Breaches.{breach_of, broken_event, broken_memory_seen, commit_breach_from}
 use Rattle.tl_commits.specs.statement.Breaches.{commit_breach_or}

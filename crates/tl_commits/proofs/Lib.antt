@@ -1,6 +1,3 @@
-pub mod CommitFaults
-pub mod CommitLines
-pub mod CommitSpelled
 pub mod Pieces
 pub mod AnyTold
 pub mod LoadedBytes
@@ -16,6 +13,7 @@ pub mod BeatsAlone
 pub mod JudgedAlone
 pub mod Filling
 pub mod Giving
+pub mod ByteSets
 pub mod AtOnce
 pub mod Loads
 pub mod LoadsNext

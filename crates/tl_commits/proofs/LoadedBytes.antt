@@ -4,10 +4,12 @@ use Rattle.std.proofs.Common.{◌∙◌, arith}
 use Rattle.std.specs.Prelude.{if◌then◌else◌, nat_lt, Option, Some, None, is_some}
 use Rattle.tl_beat.specs.declared.channel.Channel.TheVariants as channel
 use Rattle.tl_burst.specs.statement.Messages.{History, unfinished}
-use Rattle.tl_bytes.specs.statement.Bytes.{carried_byte, could_be}
+use Rattle.tl_rules.specs.statement.History.{block_at}
+use Rattle.tl_bytes.specs.statement.Bytes.{carried_byte, could_be, told_as}
 use Rattle.tl_commits.specs.statement.Commits.{brings, may_bring, may_have}
-use Rattle.tl_commits.specs.statement.Copies.{brought, is_filling, link_beats}
+use Rattle.tl_commits.specs.statement.Copies.{brought, holds, is_filling, is_known, link_beats}
 use Rattle.tl_commits.specs.statement.Events.{Events}
+use Rattle.tl_commits.specs.statement.Seen.{values_seen}
 
 pub same-address : (address : ℕ) → 64 * (address / 64) + address % 64 ≡ address
 same-address address = omega arith
@@ -27,14 +29,28 @@ not-brought None e = refl
 not-brought (Some v) e = absurd cc
 
 module _ {w : ℕ} (complete : List Bool) (n link address v : ℕ) (e : Events w) where
-  pub brings-brought : (value : Option ℕ) (b : Bool) → is_some (brought address (link_beats link e)) ≡ true
-      → value ≡ carried_byte (unfinished channel.D (link_beats link e)) (address % 64) → b ≡ could_be v value
-      → b ≡ may_bring complete n link address v e
-  brings-brought value b on value_is is =
-      is ∙ ap (could_be v) value_is
+  -- what the copy may have: nothing if there is none, any byte if it isn't known
+  pub have-none : holds (block_at address) (link_beats link e) ≡ false → may_have complete n link address v e ≡ false
+  have-none off = rw off refl
+
+  pub have-unknown : holds (block_at address) (link_beats link e) ≡ true
+      → is_known complete link (block_at address) (link_beats link e) ≡ false
+      → true ≡ may_have complete n link address v e
+  have-unknown on unknown = rw (on, unknown) refl
+
+  pub have-known : holds (block_at address) (link_beats link e) ≡ true
+      → is_known complete link (block_at address) (link_beats link e) ≡ true
+      → told_as v (values_seen complete n address e) ≡ may_have complete n link address v e
+  have-known on known = rw (on, known) refl
+
+  pub brings-brought : (value : Option ℕ) → is_some (brought address (link_beats link e)) ≡ true
+      → value ≡ carried_byte (unfinished channel.D (link_beats link e)) (address % 64)
+      → could_be v value ≡ may_bring complete n link address v e
+  brings-brought value on value_is =
+      ap (could_be v) value_is
       ∙ ap (λ o. brings o complete n link address v e) (sym (brought-is address (link_beats link e) on))
 
-  pub brings-held : (b : Bool) → is_some (brought address (link_beats link e)) ≡ false
-      → b ≡ may_have complete n link address v e → b ≡ may_bring complete n link address v e
-  brings-held b off is =
-      is ∙ ap (λ o. brings o complete n link address v e) (sym (not-brought (brought address (link_beats link e)) off))
+  pub brings-held : is_some (brought address (link_beats link e)) ≡ false
+      → may_have complete n link address v e ≡ may_bring complete n link address v e
+  brings-held off =
+      ap (λ o. brings o complete n link address v e) (sym (not-brought (brought address (link_beats link e)) off))

@@ -1,20 +1,23 @@
 -- The loads that have begun, after one more event.
-use Rattle.std.proofs.Common.{◌≡◌, ◌<◌, ℕ, Bool, true, false, not, ◌&&◌, List, [], ◌∷◌, ◌++◌, length, refl, sym, ap, ◌∙◌}
-use Rattle.std.proofs.Common.{map, filter, find}
+use Rattle.std.proofs.Common.{◌≡◌, ◌<◌, ◌+◌, ◌^◌, ℕ, Bool, true, false, not, ◌&&◌, ◌||◌, List, [], ◌∷◌, ◌++◌, length}
+use Rattle.std.proofs.Common.{refl, sym, ap, ◌∙◌, filter, find, inl, inr, arith}
 use Rattle.std.proofs.lemmas.Bool.{and_parts, eq-eqb, eqb-true, cases_Bool}
-use Rattle.std.proofs.Common.{inl, inr}
-use Rattle.std.specs.Prelude.{if◌then◌else◌, ◌==◌, Option, Some, None, option_map, ⊤}
+use Rattle.std.specs.List.{AllZip}
+use Rattle.std.specs.Prelude.{if◌then◌else◌, ◌==◌, Option, Some, None, ⊤}
 use Rattle.tl_beat.specs.declared.beat.Link.{Link}
 use Rattle.tl_params.specs.declared.level.Level.{Level}
 use Rattle.tl_params.specs.declared.liberties.Liberties.{Liberties}
 use Rattle.tl_together.specs.declared.judge.Judge.{Judge}
 use Rattle.tl_together.specs.statement.Knows.{Knows}
-use Rattle.tl_commits.specs.code.Loading.{ArePieces, AreRenewed, IsLoading, is_of}
-use Rattle.tl_commits.specs.code.Loading.{renewed}
-use Rattle.tl_commits.specs.declared.commit.Event.{Event}
-use Rattle.tl_commits.specs.declared.commit.Piece.{Piece}
+use Rattle.tl_commits.specs.code.Loading.{ArePieces, AreRenewed, IsFresh, IsLoading, IsNewer, is_of}
+use Rattle.tl_commits.specs.code.ValueTable.{KnowsTable}
+use Rattle.tl_commits.specs.declared.block_values.BlockValues.{BlockValues}
+use Rattle.tl_events.specs.declared.commit.Event.{Event}
+use Rattle.tl_events.specs.declared.commit.Piece.{Piece}
 use Rattle.tl_commits.specs.declared.loading.Loading.{Loading}
-use Rattle.tl_commits.specs.statement.CommitLine.{IsPiece}
+use Rattle.tl_events.specs.statement.CommitLine.{IsPiece}
+use Rattle.tl_commits.specs.statement.Commits.{may_bring}
+use Rattle.tl_commits.proofs.Pieces.{most-bytes}
 use Rattle.tl_commits.specs.statement.Events.{Events, beats_of, begins_load, is_load, is_loading, same_piece, since_begun}
 
 -- ---- keys
@@ -58,63 +61,121 @@ found-key link piece (x ∷ loads) = go (is_of link piece x) (found-key link pie
 
 -- ---- one load, after one more event
 
-module _ {w : ℕ} (link : ℕ) (piece : Piece) (x : Link × Event w) (e : Events w) where
+pub or-comm : (a b : Bool) → (a || b) ≡ (b || a)
+or-comm true true = refl
+or-comm true false = refl
+or-comm false true = refl
+or-comm false false = refl
+
+-- the loads are related, if there is one
+abbrev pub AreBoth : (Loading → Loading → Type 0) → Option Loading → Option Loading → Type 0
+AreBoth R None None = ⊤
+AreBoth R (Some y) (Some z) = R y z
+AreBoth R None (Some z) = ⊥
+AreBoth R (Some y) None = ⊥
+
+module _ {w : ℕ} (complete : List Bool) (n link : ℕ) (piece : Piece) (x : Link × Event w) (e : Events w) where
+  abbrev test : ℕ → ℕ → Events w → Bool
+  test i v = may_bring complete n link (piece.address + i) v
+
   -- an event that neither begins nor ends the load
-  pub goes-on : (o : Option Loading) → HasKeyIfAny o link piece → IsLoading o link piece e
-      → begins_load link piece x ≡ false → is_load link piece x ≡ false
-      → IsLoading (option_map (renewed (x ∷ e)) o) link piece (x ∷ e)
+  pub goes-on : (o p : Option Loading) → AreBoth (IsNewer complete n (x ∷ e)) o p → HasKeyIfAny o link piece
+      → IsLoading o complete n link piece e → begins_load link piece x ≡ false → is_load link piece x ≡ false
+      → IsLoading p complete n link piece (x ∷ e)
   unfolding is_loading since_begun
-  goes-on None key is no_begin no_end = rw (no_begin, no_end, is) refl
-  goes-on (Some y) key is no_begin no_end = (
+  goes-on None None newer key is no_begin no_end = rw (no_begin, no_end, is) refl
+  goes-on (Some y) (Some z) newer key is no_begin no_end = (
     rw (no_begin, no_end, is.0) refl,
-    rw (no_begin, key.link_is, key.piece_is, is.1) refl,
+    record {
+      loadable_is = newer.loadable_is ∙ rw (no_begin, key.link_is, key.piece_is, is.1.loadable_is) refl;
+      values_are = λ i v few small.
+          let few_own : i < 2 ^ y.piece.size = rw key.piece_is few in
+          newer.values_are i v few_own small ∙ rw (no_begin, key.link_is, key.piece_is, is.1.values_are i v few small)
+          (or-comm (since_begun (test i v) link piece e) (test i v (x ∷ e)));
+    },
   )
+  goes-on None (Some z) newer key is no_begin no_end = absurd newer
+  goes-on (Some y) None newer key is no_begin no_end = absurd newer
 
   -- the event begins it
-  pub has-begun : (y : Loading) → HasKey y link piece → y.loadable ≡ false → begins_load link piece x ≡ true
-      → IsLoading (Some (renewed (x ∷ e) y)) link piece (x ∷ e)
+  pub has-begun : (from : Link) (y z : Loading) → IsFresh y from piece → from.0 ≡ link → IsPiece piece
+      → IsNewer complete n (x ∷ e) y z → begins_load link piece x ≡ true
+      → IsLoading (Some z) complete n link piece (x ∷ e)
   unfolding is_loading since_begun
-  has-begun y key none begins = (rw begins refl, rw (begins, key.link_is, key.piece_is, none) refl)
+  has-begun from y z fresh own is newer begins =
+      let link_is : y.link.0 ≡ link = ap (λ (l : Link). l.0) fresh.link_is ∙ own in (
+        rw begins refl,
+        record {
+          loadable_is = newer.loadable_is ∙ rw (begins, link_is, fresh.piece_is, fresh.loadable_is) refl;
+          values_are = λ i v few small.
+              let few_own : i < 2 ^ y.piece.size = rw fresh.piece_is few in
+              let within : i < 8 = omega (arith, few, most-bytes piece.size is.small) in
+              newer.values_are i v few_own small ∙ rw (begins, link_is, fresh.piece_is, fresh.values_are i v within small)
+              (or-comm false (test i v (x ∷ e)));
+        },
+      )
 
   -- the event ends it
-  pub has-ended : begins_load link piece x ≡ false → is_load link piece x ≡ true → IsLoading None link piece (x ∷ e)
+  pub has-ended : begins_load link piece x ≡ false → is_load link piece x ≡ true
+      → IsLoading None complete n link piece (x ∷ e)
   unfolding is_loading
   has-ended no_begin ends = rw (no_begin, ends) refl
 
 -- ---- all loads
 
--- what is found among changed loads that keep their keys
-pub found-map : (change : Loading → Loading) (link : ℕ) (piece : Piece) → ((x : Loading) → is_of link piece (change x) ≡ is_of link piece x)
-    → (loads : List Loading)
-    → find (is_of link piece) (map change loads) ≡ option_map change (find (is_of link piece) loads)
-found-map change link piece same [] = refl
-found-map change link piece same (x ∷ loads) =
-    rw (same x) (go (is_of link piece x) (found-map change link piece same loads))
+-- what is found among loads that are related, and have the same keys
+pub found-zip : (R : Loading → Loading → Type 0) (link : ℕ) (piece : Piece)
+    → ((y z : Loading) → R y z → is_of link piece z ≡ is_of link piece y) → (old new : List Loading) → AllZip R old new
+    → AreBoth R (find (is_of link piece) old) (find (is_of link piece) new)
+found-zip R link piece same [] [] are = tt
+found-zip R link piece same (y ∷ old) (z ∷ new) are =
+    rw (same y z are.0) (go (is_of link piece y) (found-zip R link piece same old new are.1))
   where
-    go : (b : Bool) {found : Option Loading} → found ≡ option_map change (find (is_of link piece) loads)
-        → (if b then Some (change x) else found) ≡ option_map change (if b then Some x else find (is_of link piece) loads)
-    go true e = refl
-    go false e = e
+    go : (b : Bool) → AreBoth R (find (is_of link piece) old) (find (is_of link piece) new)
+        → AreBoth R (if b then Some y else find (is_of link piece) old) (if b then Some z else find (is_of link piece) new)
+    go true rest = are.0
+    go false rest = rest
+found-zip R link piece same [] (z ∷ new) are = absurd are
+found-zip R link piece same (y ∷ old) [] are = absurd are
+
+-- a load keeps its key
+pub newer-key : {w : ℕ} (complete : List Bool) (n : ℕ) (e : Events w) (link : ℕ) (piece : Piece) (y z : Loading)
+    → IsNewer complete n e y z → is_of link piece z ≡ is_of link piece y
+newer-key complete n e link piece y z newer = rw (newer.link_is, newer.piece_is) refl
+
+pub newer-found : {w : ℕ} (complete : List Bool) (n : ℕ) (e : Events w) (link : ℕ) (piece : Piece)
+    (old new : List Loading) → AllZip (IsNewer complete n e) old new
+    → AreBoth (IsNewer complete n e) (find (is_of link piece) old) (find (is_of link piece) new)
+newer-found complete n e link piece =
+    found-zip (IsNewer complete n e) link piece (newer-key complete n e link piece)
 
 -- each load is renewed
-pub all-renewed : {w : ℕ} (judge : Judge w) (levels : List Level) (l : Liberties) (e : Events w) (old new : List Loading)
-    → AreRenewed judge old new → Knows judge levels l (beats_of e) false → ArePieces (length levels) old
-    → new ≡ map (renewed e) old
-all-renewed judge levels l e [] [] are k pieces = refl
-all-renewed judge levels l e (x ∷ old) (y ∷ new) are k pieces =
-    rw (are.0 levels l e k pieces.0.0 pieces.0.1, all-renewed judge levels l e old new are.1 k pieces.1) refl
-all-renewed judge levels l e [] (y ∷ new) are k pieces = absurd are
-all-renewed judge levels l e (x ∷ old) [] are k pieces = absurd are
+pub all-renewed : {w : ℕ} (judge : Judge w) (table : List (ℕ × BlockValues)) (complete : List Bool) (levels : List Level)
+    (l : Liberties) (e : Events w) (old new : List Loading)
+    → AreRenewed judge table complete old new → Knows judge levels l (beats_of e) false
+    → KnowsTable table complete (length levels) e → ArePieces (length levels) old
+    → AllZip (IsNewer complete (length levels) e) old new
+all-renewed judge table complete levels l e [] [] are k t pieces = tt
+all-renewed judge table complete levels l e (x ∷ old) (y ∷ new) are k t pieces = (
+  are.0 levels l e k t pieces.0.0 pieces.0.1,
+  all-renewed judge table complete levels l e old new are.1 k t pieces.1,
+)
+all-renewed judge table complete levels l e [] (y ∷ new) are k t pieces = absurd are
+all-renewed judge table complete levels l e (x ∷ old) [] are k t pieces = absurd are
 
 -- they stay loads of pieces
-pub pieces-map : (n : ℕ) (change : Loading → Loading) → ((x : Loading) → (change x).link ≡ x.link)
-    → ((x : Loading) → (change x).piece ≡ x.piece) → (loads : List Loading) → ArePieces n loads
-    → ArePieces n (map change loads)
-pieces-map n change links pieces [] are = tt
-pieces-map n change links pieces (x ∷ loads) are = (
-  (rw (links x) are.0.0, rw (pieces x) are.0.1),
-  pieces-map n change links pieces loads are.1,
-)
+pub pieces-zip : (n : ℕ) (R : Loading → Loading → Type 0)
+    → ((y z : Loading) → R y z → (y.link.0 < n) × IsPiece y.piece → (z.link.0 < n) × IsPiece z.piece)
+    → (old new : List Loading) → AllZip R old new → ArePieces n old → ArePieces n new
+pieces-zip n R stays [] [] are is = tt
+pieces-zip n R stays (y ∷ old) (z ∷ new) are is = (stays y z are.0 is.0, pieces-zip n R stays old new are.1 is.1)
+pieces-zip n R stays [] (z ∷ new) are is = absurd are
+pieces-zip n R stays (y ∷ old) [] are is = absurd are
+
+pub pieces-newer : {w : ℕ} (complete : List Bool) (n : ℕ) (e : Events w) (old new : List Loading)
+    → AllZip (IsNewer complete n e) old new → ArePieces n old → ArePieces n new
+pieces-newer complete n e = pieces-zip n (IsNewer complete n e)
+    (λ y z newer is. (rw newer.link_is is.0, rw newer.piece_is is.1))
 
 pub pieces-filter : (n : ℕ) (keep : Loading → Bool) (loads : List Loading) → ArePieces n loads
     → ArePieces n (filter keep loads)

@@ -12,11 +12,11 @@ use Rattle.tl_commits.specs.code.BlockValues.{IsLoaded, IsPieceWrite, IsStored, 
 use Rattle.tl_commits.specs.code.Tellings.{is_in}
 use Rattle.tl_commits.specs.code.ValueTable.{IsNext, KnowsKept, KnowsTable, values_in}
 use Rattle.tl_commits.specs.declared.block_values.BlockValues.{BlockValues}
-use Rattle.tl_commits.specs.declared.commit.Commit.TheVariants as commit
-use Rattle.tl_commits.specs.declared.commit.Event.TheVariants as event
-use Rattle.tl_commits.specs.declared.commit.Event.{Event}
-use Rattle.tl_commits.specs.declared.commit.Piece.{Piece}
-use Rattle.tl_commits.specs.statement.CommitLine.{IsPiece}
+use Rattle.tl_events.specs.declared.commit.Commit.TheVariants as commit
+use Rattle.tl_events.specs.declared.commit.Event.TheVariants as event
+use Rattle.tl_events.specs.declared.commit.Event.{Event}
+use Rattle.tl_events.specs.declared.commit.Piece.{Piece}
+use Rattle.tl_events.specs.statement.CommitLine.{IsPiece}
 use Rattle.tl_commits.specs.statement.Copies.{brought, is_known, link_beats}
 use Rattle.tl_commits.specs.statement.Events.{Events, is_loading}
 unfoldable use Rattle.tl_commits.specs.statement.Events.{beats_of}

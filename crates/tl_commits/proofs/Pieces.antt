@@ -3,14 +3,7 @@ use Rattle.std.proofs.Common.{◌≡◌, ◌≤◌, ◌<◌, ◌+◌, ◌%◌, �
 use Rattle.std.proofs.Math.Numerals.{add-one}
 use Rattle.tl_rules.specs.statement.Legality.{each_below}
 
--- the number of bytes of a small piece
-pub few-bytes : (size : ℕ) → size < 3 → 2 ^ size ≤ 4
-few-bytes zero lt = omega arith
-few-bytes (suc zero) lt = omega arith
-few-bytes (suc (suc zero)) lt = omega arith
-few-bytes (suc (suc (suc n))) lt = absurd (omega arith)
-
--- and of any piece
+-- the number of bytes of a piece
 pub most-bytes : (size : ℕ) → size ≤ 3 → 2 ^ size ≤ 8
 most-bytes zero le = omega arith
 most-bytes (suc zero) le = omega arith
@@ -38,8 +31,9 @@ unfolding each_below
 below-none test = refl
 
 -- two tests that say the same of each byte of a piece
-pub each-below-same : (n : ℕ) (test other : ℕ → Bool) → ((i : ℕ) → test i ≡ other i)
+pub each-below-same : (n : ℕ) (test other : ℕ → Bool) → ((i : ℕ) → i < n → test i ≡ other i)
     → each_below n test ≡ each_below n other
 unfolding each_below
 each-below-same zero test other same = refl
-each-below-same (suc n) test other same = ap₂ (λ (a b : Bool). a && b) (same n) (each-below-same n test other same)
+each-below-same (suc n) test other same =
+    ap₂ (λ (a b : Bool). a && b) (same n (omega arith)) (each-below-same n test other (λ i lt. same i (omega (arith, lt))))

@@ -15,7 +15,7 @@ use Rattle.tl_memory.specs.statement.ByteChanges.{after_values, grants_unread, I
 use Rattle.tl_commits.specs.code.BlockValues.{changed, KnowsValues, memory_told}
 use Rattle.tl_commits.specs.code.Tellings.{is_in}
 use Rattle.tl_commits.specs.declared.block_values.BlockValues.{BlockValues}
-use Rattle.tl_commits.specs.declared.commit.Event.TheVariants as event
+use Rattle.tl_events.specs.declared.commit.Event.TheVariants as event
 use Rattle.tl_commits.specs.statement.Copies.{link_beats}
 use Rattle.tl_commits.specs.statement.Events.{Events}
 unfoldable use Rattle.tl_commits.specs.statement.Events.{beats_of}

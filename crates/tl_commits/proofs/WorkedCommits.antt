@@ -20,7 +20,7 @@ use Rattle.tl_rules.specs.statement.Liberties.{broken_after_under, broken_order_
 use Rattle.tl_together.specs.declared.breach.Breach.TheVariants.{OfLink, OfMemory}
 use Rattle.tl_together.specs.statement.Coherence.{is_grantable}
 use Rattle.tl_commits.specs.declared.rule.CommitBreach.TheVariants.{OfBeats, OfCommits}
-use Rattle.tl_commits.specs.declared.rule.CommitRule.TheVariants.{M5, M6, M7}
+use Rattle.tl_events.specs.declared.rule.CommitRule.TheVariants.{M5, M6, M7}
 use Rattle.tl_commits.specs.statement.Breaches.{commit_breach_from, first_commit_breach}
 use Rattle.tl_commits.specs.statement.Events.{beats_of, is_loading, since_begun}
 use Rattle.tl_commits.specs.statement.Seen.{memory_may, seen}

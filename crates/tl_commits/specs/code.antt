@@ -1,6 +1,5 @@
 pub mod BlockValues
-pub mod CommitReading
-pub mod FromLeft
+pub mod ByteSet
 pub mod Giving
 pub mod GivingBack
 pub mod GivingUp

@@ -1,6 +1,5 @@
 pub mod Alone
 pub mod Breaches
-pub mod CommitLine
 pub mod Commits
 pub mod Copies
 pub mod Events

@@ -7,7 +7,7 @@ ghost use Rattle.tl_bytes.specs.code.Tellings.{with_write};
 ghost use Rattle.tl_bytes.specs.statement.Known.{tellings_at};
 ghost use Rattle.tl_commits.specs.code.BlockValues as code;
 ghost use Rattle.tl_commits.specs.code.BlockValues.{AreFirst, KnowsValues};
-ghost use Rattle.tl_commits.specs.declared.commit.Event.TheVariants as event;
+ghost use Rattle.tl_events.specs.declared.commit.Event.TheVariants as event;
 ghost use Rattle.tl_commits.specs.statement.Commits;
 ghost use Rattle.tl_commits.specs.statement.Copies.{link_beats};
 ghost use Rattle.tl_commits.specs.statement.Events.{Events, beats_of};

@@ -1,6 +1,6 @@
 //! Whether a cache's copy of a block is coming or leaving, by the unfinished messages of its link.
 
-ghost use Rattle.std.specs.Prelude.{ℕ, ◌≡◌, ◌%◌, ◌/◌, is_some};
+ghost use Rattle.std.specs.Prelude.{ℕ, ◌≡◌, ◌<◌, ◌+◌, ◌*◌, is_some};
 ghost use Rattle.tl_beat.specs.declared.channel.Channel.TheVariants as channel;
 ghost use Rattle.tl_beat.specs.statement.Width.{IsWidth};
 ghost use Rattle.tl_burst.specs.statement.Messages.{History, unfinished};
@@ -9,10 +9,21 @@ ghost use Rattle.tl_monitor.specs.statement.Reporting.{report_of};
 ghost use Rattle.tl_commits.specs.code.Giving.{is_given};
 ghost use Rattle.tl_commits.specs.statement.Copies;
 
+use tl_beat::beat::Link;
 use tl_beat::control::ControlC;
 use tl_memory::link::LinkMessages;
 use tl_rules::key::block_at;
 use tl_rules::kind::is_release;
+
+/// Whether all stores of a link are in the trace.
+pub(crate) fn is_complete(complete: &Vec<bool>, link: Link) -> bool
+    ensures { result ≡ Copies.is_complete complete.now.items link.0 }
+{
+    match complete.get(usize::from(link.0)) {
+        Some(complete) => *complete,
+        None => false,
+    }
+}
 
 /// Whether the unfinished Grant, if there is one, is of this block.
 pub(crate) fn is_filling(messages: &LinkMessages, block: u32) -> bool
@@ -24,12 +35,18 @@ pub(crate) fn is_filling(messages: &LinkMessages, block: u32) -> bool
     }
 }
 
-/// The beat of a block that has the byte at an address, if beats have `W` bytes.
-fn beat_of<const W: usize>(address: u32) -> usize
+/// Whether the unfinished Grant has brought the byte at a place of a block.
+pub(crate) fn has_brought_at<const W: usize>(
+    messages: &LinkMessages,
+    block: u32,
+    place: usize,
+) -> bool
     requires { IsWidth W }
-    ensures { result ≡ address % 64 / W }
+    ensures { (t : History W) → KnowsMessages messages.now t → place < 64 →
+        result ≡ is_some (Copies.brought (64 * block + place) t) }
 {
-    (address % 64) as usize / W
+    let beats = messages.d.bytes.count();
+    is_filling(messages, block) && place / W < beats
 }
 
 /// Whether the unfinished Grant has brought the byte at an address.
@@ -38,8 +55,7 @@ pub(crate) fn has_brought<const W: usize>(messages: &LinkMessages, address: u32)
     ensures { (t : History W) → KnowsMessages messages.now t →
         result ≡ is_some (Copies.brought address t) }
 {
-    let beats = messages.d.bytes.count();
-    is_filling(messages, block_at(address)) && beat_of::<W>(address) < beats
+    has_brought_at::<W>(messages, block_at(address), (address % 64) as usize)
 }
 
 /// Whether a message with these control fields is a report of this block that has no answer yet. `released` says

@@ -4,18 +4,21 @@ ghost use Rattle.std.specs.Prelude.{ℕ, false, Bool, List, ◌+◌, ◌*◌, �
 ghost use Rattle.tl_beat.specs.declared.beat.Beat.TheVariants as beat;
 ghost use Rattle.tl_beat.specs.statement.Width.{IsWidth};
 ghost use Rattle.tl_bytes.specs.statement.Bytes.{each_from};
-ghost use Rattle.tl_memory.specs.statement.Links.{KeepsRules};
+ghost use Rattle.tl_memory.specs.statement.Links.{KeepsRules, KnowsMessages};
 ghost use Rattle.tl_params.specs.declared.level.Level.{Level};
 ghost use Rattle.tl_params.specs.declared.liberties.Liberties.{Liberties};
 ghost use Rattle.tl_together.specs.statement.Knows.{Knows};
-ghost use Rattle.tl_commits.specs.code.GivingBack.{IsCarrier, is_seen};
+ghost use Rattle.tl_commits.specs.code.GivingBack.{IsCarrier};
 ghost use Rattle.tl_commits.specs.code.ValueTable.{KnowsTable};
 ghost use Rattle.tl_commits.specs.statement.Commits;
-ghost use Rattle.tl_commits.specs.statement.Copies.{is_complete};
+ghost use Rattle.tl_commits.specs.statement.Copies.{is_complete, link_beats};
 ghost use Rattle.tl_commits.specs.statement.Events.{Events, beats_of};
 
+use crate::copies::has_brought_at;
 use crate::value_table::ValueTable;
 use tl_beat::beat::{Beat, BeatC, Link};
+use tl_bytes::telling::could_be;
+use tl_memory::link::LinkMessages;
 use tl_memory::message::either;
 use tl_rules::admission::is_spoiled;
 use tl_rules::key::block_at;
@@ -31,13 +34,41 @@ pub(crate) fn carrier<const W: usize>(beat: &Beat<W>) -> Option<&BeatC<W>>
     }
 }
 
-/// Whether each of these bytes is one that its block may have, from a place on.
-fn are_seen<const W: usize>(table: &ValueTable, block: u32, first: usize, lanes: &[u8; W]) -> bool
-    ensures { (complete : List Bool) (n : ℕ) (e : Events W) → KnowsTable table.now complete n e → first + W ≤ 64 →
-        result ≡ each_from (is_seen complete n e) (64 * block + first) lanes.now }
+/// Whether a report may give back this byte of a block: the one that a Grant under way has brought, or a possible one.
+fn may_give<const W: usize>(
+    messages: &LinkMessages,
+    table: &ValueTable,
+    block: u32,
+    place: usize,
+    byte: u8,
+) -> bool
+    requires { IsWidth W }
+    ensures { (complete : List Bool) (n link : ℕ) (e : Events W) → KnowsTable table.now complete n e →
+        KnowsMessages messages.now (link_beats link e) → place < 64 →
+        result ≡ Commits.may_give complete n link e (64 * block + place) byte }
+{
+    if has_brought_at::<W>(messages, block, place) {
+        return could_be(byte, messages.d.bytes.bytes().at(place));
+    }
+    table.is_seen(block, place, byte)
+}
+
+/// Whether a report may give back each of these bytes of a block, from a place on.
+fn gives_each<const W: usize>(
+    messages: &LinkMessages,
+    table: &ValueTable,
+    block: u32,
+    first: usize,
+    lanes: &[u8; W],
+) -> bool
+    requires { IsWidth W }
+    ensures { (complete : List Bool) (n link : ℕ) (e : Events W) → KnowsTable table.now complete n e →
+        KnowsMessages messages.now (link_beats link e) → first + W ≤ 64 →
+        result ≡ each_from (Commits.may_give complete n link e) (64 * block + first) lanes.now }
 {
     for lane in 0..W {
-        if !table.is_seen(block, first.saturating_add(lane), lanes[lane]) {
+        let place = first.saturating_add(lane);
+        if !may_give::<W>(messages, table, block, place, lanes[lane]) {
             return false;
         }
     }
@@ -72,7 +103,7 @@ pub(crate) fn gives_truly<const W: usize>(
         None => true,
         Some(lanes) => {
             let first = W.saturating_mul(messages.c.bytes.count());
-            are_seen(table, block_at(x.address), first, lanes)
+            gives_each(messages, table, block_at(x.address), first, lanes)
         }
     }
 }

@@ -11,29 +11,30 @@ ghost use Rattle.tl_together.specs.statement.Coherence.{broken_together};
 ghost use Rattle.tl_commits.specs.code.BlockValues.{says_piece};
 ghost use Rattle.tl_commits.specs.code.Judging as code;
 ghost use Rattle.tl_commits.specs.code.ValueTable.{IsNext, KnowsTable};
-ghost use Rattle.tl_commits.specs.declared.commit.Event.{Event};
-ghost use Rattle.tl_commits.specs.declared.rule.CommitRule.TheVariants.{M6, M7};
+ghost use Rattle.tl_events.specs.declared.commit.Event.{Event};
+ghost use Rattle.tl_events.specs.declared.rule.CommitRule.TheVariants.{M6, M7};
 ghost use Rattle.tl_commits.specs.statement.Breaches.{breach_of, has_cache};
-ghost use Rattle.tl_commits.specs.statement.CommitLine.{IsCommit, IsPiece};
+ghost use Rattle.tl_events.specs.statement.CommitLine.{IsCommit, IsPiece};
 ghost use Rattle.tl_commits.specs.statement.Commits;
-ghost use Rattle.tl_commits.specs.statement.Copies.{is_complete};
 ghost use Rattle.tl_commits.specs.statement.Events.{Events, beats_of};
 ghost use Rattle.tl_commits.specs.statement.Knows.{Answers, recorded_after};
 
 use crate::block_values::BlockValues;
-use crate::bringing::brings_piece;
-use crate::commit::{Commit, Event, Piece};
 use crate::commits::broken_store;
+use crate::copies::is_complete;
 use crate::fault::CommitFault;
 use crate::giving_back::{carrier, gives_truly};
 use crate::giving_up::{holds_trunk, keeps_stores};
-use crate::loading::{Loading, begin, could_load, forget, has_begun, renew};
+use crate::loading::{Loading, begin, forget, has_begun, load_of};
 use crate::next_values::next_values;
 use crate::piece_values::{loaded_values, stored_values};
-use crate::rule::{CommitBreach, CommitRule};
+use crate::renewing::{renew, renewed};
+use crate::rule::CommitBreach;
 use crate::value_table::ValueTable;
 use std::alloc::{AllocError, Global};
 use tl_beat::beat::{Beat, Link};
+use tl_events::commit::{Commit, Event, Piece};
+use tl_events::rule::CommitRule;
 use tl_memory::message::{both, either};
 use tl_rules::key::block_at;
 use tl_rules::level::Level;
@@ -44,8 +45,8 @@ use tl_together::fault::JudgeFault;
 use tl_together::judge::Judge;
 
 /// Judges beats and commits of up to 16 links of one manager, in the order in which they were seen: beats by the rules of
-/// beats alone and by M7, commits by L1, M5 and M6 (loads that began earlier by M5 alone). It keeps the possible values of the
-/// bytes of blocks, and the loads that have begun, and no event.
+/// beats alone and by M7, commits by L1, M5 and M6. It keeps the possible values of the bytes of blocks, the loads that
+/// have begun with the bytes that each could bring since, and no event.
 #[derive(Drop)]
 pub struct CommitJudge<const W: usize> {
     alloc: Global,
@@ -78,16 +79,6 @@ fn has_cache(levels: &Vec<Level>, link: Link) -> bool
     }
 }
 
-/// Whether all stores of a link are in the trace.
-fn is_complete(complete: &Vec<bool>, link: Link) -> bool
-    ensures { result ≡ is_complete complete.now.items link.0 }
-{
-    match complete.get(usize::from(link.0)) {
-        Some(complete) => *complete,
-        None => false,
-    }
-}
-
 /// M7, unless a beat keeps it.
 fn unless_kept(keeps: bool) -> Option<CommitRule>
     ensures { result ≡ (if keeps then None else Some M7) }
@@ -110,9 +101,9 @@ fn of_rule(rule: CommitRule) -> CommitFault
 }
 
 impl<const W: usize> CommitJudge<W> {
-    ghost use Rattle.tl_commits.specs.declared.commit.Event.TheVariants as event;
-    ghost use Rattle.tl_commits.specs.declared.commit.Commit.TheVariants as commit;
-    ghost use Rattle.tl_commits.specs.statement.Knows.{IsEvent, IsNew, KnowsCommits, broken_by_judge, broken_now};
+    ghost use Rattle.tl_events.specs.declared.commit.Event.TheVariants as event;
+    ghost use Rattle.tl_events.specs.declared.commit.Commit.TheVariants as commit;
+    ghost use Rattle.tl_commits.specs.statement.Knows.{IsEvent, IsNew, KnowsCommits, broken_by_judge};
 
     /// A judge of links of these levels and with these liberties, which has seen no event. `complete` says for each link
     /// whether all its stores will be in the trace. The error is `Levels` unless there are 1 to 16 levels, or `Memory`.
@@ -184,7 +175,7 @@ impl<const W: usize> CommitJudge<W> {
         if let Some((block, values)) = next {
             self.values.put(block, values);
         }
-        renew(&self.judge, &mut self.loads);
+        renew(&self.judge, &self.values, &self.complete, &mut self.loads);
     }
 
     /// Judges a beat, and takes it if it breaks no rule.
@@ -245,20 +236,19 @@ impl<const W: usize> CommitJudge<W> {
         both(!begun, either(complete, !held))
     }
 
-    /// The rule that a load breaks: M5, or M6 if it didn't begin earlier.
+    /// The rule that a load breaks: M5 or M6.
     fn broken_load(&self, link: Link, piece: Piece, value: u64) -> Option<CommitRule>
         requires { IsWidth W }
         ensures { (levels : List Level) (complete : List Bool) (l : Liberties) (e : Events W) →
             KnowsCommits self.now levels complete l e → link.0 < length levels → IsPiece piece →
-            result ≡ broken_now complete (length levels) link.0 piece value e }
+            result ≡ Commits.broken_load complete (length levels) link.0 piece value e }
     {
-        if !could_load(&self.judge, self.loads.as_slice(), link, piece) {
+        let begun = load_of(self.loads.as_slice(), link, piece);
+        let load = renewed(&self.judge, &self.values, &self.complete, begun);
+        if !load.loadable {
             return Some(CommitRule::M5);
         }
-        let complete = is_complete(&self.complete, link);
-        let begun = has_begun(self.loads.as_slice(), link, piece);
-        let brings = brings_piece(&self.judge, &self.values, complete, link, piece, value);
-        unless_brought(either(begun, brings))
+        unless_brought(load.brings(value))
     }
 
     /// Judges a load, and takes it if it breaks no rule.
@@ -266,7 +256,7 @@ impl<const W: usize> CommitJudge<W> {
         requires { IsWidth W }
         ensures answer { (levels : List Level) (complete : List Bool) (l : Liberties) (e : Events W) →
             KnowsCommits self.old levels complete l e → link.0 < length levels → IsPiece piece →
-            Answers (breach_of None (broken_now complete (length levels) link.0 piece value e)) result }
+            Answers (breach_of None (Commits.broken_load complete (length levels) link.0 piece value e)) result }
         ensures knows { (levels : List Level) (complete : List Bool) (l : Liberties) (e : Events W) →
             KnowsCommits self.old levels complete l e → link.0 < length levels → IsPiece piece →
             KnowsCommits self.new levels complete l

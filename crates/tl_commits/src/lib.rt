@@ -3,7 +3,7 @@
 
 mod block_values;
 mod bringing;
-pub mod commit;
+mod byte_set;
 pub mod commits;
 mod common;
 mod copies;
@@ -15,7 +15,7 @@ pub mod law;
 mod loading;
 mod next_values;
 mod piece_values;
-pub mod read;
+mod renewing;
 pub mod rule;
 mod tellings;
 mod value_table;

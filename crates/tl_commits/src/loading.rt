@@ -1,27 +1,42 @@
 //! Loads that have begun and aren't in the trace yet.
 
-ghost use Rattle.std.specs.Prelude.{[], not, ◌∷◌, ◌++◌, ◌≡◌, ◌&&◌, ◌==◌, filter, find, is_some, option_copied, OnErr, OnOk};
+ghost use Rattle.std.specs.Prelude.{[], not, ◌∷◌, ◌++◌, ◌^◌, ◌≡◌, ◌≤◌, ◌&&◌, ◌==◌, filter, find, is_some, option_copied};
+ghost use Rattle.std.specs.Prelude.{OnErr, OnOk};
 ghost use Rattle.std.specs.List.{AllZip};
-ghost use Rattle.tl_beat.specs.statement.Width.{IsWidth};
+ghost use Rattle.tl_events.specs.statement.CommitLine.{IsPiece};
 ghost use Rattle.tl_commits.specs.code.Loading as code;
-ghost use Rattle.tl_commits.specs.statement.Events.{same_piece};
 
-use crate::commit::Piece;
-use crate::commits::is_piece_loadable;
+use crate::byte_set::ByteSet;
+use crate::piece_values::spread;
 use std::alloc::AllocError;
 use tl_beat::beat::Link;
-use tl_memory::message::either;
-use tl_together::judge::Judge;
+use tl_events::commit::Piece;
+use tl_memory::message::both;
 
-/// A load that has begun on a link, and whether its piece could be loaded at a moment since.
+/// A load that has begun on a link, and the bytes that it could bring since.
 #[derive(Clone, Copy, Debug, PartialEq, Eq)]
 pub struct Loading {
     pub(crate) link: Link,
     pub(crate) piece: Piece,
+    /// Whether the piece could be loaded at a moment since.
     pub(crate) loadable: bool,
+    /// For each byte of the piece, the values that it could have at a moment since.
+    pub(crate) values: [ByteSet; 8],
 }
 
 impl Loading {
+    /// A load that begins, before it is known whether it is possible.
+    fn new(link: Link, piece: Piece) -> Self
+        ensures { code.IsFresh result link piece }
+    {
+        Loading {
+            link,
+            piece,
+            loadable: false,
+            values: [ByteSet::none(); 8],
+        }
+    }
+
     /// Whether it is a load of this piece on this link.
     pub(crate) fn is_of(&self, link: Link, piece: Piece) -> bool
         ensures { result ≡ code.is_of link.0 piece self.now }
@@ -29,6 +44,27 @@ impl Loading {
         self.link.0 == link.0
             && self.piece.size == piece.size
             && self.piece.address == piece.address
+    }
+
+    /// The number of its bytes.
+    pub(crate) fn count(&self) -> u8
+        ensures few { result ≤ 8 }
+        ensures count { IsPiece self.now.piece → result ≡ 2 ^ self.now.piece.size }
+    {
+        1 << self.piece.size.min(3)
+    }
+
+    /// Whether each of its bytes could be the one of this value.
+    pub(crate) fn brings(&self, value: u64) -> bool
+        ensures { IsPiece self.now.piece → result ≡ code.brings self.now value }
+    {
+        let bytes = spread(value);
+        let mut all = true;
+        for i in 0..self.count() {
+            let i = usize::from(i);
+            all = both(self.values[i].has(bytes[i]), all);
+        }
+        all
     }
 }
 
@@ -51,13 +87,13 @@ pub(crate) fn has_begun(loads: &[Loading], link: Link, piece: Piece) -> bool
     find(loads, link, piece).is_some()
 }
 
-/// Whether a load of this piece on this link has begun, and could be performed at a moment since.
-pub(crate) fn was_loadable(loads: &[Loading], link: Link, piece: Piece) -> bool
-    ensures { result ≡ code.was_loadable (find (code.is_of link.0 piece) loads.now) }
+/// The load of this piece on this link that has begun, or else one that begins now.
+pub(crate) fn load_of(loads: &[Loading], link: Link, piece: Piece) -> Loading
+    ensures { code.IsLoadOf (find (code.is_of link.0 piece) loads.now) link piece result }
 {
     match find(loads, link, piece) {
-        Some(loading) => loading.loadable,
-        None => false,
+        Some(loading) => *loading,
+        None => Loading::new(link, piece),
     }
 }
 
@@ -70,20 +106,17 @@ pub(crate) fn forget(loads: &mut Vec<Loading>, link: Link, piece: Piece)
 
 /// The load, as if it began now if it is the one of this piece on this link.
 fn restarted(loading: Loading, link: Link, piece: Piece) -> Loading
-    ensures { result ≡ code.restarted link.0 piece loading }
+    ensures { code.IsRestarted link piece loading result }
 {
     if loading.is_of(link, piece) {
-        return Loading {
-            loadable: false,
-            ..loading
-        };
+        return Loading::new(link, piece);
     }
     loading
 }
 
 /// Begins the load of this piece on this link again.
 fn restart(loads: &mut Vec<Loading>, link: Link, piece: Piece)
-    ensures { AllZip (λ old new. new ≡ code.restarted link.0 piece old) loads.old.items loads.new.items }
+    ensures { AllZip (code.IsRestarted link piece) loads.old.items loads.new.items }
 {
     for n in 0..loads.len() {
         loads[n] = restarted(loads[n], link, piece);
@@ -101,62 +134,6 @@ pub(crate) fn begin(loads: &mut Vec<Loading>, link: Link, piece: Piece) -> Resul
         restart(loads, link, piece);
         return Ok(());
     }
-    loads.push(Loading {
-        link,
-        piece,
-        loadable: false,
-    })?;
+    loads.push(Loading::new(link, piece))?;
     Ok(())
-}
-
-/// Whether a load is possible now.
-fn is_possible<const W: usize>(judge: &Judge<W>, loading: Loading) -> bool
-    requires { IsWidth W }
-    ensures { code.IsPossible judge.now loading result }
-{
-    loading.piece.prove_addressed();
-    if loading.piece.is_valid() {
-        return is_piece_loadable(judge, loading.link, loading.piece);
-    }
-    false
-}
-
-/// Whether a load of this piece on this link is possible now, or was at a moment since it began.
-pub(crate) fn could_load<const W: usize>(
-    judge: &Judge<W>,
-    loads: &[Loading],
-    link: Link,
-    piece: Piece,
-) -> bool
-    requires { IsWidth W }
-    ensures { code.CouldLoad judge.now loads.now link piece result }
-{
-    let now = Loading {
-        link,
-        piece,
-        loadable: false,
-    };
-    either(is_possible(judge, now), was_loadable(loads, link, piece))
-}
-
-/// The load after one more event: it may be possible now.
-fn renewed<const W: usize>(judge: &Judge<W>, loading: Loading) -> Loading
-    requires { IsWidth W }
-    ensures { code.IsRenewed judge.now loading result }
-{
-    let now = is_possible(judge, loading);
-    Loading {
-        loadable: either(now, loading.loadable),
-        ..loading
-    }
-}
-
-/// The loads after one more event: some may be possible now.
-pub(crate) fn renew<const W: usize>(judge: &Judge<W>, loads: &mut Vec<Loading>)
-    requires { IsWidth W }
-    ensures { code.AreRenewed judge.now loads.old.items loads.new.items }
-{
-    for n in 0..loads.len() {
-        loads[n] = renewed(judge, loads[n]);
-    }
 }

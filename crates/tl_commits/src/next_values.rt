@@ -8,7 +8,7 @@ ghost use Rattle.tl_params.specs.declared.level.Level.{Level};
 ghost use Rattle.tl_params.specs.declared.liberties.Liberties.{Liberties};
 ghost use Rattle.tl_together.specs.statement.Knows.{Knows};
 ghost use Rattle.tl_commits.specs.code.ValueTable.{IsNext, KnowsTable};
-ghost use Rattle.tl_commits.specs.declared.commit.Event.TheVariants as event;
+ghost use Rattle.tl_events.specs.declared.commit.Event.TheVariants as event;
 ghost use Rattle.tl_commits.specs.statement.Copies.{link_beats};
 ghost use Rattle.tl_commits.specs.statement.Events.{Events, beats_of};
 ghost use Rattle.tl_commits.specs.statement.Seen;

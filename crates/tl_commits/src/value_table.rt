@@ -1,12 +1,14 @@
 //! The possible values of the bytes of all blocks.
 
-ghost use Rattle.std.specs.Prelude.{ℕ, Bool, List, Some, true, if◌then◌else◌, ◌==◌, ◌+◌, ◌*◌, ◌<◌, ◌≡◌, [], is_some, option_copied, OnOk};
+ghost use Rattle.std.specs.Prelude.{ℕ, Bool, List, Some, true, if◌then◌else◌, ◌==◌, ◌+◌, ◌*◌, ◌<◌, ◌≡◌, [], is_some, option_copied, OnOk, ◌||◌};
+ghost use Rattle.tl_commits.specs.code.ByteSet.{has};
 ghost use Rattle.tl_commits.specs.code.GivingBack.{is_seen};
 ghost use Rattle.tl_commits.specs.code.ValueTable.{KnowsTable, values_in};
 ghost use Rattle.tl_commits.specs.statement.Commits;
 ghost use Rattle.tl_commits.specs.statement.Events.{Events};
 
 use crate::block_values::BlockValues;
+use crate::byte_set::ByteSet;
 use std::alloc::{AllocError, Global};
 use std::collections::BTreeMap;
 use std::marker::Model;
@@ -92,6 +94,21 @@ impl ValueTable {
         match self.get(block) {
             None => true,
             Some(values) => is_told_as(values.seen.as_slice(), place as u8, byte),
+        }
+    }
+
+    /// These values, and those that the byte at a place of a block may have.
+    pub(crate) fn with_seen(&self, values: ByteSet, block: u32, place: usize) -> ByteSet
+        ensures { (w : ℕ) (complete : List Bool) (n : ℕ) (e : Events w) → KnowsTable self.now complete n e →
+            place < 64 → (v : ℕ) → v < 256 →
+            has result v ≡ (has values v || is_seen complete n e (64 * block + place) v) }
+    {
+        if place >= 64 {
+            return values;
+        }
+        match self.get(block) {
+            None => ByteSet::all(),
+            Some(kept) => values.with_told(kept.seen.as_slice(), place as u8),
         }
     }
 }

@@ -285,7 +285,7 @@ links_or_none line = go (header_or_none line) (fourth_or_none line)
 
 -- ---- a header's line ends in LF, and is short
 
-front-short : (width : Width) → length (fourth_front width) ≤ 13
+pub front-short : (width : Width) → length (fourth_front width) ≤ 13
 front-short Four = omega arith
 front-short Eight = omega arith
 front-short Sixteen = omega arith

@@ -1,5 +1,6 @@
 pub mod Charted
 pub mod Coherent
+pub mod CommitSentences
 pub mod Decoded
 pub mod Exit
 pub mod Explained

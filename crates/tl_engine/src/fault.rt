@@ -7,6 +7,7 @@ ghost use Rattle.tl_engine.specs.statement.Fault.{fault_name, fault_text};
 use itoa::Buffer;
 use std::alloc::AllocError;
 use tl_beat::fault::LineFault;
+use tl_events::rule::CommitRule;
 use tl_rules::memory_rule::MemoryRule;
 use tl_rules::rule::Rule;
 use tl_schedule::line::EventFault;
@@ -23,6 +24,8 @@ pub enum Fault {
     Rule(Rule),
     /// The beat breaks a rule of memory, and none of its link.
     MemoryRule(MemoryRule),
+    /// The store, the load or the beat breaks a rule of stores and loads, and no other.
+    CommitRule(CommitRule),
     /// The wide beat names a block, a source or a sink for which no number is left.
     Beyond,
     /// The line spells no event.
@@ -41,6 +44,7 @@ impl Fault {
             Fault::Event(EventFault::F8) => "F8",
             Fault::Rule(rule) => rule.name(),
             Fault::MemoryRule(rule) => rule.name(),
+            Fault::CommitRule(rule) => rule.name(),
             Fault::Beyond => "F9",
         }
     }

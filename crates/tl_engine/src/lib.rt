@@ -4,6 +4,7 @@
 pub mod beat_judge;
 pub mod chart;
 pub mod charting;
+pub mod commit_rules;
 pub mod decoder;
 pub mod engine;
 pub mod examiner;
@@ -21,6 +22,7 @@ pub mod link_lines;
 pub mod links_header;
 pub mod malformed;
 pub mod monitor_lines;
+pub mod named;
 pub mod output;
 pub mod play;
 mod replay;
@@ -33,4 +35,3 @@ pub mod trace_header;
 pub mod trace_judge;
 
 pub use tl_command::command;
-pub use tl_explain::named;

@@ -36,7 +36,7 @@ impl LinksHeader {
 }
 
 /// The bytes of a beat at the front of a header of the fourth version, and the rest after them.
-fn front(line: &[u8]) -> Option<(Width, &[u8])>
+pub fn front(line: &[u8]) -> Option<(Width, &[u8])>
     ensures { Gives result (front_at line.now) }
 {
     if let Some(rest) = line.strip_prefix(b"tltrace 4 4 ") {

@@ -18,7 +18,7 @@ use tl_explain::spelling;
 const LOOKED_AT: usize = 257;
 
 /// The first 257 bytes, at most, of the line of this number, from 1 on, with its LF if it is among them.
-pub fn fetch<R: Read>(alloc: Global, reader: &mut R, number: u64) -> Result<Vec<u8>, ExplainFault>
+fn fetch<R: Read>(alloc: Global, reader: &mut R, number: u64) -> Result<Vec<u8>, ExplainFault>
     ensures fault { IfErr result (λ fault. fault ≢ ExplainFault.Tool ToolFault.Write) }
 {
     let mut chunk = new_chunk(alloc)?;

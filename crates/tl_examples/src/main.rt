@@ -9,6 +9,7 @@ use std::alloc::Global;
 use std::io::{Read, Write};
 use std::process::ExitCode;
 use std::{fs, io};
+use tl_commit_lines::run::run_events;
 use tl_engine::command::Command;
 use tl_engine::explain::explain_input;
 use tl_engine::explain_fault::ExplainFault;
@@ -17,7 +18,6 @@ use tl_engine::output::write_all;
 use tl_engine::status::{Status, ToolFault};
 use tl_engine::tool::run_tool;
 use tl_params::liberties::Liberties;
-use tl_wide_lines::run::run_trace;
 
 /// The traces, by their names in data/.
 const TRACES: [&str; 45] = [
@@ -222,11 +222,33 @@ const WIDE: [&str; 9] = [
     "wide/narrow_line.trace",
 ];
 
+/// The traces with stores and loads.
+const COMMITS: [&str; 18] = [
+    "rules/L1_commit.trace",
+    "rules/L1_commit_right.trace",
+    "rules/M5.trace",
+    "rules/M5_right.trace",
+    "rules/M5_load.trace",
+    "rules/M5_load_right.trace",
+    "rules/M5_begun.trace",
+    "rules/M5_begun_right.trace",
+    "rules/M6.trace",
+    "rules/M6_right.trace",
+    "rules/M6_unmarked_right.trace",
+    "rules/M7.trace",
+    "rules/M7_right.trace",
+    "rules/M7_dropped.trace",
+    "rules/M7_dropped_right.trace",
+    "rules/M7_asked_right.trace",
+    "rules/M7_coming.trace",
+    "rules/M7_coming_right.trace",
+];
+
 /// The names of the rules and faults that are explained.
-const NAMES: [&str; 34] = [
+const NAMES: [&str; 37] = [
     "L1", "L2", "L3", "L4", "L5", "L6", "L7", "S1", "H1", "H2", "H3", "H4", "H5", "H6", "H7", "H8",
-    "H9", "H10", "H11", "H12", "H13", "M1", "M2", "M3", "M4", "F1", "F2", "F3", "F4", "F5", "F6",
-    "F7", "F8", "F9",
+    "H9", "H10", "H11", "H12", "H13", "M1", "M2", "M3", "M4", "M5", "M6", "M7", "F1", "F2", "F3",
+    "F4", "F5", "F6", "F7", "F8", "F9",
 ];
 
 /// Writes the name of a file, a separator, and the text of the command for the file. The errors are those of
@@ -269,7 +291,7 @@ fn tell_all(rt: &HostRuntime, command: Command, names: &[&str], separator: &[u8]
     true
 }
 
-/// Writes the name of a trace of any version, a separator, and its verdict. Its faults are those of `run_trace`.
+/// Writes the name of a trace of any version, a separator, and its verdict. The errors are those of `run_events`.
 fn judge<R: Read, W: Write>(
     alloc: Global,
     together: bool,
@@ -283,7 +305,7 @@ fn judge<R: Read, W: Write>(
 {
     write_all(output, name.as_bytes())?;
     write_all(output, separator)?;
-    run_trace(alloc, together, Liberties::none(), input, output)
+    run_events(alloc, together, Liberties::none(), input, output)
 }
 
 /// Judges each of the traces with these names. Answers whether all could be read and judged.
@@ -370,6 +392,8 @@ fn main(rt: HostRuntime) -> ExitCode {
         && judge_all(&rt, false, &WIDE, b": ")
         && judge_all(&rt, true, &WIDE, b" coherent: ")
         && judge_all(&rt, true, &EARLY, b" coherent: ")
+        && judge_all(&rt, false, &COMMITS, b": ")
+        && judge_all(&rt, true, &COMMITS, b" coherent: ")
         && tell_all(&rt, run, &SCHEDULES, b":\n")
         && tell_all(&rt, trace, &TRACED, b" --trace:\n")
         && explain_all(&rt, false, &TRACES)

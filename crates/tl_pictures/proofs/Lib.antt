@@ -1,3 +1,4 @@
+pub mod Commits
 pub mod Each
 pub mod Made
 pub mod Rows

@@ -1,5 +1,6 @@
 pub mod Answer
 pub mod Codes
+pub mod CommitPicture
 pub mod Configured
 pub mod Depicted
 pub mod Named

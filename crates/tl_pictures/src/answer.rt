@@ -3,14 +3,19 @@
 ghost use Rattle.std.specs.Prelude.{◌≡◌};
 ghost use Rattle.tl_pictures.specs.statement.Answer.{rule_number, memory_rule_number, breach_number, broken, breaks};
 ghost use Rattle.tl_pictures.specs.statement.Answer.{answer_of, judge_answer};
+ghost use Rattle.tl_pictures.specs.statement.Answer.{commit_rule_number, commit_breach_number, breaks_commits};
+ghost use Rattle.tl_pictures.specs.statement.Answer.{commit_answer};
 
+use tl_commits::fault::CommitFault;
+use tl_commits::rule::CommitBreach;
+use tl_events::rule::CommitRule;
 use tl_monitor::fault::MonitorFault;
 use tl_rules::memory_rule::MemoryRule;
 use tl_rules::rule::Rule;
 use tl_together::breach::Breach;
 use tl_together::fault::JudgeFault;
 
-/// A code, and the number of the rule that a beat breaks; 0 if it breaks none.
+/// A code, and the number of the rule that a beat or a commit breaks; 0 if it breaks none.
 #[repr(C)]
 #[derive(Clone, Copy, Debug, PartialEq, Eq)]
 pub struct Answer {
@@ -69,6 +74,27 @@ fn number_of_breach(breach: Breach) -> u8
     match breach {
         Breach::OfLink(rule) => number_of(rule),
         Breach::OfMemory(rule) => number_of_memory(rule),
+    }
+}
+
+/// The number of a rule of stores and loads, after those between links.
+fn number_of_commits(rule: CommitRule) -> u8
+    ensures { result ≡ commit_rule_number rule }
+{
+    match rule {
+        CommitRule::M5 => 29,
+        CommitRule::M6 => 30,
+        CommitRule::M7 => 31,
+    }
+}
+
+/// The number of a rule of beats, or of stores and loads.
+fn number_of_commit_breach(breach: CommitBreach) -> u8
+    ensures { result ≡ commit_breach_number breach }
+{
+    match breach {
+        CommitBreach::OfBeats(breach) => number_of_breach(breach),
+        CommitBreach::OfCommits(rule) => number_of_commits(rule),
     }
 }
 
@@ -134,6 +160,28 @@ impl Answer {
             Err(JudgeFault::Levels) => Answer::BAD,
             Err(JudgeFault::Memory) => Answer::NO_MEMORY,
             Err(JudgeFault::Closed) => Answer::CLOSED,
+        }
+    }
+
+    /// The event breaks the rule, of beats or of stores and loads.
+    fn breaks_commits(breach: CommitBreach) -> Answer
+        ensures { result ≡ breaks_commits breach }
+    {
+        Answer {
+            code: 1,
+            rule: number_of_commit_breach(breach),
+        }
+    }
+
+    /// The answer to a beat or a commit that a judge of both judged.
+    pub fn of_commits(judged: Result<(), CommitFault>) -> Answer
+        ensures { result ≡ commit_answer judged }
+    {
+        match judged {
+            Ok(()) => Answer::OK,
+            Err(CommitFault::Broken(breach)) => Answer::breaks_commits(breach),
+            Err(CommitFault::Levels) => Answer::BAD,
+            Err(CommitFault::Memory) => Answer::NO_MEMORY,
         }
     }
 }

@@ -1,8 +1,8 @@
-//! The numbers of levels, profiles, widths, channels and links in C.
+//! The numbers of levels, flags, profiles, widths, channels and links in C.
 
 ghost use Rattle.std.specs.Prelude.{◌≡◌};
-ghost use Rattle.tl_pictures.specs.statement.Codes.{level_at, are_levels, liberties_at, profile_at, is_profile};
-ghost use Rattle.tl_pictures.specs.statement.Codes.{is_width, is_wide_width, channel_at, link_at};
+ghost use Rattle.tl_pictures.specs.statement.Codes.{level_at, are_levels, flag_at, are_flags, liberties_at};
+ghost use Rattle.tl_pictures.specs.statement.Codes.{profile_at, is_profile, is_width, is_wide_width, channel_at, link_at};
 
 use tl_beat::beat::Link;
 use tl_beat::channel::Channel;
@@ -28,6 +28,20 @@ pub fn are_levels(codes: &[u8]) -> bool
     ensures { result ≡ are_levels codes.now }
 {
     codes.iter().all(|code| *code < 3)
+}
+
+/// The flag with a code: 1 is true, any other false.
+pub fn flag_of(code: u8) -> bool
+    ensures { result ≡ flag_at code }
+{
+    code == 1
+}
+
+/// Whether each code is that of a flag: 0 or 1.
+pub fn are_flags(codes: &[u8]) -> bool
+    ensures { result ≡ are_flags codes.now }
+{
+    codes.iter().all(|code| *code < 2)
 }
 
 /// The profile with a code: 1 for the first, any other for the second.

@@ -1,8 +1,9 @@
-//! Beats, operations, answers and configurations as structs of numbers in C, and their meaning.
+//! Beats, commits, operations, answers and configurations as structs of numbers in C, and their meaning.
 #![tactic(auto)]
 
 pub mod answer;
 pub mod codes;
+pub mod commit;
 pub mod config;
 pub mod depiction;
 pub mod operation;

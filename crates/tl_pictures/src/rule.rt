@@ -1,8 +1,9 @@
 //! The rules by their numbers in answers.
 
 ghost use Rattle.std.specs.Prelude.{◌≡◌};
-ghost use Rattle.tl_pictures.specs.statement.Named.{rule_with, memory_rule_with, name_with};
+ghost use Rattle.tl_pictures.specs.statement.Named.{rule_with, memory_rule_with, commit_rule_with, name_with};
 
+use tl_events::rule::CommitRule;
 use tl_rules::memory_rule::MemoryRule;
 use tl_rules::rule::Rule;
 
@@ -52,11 +53,26 @@ fn memory_rule_with(number: u8) -> Option<MemoryRule>
     }
 }
 
+/// The rule of stores and loads with a number.
+fn commit_rule_with(number: u8) -> Option<CommitRule>
+    ensures { result ≡ commit_rule_with number }
+{
+    match number {
+        29 => Some(CommitRule::M5),
+        30 => Some(CommitRule::M6),
+        31 => Some(CommitRule::M7),
+        _ => None,
+    }
+}
+
 /// The name of the rule with a number; empty if there is none.
 pub fn name_of(number: u8) -> &'static str
     ensures { result.now ≡ name_with number }
 {
-    match (rule_with(number), memory_rule_with(number)) {
+    if let Some(rule) = rule_with(number) {
+        return rule.name();
+    }
+    match (memory_rule_with(number), commit_rule_with(number)) {
         (Some(rule), _) => rule.name(),
         (None, Some(rule)) => rule.name(),
         (None, None) => "",

@@ -6,6 +6,7 @@ ghost use Rattle.tl_sign_off.specs.statement.Sentence.{line_sentence, sentence_o
 
 use std::alloc::{AllocError, Global};
 use tl_beat::fault::LineFault;
+use tl_engine::commit_rules::append_commit_sentence;
 use tl_engine::fault::Fault;
 use tl_explain::named::{append_memory_sentence, append_sentence};
 
@@ -51,6 +52,7 @@ fn append_sentence_of(fault: Fault, out: &mut Vec<u8>) -> Result<(), AllocError>
     match fault {
         Fault::Rule(rule) => append_sentence(rule, out),
         Fault::MemoryRule(rule) => append_memory_sentence(rule, out),
+        Fault::CommitRule(rule) => append_commit_sentence(rule, out),
         _ => append_line_sentence(fault, out),
     }
 }

@@ -1,5 +1,5 @@
 -- What a handler of traces says whose header may be of any version.
-use Rattle.std.proofs.Common.{◌≡◌, ◌∙◌, ◌+◌, ◌-◌, ℕ, Bool, List, [], ◌∷◌, ◌++◌}
+use Rattle.std.proofs.Common.{◌≡◌, ◌∙◌, ◌+◌, ◌-◌, ℕ, Bool, true, List, [], ◌∷◌, ◌++◌}
 use Rattle.std.proofs.Common.{length, refl, ap, sym, subst, arith, append_assoc}
 use Rattle.std.proofs.Common.{inl, inr}
 use Rattle.std.specs.Prelude.{IfOk, Option, Some, None, Result, Ok, Err}
@@ -29,7 +29,8 @@ use Rattle.tl_wide.specs.statement.Width.{IsWideWidth, wide_bytes_of}
 use Rattle.tl_wide_lines.proofs.JudgedLines.{line-says, line-stops, lines-end, lines-more, open-fault, wide-total}
 use Rattle.tl_wide_lines.proofs.WideHeaders.{WideOrNone, open_wide, wide_or_none}
 use Rattle.tl_wide_lines.specs.code.WideWatching.{BeginsHere, BeginsWide, JudgesLine, KnowsBy, KnowsTraceLines}
-use Rattle.tl_wide_lines.specs.code.WideWatching.{KnowsWideLinks, NoneWide, trace_judged_for}
+use Rattle.tl_wide_lines.specs.code.WideWatching.{KnowsWideLinks, NoneWide, is_waiting, trace_judged_for, waits}
+use Rattle.tl_wide_lines.specs.code.WideWatching.{waits_by}
 use Rattle.tl_wide_lines.specs.declared.lines.TraceLines.{TraceLines}
 use Rattle.tl_wide_lines.specs.declared.lines.WideLinks.{WideLinks}
 use Rattle.tl_wide_lines.specs.declared.lines.WideLinks.TheVariants.{Four, Eight, Sixteen, ThirtyTwo, SixtyFour}
@@ -131,6 +132,47 @@ none-read narrow read text known = go narrow.judge refl known
     go (judge.Four m) is k = absurd (omega (arith, k.counted))
     go (judge.Eight m) is k = absurd (omega (arith, k.counted))
     go (judge.Sixteen m) is k = absurd (omega (arith, k.counted))
+
+-- nothing has been read, and nothing said, where a handler waits for the header
+pub waits-none : (h : TraceLines) (lines : List (List ℕ)) (text : List ℕ) → KnowsTraceLines h lines text
+    → waits h ≡ true → (lines ≡ []) × (text ≡ [])
+waits-none h lines text known waiting = by h.wide known waiting
+  where
+    at : (j : LinkJudge) → KnowsJudge h.narrow.together h.narrow.allow j lines text → is_waiting j ≡ true
+        → (lines ≡ []) × (text ≡ [])
+    at (judge.Waiting alloc) k is = k
+    at (judge.Four m) k is = absurd cc
+    at (judge.Eight m) k is = absurd cc
+    at (judge.Sixteen m) k is = absurd cc
+
+    by : (wide : Option WideLinks) → KnowsBy h.narrow wide lines text → waits_by h.narrow wide ≡ true
+        → (lines ≡ []) × (text ≡ [])
+    by None k is = at h.narrow.judge k.0 is
+    by (Some links) k is = absurd cc
+
+-- it waits until it has read a line
+pub none-waits : (h : TraceLines) (text : List ℕ) → KnowsTraceLines h [] text → waits h ≡ true
+none-waits h text known = by h.wide known
+  where
+    no-lines : (header : List ℕ) (spelled : List (List ℕ)) → [] ≡ header ∷ spelled → ⊥
+    no-lines header spelled is = absurd cc
+
+    at : (j : LinkJudge) → KnowsJudge h.narrow.together h.narrow.allow j [] text → is_waiting j ≡ true
+    at (judge.Waiting alloc) k = refl
+    at (judge.Four m) k = absurd (omega (arith, k.counted))
+    at (judge.Eight m) k = absurd (omega (arith, k.counted))
+    at (judge.Sixteen m) k = absurd (omega (arith, k.counted))
+
+    wide-at : (links : WideLinks) → KnowsWideLinks h.narrow.together h.narrow.allow links [] text → ⊥
+    wide-at (Four m) k = no-lines k.header k.spelled k.are_lines
+    wide-at (Eight m) k = no-lines k.header k.spelled k.are_lines
+    wide-at (Sixteen m) k = no-lines k.header k.spelled k.are_lines
+    wide-at (ThirtyTwo m) k = no-lines k.header k.spelled k.are_lines
+    wide-at (SixtyFour m) k = no-lines k.header k.spelled k.are_lines
+
+    by : (wide : Option WideLinks) → KnowsBy h.narrow wide [] text → waits_by h.narrow wide ≡ true
+    by None k = at h.narrow.judge k.0
+    by (Some links) k = absurd (wide-at links k)
 
 -- ---- the handler
 

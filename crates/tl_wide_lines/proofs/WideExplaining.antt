@@ -31,6 +31,8 @@ pub other_explains : (allow : Liberties) (old new : Option (List ℕ)) (verdict 
     → is_rule found ≡ false → verdict ≡ fault_text (good + 1) found → ExplainsWide allow old new verdict [] Broken
 other_explains allow old new verdict good (fault.Rule rule) other says = absurd cc
 other_explains allow old new verdict good (fault.MemoryRule rule) other says = absurd cc
+other_explains allow old new verdict good (fault.CommitRule rule) other says =
+    (good + 1, fault.CommitRule rule, says, tt)
 other_explains allow old new verdict good (fault.Line of_line) other says = (good + 1, fault.Line of_line, says, tt)
 other_explains allow old new verdict good (fault.Event of_event) other says = (good + 1, fault.Event of_event, says, tt)
 other_explains allow old new verdict good fault.Header other says = (good + 1, fault.Header, says, tt)

@@ -522,6 +522,7 @@ told_explains {w} r allow old new read reasons Broken verdict consumed is told e
       begins = same ∙ it.says
           ∙ ap (λ (f : Fault). wide_front_text (sentence_of f) (r.count + 1) it.link it.beat ++ it.grounds) at;
     }
+    go (fault.CommitRule rule) at = tt
     go (fault.Line of_line) at = tt
     go (fault.Event of_event) at = tt
     go fault.Header at = tt

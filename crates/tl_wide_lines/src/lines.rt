@@ -3,7 +3,7 @@
 ghost use Rattle.std.specs.Prelude.{◌≡◌, ◌∷◌, List, ℕ, [], IfOk, None, ⊤};
 ghost use Rattle.tl_engine.specs.code.Judging.{Judges};
 ghost use Rattle.tl_wide_lines.specs.code.WideWatching.{BeginsHere, BeginsWide, JudgesLine, KnowsTraceLines};
-ghost use Rattle.tl_wide_lines.specs.code.WideWatching.{trace_judged_for};
+ghost use Rattle.tl_wide_lines.specs.code.WideWatching.{trace_judged_for, waits};
 ghost use Rattle.tl_wide_lines.specs.statement.JudgedTrace.{JudgedTrace};
 
 use crate::header::read_wide_for;
@@ -96,6 +96,17 @@ impl TraceLines {
         TraceLines {
             narrow: LinkLines::new(alloc, together, allow),
             wide: None,
+        }
+    }
+
+    /// Whether no header has been read.
+    #[inline(always)]
+    pub fn waits(&self) -> bool
+        ensures { result ≡ waits self.now }
+    {
+        match &self.wide {
+            Some(_) => false,
+            None => matches!(self.narrow.judge, LinkJudge::Waiting(_)),
         }
     }
 

@@ -23,6 +23,7 @@ use tl_command::chart::Range;
 use tl_command::random::Options;
 use tl_command::search::Aim;
 use tl_command::task::Task;
+use tl_commit_lines::run::run_events;
 use tl_engine::chart::{Window, chart_input, window_of};
 use tl_engine::command::Command;
 use tl_engine::explain::explain_input;
@@ -36,9 +37,8 @@ use tl_links::run::run_links;
 use tl_params::liberties::Liberties;
 use tl_random::schedule::write_schedule;
 use tl_report::find::find_all;
-use tl_wide_lines::run::run_trace;
 use tl_words::words::{WordsFault, invocation, usage_status};
-use unread::{front_of, tell_unread, tell_unread_in};
+use unread::{front_of, tell_commits_in, tell_unread, tell_unread_in};
 use wide::{explain_wide_over, is_wide_file};
 
 /// The exit status of a run. Its fault is printed on standard error.
@@ -85,8 +85,8 @@ fn run_over<R: Read, W: Write>(
         (W.contents output.new) result }
 {
     match command {
-        Command::Monitor => told(rt, run_trace(rt.alloc(), false, allow, input, output)),
-        Command::Coherent => told(rt, run_trace(rt.alloc(), true, allow, input, output)),
+        Command::Monitor => told(rt, run_events(rt.alloc(), false, allow, input, output)),
+        Command::Coherent => told(rt, run_events(rt.alloc(), true, allow, input, output)),
         Command::Explain { coherent } => {
             told(rt, run_links(rt.alloc(), coherent, allow, input, output))
         }
@@ -236,7 +236,7 @@ fn explain(rt: &HostRuntime, coherent: bool, allow: Liberties, name: &str) -> u8
         &mut second,
         &mut output,
     );
-    if coherent || explained != 1 {
+    if tell_commits_in(rt, name, explained) != 1 || coherent {
         return explained;
     }
     match fs::open(rt, name) {

@@ -1,16 +1,19 @@
-//! Says that a command doesn't read the wide beats of a trace.
+//! Says that a command doesn't read the wide beats or the commits of a trace.
 
 ghost use Rattle.std.specs.Prelude.{◌≡◌};
 
 use arrayvec::ArrayVec;
 use std::fs;
 use std::io::Read;
-use tl_engine::malformed::fetch;
+use tl_commit_lines::header::read_marked;
 use tl_wide_lines::header::read_wide;
 
-/// The line for standard error.
-const UNREAD: &str =
+/// The line for standard error of a header of wide beats.
+const WIDE: &str =
     "tltool: the header is of wide beats, which only monitor, coherent, explain and cover read";
+
+/// The line for standard error of a header of a trace with commits.
+const COMMITS: &str = "tltool: the header has a level C+, which only monitor and coherent read";
 
 /// The number of bytes of a first line that are read.
 const LOOKED_AT: usize = 257;
@@ -31,15 +34,41 @@ pub fn front_of<R: Read>(reader: &mut R) -> ArrayVec<u8, LOOKED_AT> {
     front
 }
 
-/// If this exit status is 1 and this first line is a header of wide beats, says so on standard error. Returns the
-/// status.
+/// Says on standard error that this first line is a header of wide beats, if it is one.
+fn tell_wide(rt: &HostRuntime, line: &[u8]) {
+    if read_wide(line).is_some() {
+        let _ = rt.eprintln(WIDE);
+    }
+}
+
+/// If this exit status is 1 and this first line is a header of a trace with commits, says so on standard error. Returns
+/// the status.
+fn tell_commits(rt: &HostRuntime, line: &[u8], status: u8) -> u8
+    ensures { result ≡ status }
+{
+    if status == 1 && read_marked(line).is_some() {
+        let _ = rt.eprintln(COMMITS);
+    }
+    status
+}
+
+/// If this exit status is 1 and this first line is a header of wide beats or of a trace with commits, says so on
+/// standard error. Returns the status.
 pub fn tell_unread(rt: &HostRuntime, line: &[u8], status: u8) -> u8
     ensures { result ≡ status }
 {
-    if status == 1 && read_wide(line).is_some() {
-        let _ = rt.eprintln(UNREAD);
+    if status == 1 {
+        tell_wide(rt, line);
     }
-    status
+    tell_commits(rt, line, status)
+}
+
+/// The first line of the file of this name; an empty one if it can't be read.
+fn line_in(rt: &HostRuntime, name: &str) -> ArrayVec<u8, LOOKED_AT> {
+    match fs::open(rt, name) {
+        Ok(mut file) => front_of(&mut file),
+        Err(_) => ArrayVec::new(),
+    }
 }
 
 /// The same for the trace in the file of this name.
@@ -49,11 +78,16 @@ pub fn tell_unread_in(rt: &HostRuntime, name: &str, status: u8) -> u8
     if status != 1 {
         return status;
     }
-    let Ok(mut file) = fs::open(rt, name) else {
+    tell_unread(rt, line_in(rt, name).as_slice(), status)
+}
+
+/// If this exit status is 1 and the trace in the file of this name has commits, says so on standard error. Returns the
+/// status.
+pub fn tell_commits_in(rt: &HostRuntime, name: &str, status: u8) -> u8
+    ensures { result ≡ status }
+{
+    if status != 1 {
         return status;
-    };
-    match fetch(rt.alloc(), &mut file, 1) {
-        Ok(line) => tell_unread(rt, &line, status),
-        Err(_) => status,
     }
+    tell_commits(rt, line_in(rt, name).as_slice(), status)
 }

@@ -1,6 +1,7 @@
 -- The calls of C on a monitor, a judge, a cover, a client and a manager by its handle.
 use Rattle.std.specs.Prelude.{ℕ, List, ◌≡◌, Option, Some, None, true, false}
 use Rattle.tl_pictures.specs.declared.answer.Answer.{Answer}
+use Rattle.tl_pictures.specs.declared.commit.CommitPicture.{CommitPicture}
 use Rattle.tl_pictures.specs.declared.config.LinkConfig.{LinkConfig}
 use Rattle.tl_pictures.specs.declared.operation.Operation.{Operation}
 use Rattle.tl_pictures.specs.declared.outcome.Outcome.{Outcome}
@@ -12,6 +13,7 @@ use Rattle.hefrudyl.specs.declared.cover.Tally.{Tally}
 use Rattle.hefrudyl.specs.declared.session.Session.{Session}
 use Rattle.tl_pictures.specs.statement.Answer.{bad, IsBad}
 use Rattle.hefrudyl.specs.statement.Covering.{BinSession, CountsSession, OpensCovering, TallySession}
+use Rattle.hefrudyl.specs.statement.EventsOpened.{OpensEvents}
 use Rattle.hefrudyl.specs.statement.Opened.{OpensTo, OpensUnder}
 use Rattle.hefrudyl.specs.statement.Sessions
 use Rattle.hefrudyl.specs.statement.WideOpened.{JudgesWide, MonitorsWide, OpensWide}
@@ -40,6 +42,12 @@ JudgeOpenTold old new levels width profile answer =
 abbrev pub JudgeOpenUnderTold : Option Session → Option Session → List ℕ → ℕ → ℕ → Answer → Type 0
 JudgeOpenUnderTold old new levels width liberties answer =
     OpensHandle (Sessions.JudgeOpensUnder levels width liberties) old new answer
+
+-- C opens a judge of beats and commits of all links with liberties, and says which links have all their stores in the
+-- trace
+abbrev pub JudgeOpenCommitsTold : Option Session → Option Session → List ℕ → List ℕ → ℕ → ℕ → Answer → Type 0
+JudgeOpenCommitsTold old new levels complete width liberties answer =
+    OpensHandle (OpensEvents levels complete width liberties) old new answer
 
 -- C opens a monitor of wide beats of links with liberties
 abbrev pub WideMonitorOpenTold : Option Session → Option Session → List ℕ → ℕ → ℕ → Answer → Type 0
@@ -110,6 +118,14 @@ JudgeTryTold link x answer old new = OnHandle (Sessions.TriesSession link x answ
 -- C pushes a line of a trace to a judge
 abbrev pub JudgeLineTold : List ℕ → Answer → Option Session → Option Session → Type 0
 JudgeLineTold line answer old new = OnHandle (Sessions.JudgesLineSession line answer) (answer ≡ bad) old new
+
+-- C pushes the commit of a picture to a judge
+abbrev pub CommitTold : ℕ → CommitPicture → Answer → Option Session → Option Session → Type 0
+CommitTold link x answer old new = OnHandle (Sessions.CommitsSession true link x answer) (answer ≡ bad) old new
+
+-- C tries the commit of a picture at a judge, which stays open or closed as it was
+abbrev pub TryCommitTold : ℕ → CommitPicture → Answer → Option Session → Option Session → Type 0
+TryCommitTold link x answer old new = OnHandle (Sessions.CommitsSession false link x answer) (answer ≡ bad) old new
 
 -- ---- wide beats
 

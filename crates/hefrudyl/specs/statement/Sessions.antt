@@ -1,14 +1,17 @@
 -- The calls of C on a monitor, a judge, a client or a manager that a session holds.
-use Rattle.std.specs.Prelude.{ℕ, Bool, List, ◌≡◌, true, Option, Some, None}
+use Rattle.std.specs.Prelude.{ℕ, Bool, List, ◌≡◌, true, false, Option, Some, None}
 use Rattle.tl_monitor.specs.declared.monitor.Monitor.{Monitor}
 use Rattle.tl_together.specs.declared.judge.Judge.{Judge}
 use Rattle.tl_ports.specs.declared.client.ClientPort.{ClientPort}
 use Rattle.tl_pictures.specs.declared.answer.Answer.{Answer}
 use Rattle.tl_ports.specs.declared.manager.ManagerPort.{ManagerPort}
 use Rattle.hefrudyl.specs.declared.client.AnyPort.TheVariants as port
+use Rattle.hefrudyl.specs.declared.event_judge.AnyEventJudge.TheVariants as events
+use Rattle.hefrudyl.specs.declared.event_judge.EventJudge.{EventJudge}
 use Rattle.hefrudyl.specs.declared.judge.AnyJudge.TheVariants as judge
 use Rattle.hefrudyl.specs.declared.manager.AnyManager.TheVariants as manager
 use Rattle.hefrudyl.specs.declared.monitor.AnyMonitor.TheVariants as monitor
+use Rattle.tl_pictures.specs.declared.commit.CommitPicture.{CommitPicture}
 use Rattle.tl_pictures.specs.declared.config.LinkConfig.{LinkConfig}
 use Rattle.tl_pictures.specs.declared.operation.Operation.{Operation}
 use Rattle.tl_pictures.specs.declared.outcome.Outcome.{Outcome}
@@ -19,6 +22,7 @@ use Rattle.hefrudyl.specs.declared.session.Session.TheVariants as session
 use Rattle.tl_pictures.specs.statement.Answer.{ok, bad, IsBad}
 use Rattle.hefrudyl.specs.statement.Client.{Asked, OfferedOf, Stalls, Shows, Pops, Holds, Copies, Closed}
 use Rattle.hefrudyl.specs.statement.ClientOpened.{may_open_client, IsFreshClient}
+use Rattle.hefrudyl.specs.statement.Events.{ToldOfBeat, ToldOfCommit, ToldOfEventLine}
 use Rattle.hefrudyl.specs.statement.Judged as told
 use Rattle.hefrudyl.specs.statement.Judged.{ToldOf, ToldOfLine, EntriesOf}
 use Rattle.hefrudyl.specs.statement.Manager.{Admitted, StallsAt, ShowsAt, PopsAt, ClosedAt}
@@ -46,6 +50,7 @@ OnMonitor P refused (session.Judge old) new = refused × (new ≡ session.Judge 
 OnMonitor P refused (session.Covering old) new = refused × (new ≡ session.Covering old)
 OnMonitor P refused (session.WideMonitor old) new = refused × (new ≡ session.WideMonitor old)
 OnMonitor P refused (session.WideJudge old) new = refused × (new ≡ session.WideJudge old)
+OnMonitor P refused (session.Events old) new = refused × (new ≡ session.Events old)
 OnMonitor _ _ _ _ = ⊥
 
 -- the session's monitor judges the beat of this picture; a broken rule closes it
@@ -89,32 +94,46 @@ abbrev pub JudgeOpensUnder : List ℕ → ℕ → ℕ → Option Session → Ans
 JudgeOpensUnder codes width liberties =
     OpensJudge codes width (liberties_at liberties) (may_open_under codes width)
 
--- P is true of the judge before and after, of the same width. A session without a judge is refused, and stays.
-abbrev pub OnJudge : ((w : ℕ) → Judge w → Judge w → Type 0) → Type 0 → Session → Session → Type 0
-OnJudge P refused (session.Judge (judge.Four old)) (session.Judge (judge.Four new)) = P 4 old new
-OnJudge P refused (session.Judge (judge.Eight old)) (session.Judge (judge.Eight new)) = P 8 old new
-OnJudge P refused (session.Judge (judge.Sixteen old)) (session.Judge (judge.Sixteen new)) = P 16 old new
-OnJudge P refused (session.Monitor old) new = refused × (new ≡ session.Monitor old)
-OnJudge P refused (session.Client old) new = refused × (new ≡ session.Client old)
-OnJudge P refused (session.Manager old) new = refused × (new ≡ session.Manager old)
-OnJudge P refused (session.Covering old) new = refused × (new ≡ session.Covering old)
-OnJudge P refused (session.WideMonitor old) new = refused × (new ≡ session.WideMonitor old)
-OnJudge P refused (session.WideJudge old) new = refused × (new ≡ session.WideJudge old)
-OnJudge _ _ _ _ = ⊥
+-- P is true of the judge before and after, of the same width, or Q if it judges beats and commits. A session without a
+-- judge is refused, and stays.
+abbrev pub OnJudge : ((w : ℕ) → Judge w → Judge w → Type 0) → ((w : ℕ) → EventJudge w → EventJudge w → Type 0) → Type 0
+    → Session → Session → Type 0
+OnJudge P Q refused (session.Judge (judge.Four old)) (session.Judge (judge.Four new)) = P 4 old new
+OnJudge P Q refused (session.Judge (judge.Eight old)) (session.Judge (judge.Eight new)) = P 8 old new
+OnJudge P Q refused (session.Judge (judge.Sixteen old)) (session.Judge (judge.Sixteen new)) = P 16 old new
+OnJudge P Q refused (session.Events (events.Four old)) (session.Events (events.Four new)) = Q 4 old new
+OnJudge P Q refused (session.Events (events.Eight old)) (session.Events (events.Eight new)) = Q 8 old new
+OnJudge P Q refused (session.Events (events.Sixteen old)) (session.Events (events.Sixteen new)) = Q 16 old new
+OnJudge P Q refused (session.Monitor old) new = refused × (new ≡ session.Monitor old)
+OnJudge P Q refused (session.Client old) new = refused × (new ≡ session.Client old)
+OnJudge P Q refused (session.Manager old) new = refused × (new ≡ session.Manager old)
+OnJudge P Q refused (session.Covering old) new = refused × (new ≡ session.Covering old)
+OnJudge P Q refused (session.WideMonitor old) new = refused × (new ≡ session.WideMonitor old)
+OnJudge P Q refused (session.WideJudge old) new = refused × (new ≡ session.WideJudge old)
+OnJudge _ _ _ _ _ = ⊥
 
 -- the session's judge judges the beat of this picture; a broken rule closes it
 abbrev pub JudgesSession : ℕ → Picture → Answer → Session → Session → Type 0
 JudgesSession link x answer old new =
-    OnJudge (λ w j k. ToldTogether together.stops j k link x answer) (answer ≡ bad) old new
+    OnJudge (λ w j k. ToldTogether together.stops j k link x answer) (λ w j k. ToldOfBeat true j k link x answer)
+    (answer ≡ bad) old new
 
 -- the session's judge judges the beat of this picture, and stays open or closed as it was
 abbrev pub TriesSession : ℕ → Picture → Answer → Session → Session → Type 0
 TriesSession link x answer old new =
-    OnJudge (λ w j k. ToldTogether together.goes_on j k link x answer) (answer ≡ bad) old new
+    OnJudge (λ w j k. ToldTogether together.goes_on j k link x answer) (λ w j k. ToldOfBeat false j k link x answer)
+    (answer ≡ bad) old new
 
 -- the session's judge judges a line of a trace
 abbrev pub JudgesLineSession : List ℕ → Answer → Session → Session → Type 0
-JudgesLineSession line answer old new = OnJudge (λ w j k. ToldOfLineTogether j k line answer) (answer ≡ bad) old new
+JudgesLineSession line answer old new =
+    OnJudge (λ w j k. ToldOfLineTogether j k line answer) (λ w j k. ToldOfEventLine j k line answer) (answer ≡ bad) old new
+
+-- The session's judge of beats and commits judges the commit of this picture; a broken rule closes it if it stops it. A
+-- judge of beats alone is refused, and stays.
+abbrev pub CommitsSession : Bool → ℕ → CommitPicture → Answer → Session → Session → Type 0
+CommitsSession stops link x answer old new =
+    OnJudge (λ w j k. IsBad answer j k) (λ w j k. ToldOfCommit stops j k link x answer) (answer ≡ bad) old new
 
 -- ---- clients
 
@@ -147,6 +166,7 @@ OnClient P refused (session.Judge old) new = refused × (new ≡ session.Judge o
 OnClient P refused (session.Covering old) new = refused × (new ≡ session.Covering old)
 OnClient P refused (session.WideMonitor old) new = refused × (new ≡ session.WideMonitor old)
 OnClient P refused (session.WideJudge old) new = refused × (new ≡ session.WideJudge old)
+OnClient P refused (session.Events old) new = refused × (new ≡ session.Events old)
 OnClient _ _ _ _ = ⊥
 
 -- the session's client is asked for an operation
@@ -240,6 +260,7 @@ OnManager P refused (session.Judge old) new = refused × (new ≡ session.Judge 
 OnManager P refused (session.Covering old) new = refused × (new ≡ session.Covering old)
 OnManager P refused (session.WideMonitor old) new = refused × (new ≡ session.WideMonitor old)
 OnManager P refused (session.WideJudge old) new = refused × (new ≡ session.WideJudge old)
+OnManager P refused (session.Events old) new = refused × (new ≡ session.Events old)
 OnManager _ _ _ _ = ⊥
 
 -- the session's manager is offered the beat of this picture on a link

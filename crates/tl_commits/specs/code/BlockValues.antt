@@ -15,7 +15,7 @@ use Rattle.tl_commits.specs.statement.Copies.{is_known, link_beats}
 use Rattle.tl_commits.specs.statement.Events.{Events, beats_of, is_loading}
 use Rattle.tl_burst.specs.statement.Burst.{reaches}
 use Rattle.tl_rules.specs.statement.History.{block_at}
-use Rattle.tl_commits.specs.declared.commit.Piece.{Piece}
+use Rattle.tl_events.specs.declared.commit.Piece.{Piece}
 use Rattle.tl_commits.specs.statement.Seen.{byte_in, memory_may, seen, unseen}
 
 -- the values after a beat that makes this change, if it sets none

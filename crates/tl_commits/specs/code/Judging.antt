@@ -4,7 +4,7 @@ use Rattle.tl_together.specs.declared.fault.JudgeFault.TheVariants as judge
 use Rattle.tl_commits.specs.declared.fault.CommitFault.{CommitFault}
 use Rattle.tl_commits.specs.declared.fault.CommitFault.TheVariants as fault
 use Rattle.tl_commits.specs.declared.rule.CommitBreach.TheVariants.{OfBeats, OfCommits}
-use Rattle.tl_commits.specs.declared.rule.CommitRule.{CommitRule}
+use Rattle.tl_events.specs.declared.rule.CommitRule.{CommitRule}
 use Rattle.std.specs.Prelude.{ℕ, true, ◌≡◌, ◌==◌, if◌then◌else◌, List, Option, Some, None, is_some}
 use Rattle.tl_commits.specs.code.Loading.{AreRenewed}
 use Rattle.tl_commits.specs.code.ValueTable.{values_in}
@@ -38,5 +38,5 @@ pub record IsRecorded {w : ℕ} (old new : CommitJudge w) (next : Option (ℕ ×
   pub judge_is : new.judge ≡ old.judge
   pub levels_are : new.levels ≡ old.levels
   pub complete_are : new.complete ≡ old.complete
-  pub loads_are : AreRenewed old.judge old.loads.items new.loads.items
   pub values_are : HasPut old.values new.values next
+  pub loads_are : AreRenewed old.judge new.values old.complete.items old.loads.items new.loads.items

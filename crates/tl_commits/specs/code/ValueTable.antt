@@ -4,7 +4,7 @@ use Rattle.std.specs.Map.{lookup}
 use Rattle.std.specs.Ordering.{nat_cmp}
 use Rattle.std.specs.Prelude.{ℕ, Bool, true, false, ◌∷◌, ◌==◌, ◌+◌, ◌*◌, ◌<◌, ◌≡◌, List, Option, Some, None, is_some}
 use Rattle.tl_beat.specs.declared.beat.Link.{Link}
-use Rattle.tl_commits.specs.declared.commit.Event.{Event}
+use Rattle.tl_events.specs.declared.commit.Event.{Event}
 use Rattle.tl_commits.specs.code.BlockValues.{KnowsValues}
 use Rattle.tl_commits.specs.declared.block_values.BlockValues.{BlockValues}
 use Rattle.tl_commits.specs.statement.Events.{Events, beats_of}

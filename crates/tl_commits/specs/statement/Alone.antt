@@ -7,7 +7,7 @@ use Rattle.tl_params.specs.declared.liberties.Liberties.{Liberties}
 use Rattle.tl_rules.specs.statement.Conformance.{Trace}
 use Rattle.tl_together.specs.declared.breach.Breach.{Breach}
 use Rattle.tl_together.specs.statement.Coherence.{broken_together, first_breach}
-use Rattle.tl_commits.specs.declared.commit.Event.TheVariants as event
+use Rattle.tl_events.specs.declared.commit.Event.TheVariants as event
 use Rattle.tl_commits.specs.declared.rule.CommitBreach.{CommitBreach}
 use Rattle.tl_commits.specs.declared.rule.CommitBreach.TheVariants.{OfBeats, OfCommits}
 use Rattle.tl_commits.specs.statement.Breaches.{broken_event, first_commit_breach}

@@ -13,12 +13,12 @@ use Rattle.tl_rules.specs.statement.Liberties.{broken_on_link_under}
 use Rattle.tl_together.specs.declared.breach.Breach.{Breach}
 use Rattle.tl_together.specs.declared.breach.Breach.TheVariants.{OfLink}
 use Rattle.tl_together.specs.statement.Coherence.{broken_beginning, first_broken, memory_rule_or, rule_of_bytes}
-use Rattle.tl_commits.specs.declared.commit.Commit.{Commit}
-use Rattle.tl_commits.specs.declared.commit.Event.{Event}
-use Rattle.tl_commits.specs.declared.commit.Event.TheVariants as event
+use Rattle.tl_events.specs.declared.commit.Commit.{Commit}
+use Rattle.tl_events.specs.declared.commit.Event.{Event}
+use Rattle.tl_events.specs.declared.commit.Event.TheVariants as event
 use Rattle.tl_commits.specs.declared.rule.CommitBreach.{CommitBreach}
 use Rattle.tl_commits.specs.declared.rule.CommitBreach.TheVariants.{OfBeats, OfCommits}
-use Rattle.tl_commits.specs.declared.rule.CommitRule.{CommitRule}
+use Rattle.tl_events.specs.declared.rule.CommitRule.{CommitRule}
 use Rattle.tl_commits.specs.statement.Commits.{broken_commit, broken_report}
 use Rattle.tl_commits.specs.statement.Events.{Events, beats_of}
 use Rattle.tl_commits.specs.statement.True.{is_true_seen}

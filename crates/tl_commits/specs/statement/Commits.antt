@@ -17,11 +17,11 @@ use Rattle.tl_rules.specs.statement.Liberties.{grows_from_none}
 use Rattle.tl_bytes.specs.declared.telling.Telling.{Telling}
 use Rattle.tl_bytes.specs.statement.Bytes.{could_be, each_from, told_as}
 use Rattle.tl_bytes.specs.statement.Early.{is_released}
-use Rattle.tl_commits.specs.declared.commit.Commit.{Commit}
-use Rattle.tl_commits.specs.declared.commit.Commit.TheVariants as commit
-use Rattle.tl_commits.specs.declared.commit.Piece.{Piece}
-use Rattle.tl_commits.specs.declared.rule.CommitRule.{CommitRule}
-use Rattle.tl_commits.specs.declared.rule.CommitRule.TheVariants.{M5, M6, M7}
+use Rattle.tl_events.specs.declared.commit.Commit.{Commit}
+use Rattle.tl_events.specs.declared.commit.Commit.TheVariants as commit
+use Rattle.tl_events.specs.declared.commit.Piece.{Piece}
+use Rattle.tl_events.specs.declared.rule.CommitRule.{CommitRule}
+use Rattle.tl_events.specs.declared.rule.CommitRule.TheVariants.{M5, M6, M7}
 use Rattle.tl_commits.specs.statement.Copies.{brought, holds, holds_trunk, is_complete, is_known, link_beats, may_load}
 use Rattle.tl_commits.specs.statement.Copies.{may_store}
 use Rattle.tl_commits.specs.statement.Events.{Events, at_some, beats_of}
@@ -99,14 +99,23 @@ is_kept complete n address e =
 abbrev pub is_clean : {w : ℕ} → List Bool → ℕ → ℕ → Events w → Bool
 is_clean complete n block e = each_below 64 (λ place. is_kept complete n (64 * block + place) e)
 
--- the bytes of a beat of a report are possible; those of a report that is answered aren't judged, nor
+-- a report may give back the byte v, given the byte that a Grant under way has brought
+abbrev pub gives : {w : ℕ} → Option (Option ℕ) → List Bool → ℕ → ℕ → ℕ → Events w → Bool
+gives None complete n address v e = told_as v (values_seen complete n address e)
+gives (Some value) complete n address v e = could_be v value
+
+-- a report of a link may give back the byte v
+abbrev pub may_give : {w : ℕ} → List Bool → ℕ → ℕ → Events w → ℕ → ℕ → Bool
+may_give complete n link e address v = gives (brought address (link_beats link e)) complete n address v e
+
+-- the copy may have the bytes of a beat of a report; those of a report that is answered aren't judged, nor
 -- those of a link of which the trace doesn't have all stores
 abbrev pub gives_truly : {w : ℕ} → List Bool → ℕ → ℕ → BeatC w → Events w → Bool
 gives_truly {w} complete n link x e =
     not (is_complete complete link)
     || (is_released (block_at x.address) (beat.C x) (link_beats link e)
     || (is_spoiled (beat.C x)
-    || each_from (λ address v. told_as v (values_seen complete n address e))
+    || each_from (may_give complete n link e)
     (64 * block_at x.address + w * length (unfinished channel.C (link_beats link e))) (lanes_of (beat.C x))))
 
 -- the beat takes Trunk of this block away without data

@@ -2,10 +2,10 @@
 use Rattle.std.specs.Prelude.{ℕ, Bool, false, not, [], ◌∷◌, ◌==◌, ◌&&◌, ◌||◌, List}
 use Rattle.tl_beat.specs.declared.beat.Link.{Link}
 use Rattle.tl_rules.specs.statement.Conformance.{Trace}
-use Rattle.tl_commits.specs.declared.commit.Commit.TheVariants as commit
-use Rattle.tl_commits.specs.declared.commit.Event.{Event}
-use Rattle.tl_commits.specs.declared.commit.Event.TheVariants as event
-use Rattle.tl_commits.specs.declared.commit.Piece.{Piece}
+use Rattle.tl_events.specs.declared.commit.Commit.TheVariants as commit
+use Rattle.tl_events.specs.declared.commit.Event.{Event}
+use Rattle.tl_events.specs.declared.commit.Event.TheVariants as event
+use Rattle.tl_events.specs.declared.commit.Piece.{Piece}
 
 -- beats and commits with their links, the newest first
 abbrev pub Events : ℕ → Type 0

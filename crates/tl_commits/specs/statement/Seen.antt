@@ -19,11 +19,11 @@ use Rattle.tl_bytes.specs.declared.telling.Telling.{Telling}
 use Rattle.tl_bytes.specs.statement.Bytes.{after_beat, after_settling, carried_byte, tells}
 use Rattle.tl_bytes.specs.statement.Early.{telling_beats}
 use Rattle.tl_memory.specs.statement.ByteChanges.{grants_unread}
-use Rattle.tl_commits.specs.declared.commit.Commit.{Commit}
-use Rattle.tl_commits.specs.declared.commit.Commit.TheVariants as commit
-use Rattle.tl_commits.specs.declared.commit.Event.{Event}
-use Rattle.tl_commits.specs.declared.commit.Event.TheVariants as event
-use Rattle.tl_commits.specs.declared.commit.Piece.{Piece}
+use Rattle.tl_events.specs.declared.commit.Commit.{Commit}
+use Rattle.tl_events.specs.declared.commit.Commit.TheVariants as commit
+use Rattle.tl_events.specs.declared.commit.Event.{Event}
+use Rattle.tl_events.specs.declared.commit.Event.TheVariants as event
+use Rattle.tl_events.specs.declared.commit.Piece.{Piece}
 use Rattle.tl_commits.specs.statement.Copies.{brought, holds_trunk, is_known, link_beats}
 use Rattle.tl_commits.specs.statement.Events.{Events, beats_of, is_loading}
 

@@ -19,8 +19,8 @@ use Rattle.tl_bytes.specs.statement.Bytes.{others, pending_accesses, told_as}
 use Rattle.tl_bytes.specs.statement.Bytes.{windows_since}
 use Rattle.tl_bytes.specs.statement.Early.{is_overtaken, outrun_accesses}
 use Rattle.tl_bytes.specs.statement.Shown.{is_window}
-use Rattle.tl_commits.specs.declared.commit.Event.{Event}
-use Rattle.tl_commits.specs.declared.commit.Event.TheVariants as event
+use Rattle.tl_events.specs.declared.commit.Event.{Event}
+use Rattle.tl_events.specs.declared.commit.Event.TheVariants as event
 use Rattle.tl_commits.specs.statement.Copies.{link_beats}
 use Rattle.tl_commits.specs.statement.Events.{Events, beats_of}
 use Rattle.tl_commits.specs.statement.Seen.{values_seen}

@@ -5,8 +5,10 @@ use Rattle.tl_beat.specs.statement.Names.{line_fault_name}
 use Rattle.tl_schedule.specs.declared.line.EventFault.TheVariants as event
 use Rattle.tl_params.specs.statement.Names.{rule_name}
 use Rattle.tl_params.specs.statement.Names.{memory_rule_name}
+use Rattle.tl_events.specs.statement.Names.{commit_rule_name}
 use Rattle.tl_engine.specs.declared.fault.Fault.{Fault}
-use Rattle.tl_engine.specs.declared.fault.Fault.TheVariants.{Header, Line, Rule, MemoryRule, Beyond, Event}
+use Rattle.tl_engine.specs.declared.fault.Fault.TheVariants.{Header, Line, Rule, MemoryRule, CommitRule}
+use Rattle.tl_engine.specs.declared.fault.Fault.TheVariants.{Beyond, Event}
 
 -- the name of a fault in the text
 abbrev pub fault_name : Fault → List ℕ
@@ -16,6 +18,7 @@ fault_name (Event event.F1) = codes "F1"
 fault_name (Event event.F8) = codes "F8"
 fault_name (Rule rule) = rule_name rule
 fault_name (MemoryRule rule) = memory_rule_name rule
+fault_name (CommitRule rule) = commit_rule_name rule
 fault_name Beyond = codes "F9"
 
 -- `line N X`: line N, from 1 on, is at fault for X

@@ -3,6 +3,12 @@ use Rattle.std.specs.Prelude.{ℕ, ◌≡◌, Result, Ok, Err, ⊤}
 use Rattle.tl_params.specs.declared.rule.Rule.{Rule}
 use Rattle.tl_params.specs.declared.rule.Rule.TheVariants.{L1, L2, L3, L4, L5, L6, L7, S1, H1, H2, H3, H4, H5, H6, H7}
 use Rattle.tl_params.specs.declared.rule.Rule.TheVariants.{H8, H9, H10, H11, H12, H13, A1, A2, A3}
+use Rattle.tl_commits.specs.declared.fault.CommitFault.{CommitFault}
+use Rattle.tl_commits.specs.declared.fault.CommitFault.TheVariants as commits
+use Rattle.tl_commits.specs.declared.rule.CommitBreach.{CommitBreach}
+use Rattle.tl_commits.specs.declared.rule.CommitBreach.TheVariants.{OfBeats, OfCommits}
+use Rattle.tl_events.specs.declared.rule.CommitRule.{CommitRule}
+use Rattle.tl_events.specs.declared.rule.CommitRule.TheVariants.{M5, M6, M7}
 use Rattle.tl_monitor.specs.declared.fault.MonitorFault.{MonitorFault}
 use Rattle.tl_monitor.specs.declared.fault.MonitorFault.TheVariants.{Levels, Broken, Memory, Closed}
 use Rattle.tl_together.specs.declared.breach.Breach.{Breach}
@@ -52,6 +58,17 @@ abbrev pub breach_number : Breach → ℕ
 breach_number (OfLink rule) = rule_number rule
 breach_number (OfMemory rule) = memory_rule_number rule
 
+-- the numbers of the rules of stores and loads, after those
+abbrev pub commit_rule_number : CommitRule → ℕ
+commit_rule_number M5 = 29
+commit_rule_number M6 = 30
+commit_rule_number M7 = 31
+
+-- the number of a rule of beats, or of stores and loads
+abbrev pub commit_breach_number : CommitBreach → ℕ
+commit_breach_number (OfBeats breach) = breach_number breach
+commit_breach_number (OfCommits rule) = commit_rule_number rule
+
 -- the answer with this code, and with no rule
 abbrev pub answer : ℕ → Answer
 answer code = record { code = code; rule = 0 }
@@ -67,6 +84,10 @@ broken rule = record { code = 1; rule = rule_number rule }
 -- the beat breaks this rule of its link or between links
 abbrev pub breaks : Breach → Answer
 breaks breach = record { code = 1; rule = breach_number breach }
+
+-- the event breaks this rule of beats, or of stores and loads
+abbrev pub breaks_commits : CommitBreach → Answer
+breaks_commits breach = record { code = 1; rule = commit_breach_number breach }
 
 -- an argument is out of range
 abbrev pub bad : Answer
@@ -103,6 +124,13 @@ judge_answer (Err judge.Levels) = bad
 judge_answer (Err (judge.Broken breach)) = breaks breach
 judge_answer (Err judge.Memory) = no_memory
 judge_answer (Err judge.Closed) = closed
+
+-- the answer to a beat or a commit that a judge of both judged
+abbrev pub commit_answer : Result ⊤ CommitFault → Answer
+commit_answer (Ok u) = ok
+commit_answer (Err commits.Levels) = bad
+commit_answer (Err (commits.Broken breach)) = breaks_commits breach
+commit_answer (Err commits.Memory) = no_memory
 
 -- bad input, which changes nothing
 abbrev pub IsBad : {A : Type 0} → Answer → A → A → Type 0

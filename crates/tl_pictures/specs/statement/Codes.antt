@@ -1,4 +1,4 @@
--- The numbers of levels, profiles, widths, channels and links in C.
+-- The numbers of levels, flags, profiles, widths, channels and links in C.
 use Rattle.std.specs.Prelude.{ℕ, Bool, true, ◌&&◌, ◌||◌, ◌==◌, List, [], ◌∷◌, nat_lt, Option, Some, None}
 use Rattle.std.specs.Prelude.{if◌then◌else◌}
 use Rattle.tl_beat.specs.declared.beat.Link.{Link}
@@ -19,6 +19,15 @@ level_at code = if code == 0 then level.UL else if code == 1 then level.UH else 
 abbrev pub are_levels : List ℕ → Bool
 are_levels [] = true
 are_levels (code ∷ codes) = nat_lt code 3 && are_levels codes
+
+-- the flag with a code: 1 is true, any other false
+abbrev pub flag_at : ℕ → Bool
+flag_at code = code == 1
+
+-- each code is that of a flag: 0 or 1
+abbrev pub are_flags : List ℕ → Bool
+are_flags [] = true
+are_flags (code ∷ codes) = nat_lt code 2 && are_flags codes
 
 -- the profile with a code: 1 for the first, any other for the second
 abbrev pub profile_at : ℕ → Profile

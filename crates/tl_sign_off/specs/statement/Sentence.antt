@@ -3,10 +3,12 @@ use Rattle.std.specs.Prelude.{ℕ, List, ◌++◌, codes}
 use Rattle.tl_beat.specs.declared.fault.LineFault.TheVariants.{F1, F2, F3, F4, F5, F6}
 use Rattle.tl_params.specs.statement.Names.{rule_name}
 use Rattle.tl_params.specs.statement.Names.{memory_rule_name}
+use Rattle.tl_events.specs.statement.Names.{commit_rule_name}
 use Rattle.tl_explain.specs.statement.Sentences.{in_brackets, memory_sentence, messages_judged, messages_judged_together}
 use Rattle.tl_explain.specs.statement.Sentences.{rule_sentence}
 use Rattle.tl_engine.specs.declared.fault.Fault.{Fault}
-use Rattle.tl_engine.specs.declared.fault.Fault.TheVariants.{Beyond, Event, Header, Line, MemoryRule, Rule}
+use Rattle.tl_engine.specs.declared.fault.Fault.TheVariants.{Beyond, CommitRule, Event, Header, Line, MemoryRule, Rule}
+use Rattle.tl_engine.specs.statement.CommitSentences.{commit_sentence, events_judged}
 use Rattle.tl_engine.specs.statement.Fault.{fault_name}
 
 -- the condition of a fault that is no rule
@@ -28,6 +30,8 @@ abbrev pub sentence_of : Fault → List ℕ
 sentence_of (Rule rule) = rule_name rule ++ in_brackets (messages_judged rule) ++ codes ": " ++ rule_sentence rule
 sentence_of (MemoryRule rule) =
     memory_rule_name rule ++ in_brackets (messages_judged_together rule) ++ codes ": " ++ memory_sentence rule
+sentence_of (CommitRule rule) =
+    commit_rule_name rule ++ codes " (" ++ events_judged rule ++ codes "): " ++ commit_sentence rule
 sentence_of (Line fault) = fault_name (Line fault) ++ codes ": " ++ line_sentence (Line fault)
 sentence_of Header = fault_name Header ++ codes ": " ++ line_sentence Header
 sentence_of Beyond = fault_name Beyond ++ codes ": " ++ line_sentence Beyond

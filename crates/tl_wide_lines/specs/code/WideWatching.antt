@@ -1,9 +1,10 @@
 -- What a handler of traces knows whose header may be of any version.
-use Rattle.std.specs.Prelude.{◌≡◌, ◌++◌, ℕ, Bool, List, [], ◌∷◌, length, Option, Some, None, ⊤}
+use Rattle.std.specs.Prelude.{◌≡◌, ◌++◌, ℕ, Bool, true, false, List, [], ◌∷◌, length, Option, Some, None, ⊤}
 use Rattle.std.specs.declared.alloc.Global.{Global}
 use Rattle.tl_engine.specs.code.LinkWatching.{KnowsLines, judged_for}
 use Rattle.tl_engine.specs.code.TraceJudging.{KnowsBeats}
 use Rattle.tl_engine.specs.declared.fault.Fault.{Fault}
+use Rattle.tl_engine.specs.declared.link_lines.LinkJudge.{LinkJudge}
 use Rattle.tl_engine.specs.declared.link_lines.LinkJudge.TheVariants.{Waiting}
 use Rattle.tl_engine.specs.declared.link_lines.LinkLines.{LinkLines}
 use Rattle.tl_params.specs.declared.level.Level.{Level}
@@ -75,6 +76,18 @@ KnowsBy narrow (Some links) lines text = KnowsWideLinks narrow.together narrow.a
 
 abbrev pub KnowsTraceLines : TraceLines → List (List ℕ) → List ℕ → Type 0
 KnowsTraceLines h lines text = KnowsBy h.narrow h.wide lines text
+
+-- no header has been read
+abbrev pub is_waiting : LinkJudge → Bool
+is_waiting (Waiting alloc) = true
+is_waiting _ = false
+
+abbrev pub waits_by : LinkLines → Option WideLinks → Bool
+waits_by narrow None = is_waiting narrow.judge
+waits_by narrow (Some links) = false
+
+abbrev pub waits : TraceLines → Bool
+waits h = waits_by h.narrow h.wide
 
 -- whether the links are judged together, and their further liberties
 abbrev pub trace_judged_for : TraceLines → Bool × Liberties

@@ -67,7 +67,7 @@ returns-in-Some-lanes g c = λ levels l complete e j fine k all.
     let first : c.saturating_mul-first.result ≡ g.row.W * length burst =
     omega (arith, c.saturating_mul-first.ensures, ap (λ m. g.row.W * m) count, room) in
     gives-judged complete (length levels) link.0 x e c.is_released.result c.is_spoiled.result c.either.result
-    c.are_seen.result (sym all ∙ c.if-not-complete.false) released c.is_spoiled.ensures c.either.ensures c.if-either.false
+    c.gives_each.result (sym all ∙ c.if-not-complete.false) released c.is_spoiled.ensures c.either.ensures c.if-either.false
     (gives-some complete (length levels) link.0 x e c.block_at.result c.saturating_mul-first.result (length burst)
-    c.in-Some-lanes.lanes c.are_seen.result c.in-Some-lanes.is c.block_at.ensures first
-    (c.are_seen.ensures complete (length levels) e k (omega (arith, first, room))))
+    c.in-Some-lanes.lanes c.gives_each.result c.in-Some-lanes.is c.block_at.ensures first
+    (c.gives_each.ensures complete (length levels) link.0 e k messages (omega (arith, first, room))))

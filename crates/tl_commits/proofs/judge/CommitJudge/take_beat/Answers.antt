@@ -2,8 +2,8 @@ use Rattle.std.proofs.Common.{◌∷◌, false, length, refl, sym, ap, subst, �
 use Rattle.tl_beat.specs.declared.beat.Link.{Link}
 use Rattle.tl_together.specs.statement.Coherence.{broken_together}
 use Rattle.tl_together.specs.statement.Knows.{Knows}
-use Rattle.tl_commits.specs.declared.commit.Event.{Event}
-use Rattle.tl_commits.specs.declared.commit.Event.TheVariants as event
+use Rattle.tl_events.specs.declared.commit.Event.{Event}
+use Rattle.tl_events.specs.declared.commit.Event.TheVariants as event
 use Rattle.tl_commits.specs.statement.Events.{beats_of}
 use Rattle.tl_commits.specs.statement.Commits.{broken_report}
 use Rattle.tl_commits.proofs.BeatsJudged.{beat-refused, beat-taken, fine-beat, none-broken, refused-beat, table-met}
@@ -49,13 +49,15 @@ returns-clause-knows g c = λ levels complete l e k.
     let knows = c.in-Ok-try_push.ensures.knows levels l (beats_of e) false k.judge_is in
     let fine = fine-beat levels l (c.args.link, c.args.beat.now) e
     (c.in-Ok-try_push.ensures.answer levels l (beats_of e) false k.judge_is) in
+    let table = table-recorded c.next_values.new.table c.record.new.self.values complete n c.in-Ok.next x e r.values_are
+    (c.in-Ok.ensures.next levels l complete e k.judge_is fine k.values_are) in
     record {
       judge_is = subst (λ j. Knows j levels l (beats_of (x ∷ e)) false) (sym r.judge_is) knows;
       levels_are = ap (λ v. v.items) r.levels_are ∙ k.levels_are;
       complete_are = ap (λ v. v.items) r.complete_are ∙ k.complete_are;
-      loads_are = loads-other n x e old.loads.items c.record.new.self.loads.items k.loads_are
-          (all-renewed c.try_push.new.self levels l (x ∷ e) old.loads.items c.record.new.self.loads.items r.loads_are knows
-          k.loads_are.pieces) (λ link piece. refl) (λ link piece. refl);
-      values_are = table-recorded c.next_values.new.table c.record.new.self.values complete n c.in-Ok.next x e
-          r.values_are (c.in-Ok.ensures.next levels l complete e k.judge_is fine k.values_are);
+      loads_are = loads-other complete n x e old.loads.items c.record.new.self.loads.items k.loads_are
+          (all-renewed c.try_push.new.self c.record.new.self.values complete levels l (x ∷ e) old.loads.items
+          c.record.new.self.loads.items (rw k.complete_are at r.loads_are) knows table k.loads_are.pieces)
+          (λ link piece. refl) (λ link piece. refl);
+      values_are = table;
     }

@@ -3,9 +3,9 @@ use Rattle.std.specs.Prelude.{filter, not, None}
 use Rattle.tl_beat.specs.declared.beat.Link.{Link}
 use Rattle.tl_together.specs.statement.Knows.{Knows}
 use Rattle.tl_commits.specs.code.Loading.{is_of}
-use Rattle.tl_commits.specs.declared.commit.Commit.TheVariants as commit
-use Rattle.tl_commits.specs.declared.commit.Event.{Event}
-use Rattle.tl_commits.specs.declared.commit.Event.TheVariants as event
+use Rattle.tl_events.specs.declared.commit.Commit.TheVariants as commit
+use Rattle.tl_events.specs.declared.commit.Event.{Event}
+use Rattle.tl_events.specs.declared.commit.Event.TheVariants as event
 use Rattle.tl_commits.specs.statement.Events.{beats_of}
 use Rattle.tl_commits.specs.statement.Breaches.{breach_of}
 use Rattle.tl_commits.proofs.CommitsJudged.{commit-refused}
@@ -34,15 +34,18 @@ returns-clause-knows g c = λ levels complete l e k lt is.
     let mid = c.forget.new.loads.items in
     let judge = subst (λ j. Knows j levels l (beats_of e) false) (sym s.judge_is) k.judge_is in
     let forgot = c.forget.ensures ∙ ap (λ v. filter (λ y. not (is_of c.args.link.0 c.args.piece y)) v.items) s.loads_are in
+    let complete_is = ap (λ v. v.items) s.complete_are ∙ k.complete_are in
+    let table = table-recorded c.values_loaded.new.self.values c.record.new.self.values complete n c.in-Ok.next x e
+    r.values_are (c.in-Ok.ensures.next levels complete l e k lt is) in
     record {
       judge_is = subst (λ j. Knows j levels l (beats_of e) false) (sym r.judge_is) judge;
       levels_are = ap (λ v. v.items) r.levels_are ∙ ap (λ v. v.items) s.levels_are ∙ k.levels_are;
-      complete_are = ap (λ v. v.items) r.complete_are ∙ ap (λ v. v.items) s.complete_are ∙ k.complete_are;
-      loads_are = loads-load n c.args.link c.args.piece c.args.value e old.loads.items mid
+      complete_are = ap (λ v. v.items) r.complete_are ∙ complete_is;
+      loads_are = loads-load complete n c.args.link c.args.piece c.args.value e old.loads.items mid
           c.record.new.self.loads.items k.loads_are forgot
-          (all-renewed c.values_loaded.new.self.judge levels l (x ∷ e) mid c.record.new.self.loads.items r.loads_are judge
+          (all-renewed c.values_loaded.new.self.judge c.record.new.self.values complete levels l (x ∷ e) mid
+          c.record.new.self.loads.items (rw complete_is at r.loads_are) judge table
           (rw forgot (pieces-filter n (λ y. not (is_of c.args.link.0 c.args.piece y)) old.loads.items
           k.loads_are.pieces)));
-      values_are = table-recorded c.values_loaded.new.self.values c.record.new.self.values complete n c.in-Ok.next x e
-          r.values_are (c.in-Ok.ensures.next levels complete l e k lt is);
+      values_are = table;
     }

@@ -1,9 +1,9 @@
 use Rattle.std.proofs.Common.{◌∷◌, length, refl, sym, ap, subst, false, ◌∙◌}
 use Rattle.tl_beat.specs.declared.beat.Link.{Link}
 use Rattle.tl_together.specs.statement.Knows.{Knows}
-use Rattle.tl_commits.specs.declared.commit.Commit.TheVariants as commit
-use Rattle.tl_commits.specs.declared.commit.Event.{Event}
-use Rattle.tl_commits.specs.declared.commit.Event.TheVariants as event
+use Rattle.tl_events.specs.declared.commit.Commit.TheVariants as commit
+use Rattle.tl_events.specs.declared.commit.Event.{Event}
+use Rattle.tl_events.specs.declared.commit.Event.TheVariants as event
 use Rattle.tl_commits.specs.statement.Events.{beats_of}
 use Rattle.tl_commits.proofs.CommitsJudged.{commit-refused}
 use Rattle.tl_commits.proofs.Loads.{all-renewed}
@@ -27,13 +27,15 @@ returns-clause-knows g c = λ levels complete l e k lt is.
     let r = c.record.ensures in
     let n = length levels in
     let old = c.args.self.now in
+    let table = table-recorded c.stored_values-next.new.table c.record.new.self.values complete n c.in-Ok.next x e
+    r.values_are (c.in-Ok.ensures.next levels l complete c.args.link e k.judge_is is k.values_are) in
     record {
       judge_is = subst (λ j. Knows j levels l (beats_of e) false) (sym r.judge_is) k.judge_is;
       levels_are = ap (λ v. v.items) r.levels_are ∙ k.levels_are;
       complete_are = ap (λ v. v.items) r.complete_are ∙ k.complete_are;
-      loads_are = loads-other n x e old.loads.items c.record.new.self.loads.items k.loads_are
-          (all-renewed old.judge levels l (x ∷ e) old.loads.items c.record.new.self.loads.items r.loads_are k.judge_is
-          k.loads_are.pieces) (λ link piece. refl) (λ link piece. refl);
-      values_are = table-recorded c.stored_values-next.new.table c.record.new.self.values complete n c.in-Ok.next x e
-          r.values_are (c.in-Ok.ensures.next levels l complete c.args.link e k.judge_is is k.values_are);
+      loads_are = loads-other complete n x e old.loads.items c.record.new.self.loads.items k.loads_are
+          (all-renewed old.judge c.record.new.self.values complete levels l (x ∷ e) old.loads.items
+          c.record.new.self.loads.items (rw k.complete_are at r.loads_are) k.judge_is table k.loads_are.pieces)
+          (λ link piece. refl) (λ link piece. refl);
+      values_are = table;
     }

@@ -12,7 +12,7 @@ returns g c = (
     judge_is = c.in-Ok.ensures.1;
     levels_are = c.in-Ok-from_slice.ensures.items;
     complete_are = c.in-Ok-from_slice-2.ensures.items;
-    loads_are = rw c.new.ensures.items (no-loads (length c.args.levels.now));
+    loads_are = rw c.new.ensures.items (no-loads c.args.complete.now (length c.args.levels.now));
     values_are = table-first g.row.W c.new-2.result c.args.complete.now (length c.args.levels.now) c.new-2.ensures;
   },
 )

@@ -1,0 +1,6 @@
+pub mod AsBefore
+pub mod EventsJudged
+pub mod JudgedLines
+pub mod JudgedOnce
+pub mod MarkedHeaders
+pub mod Pushed

@@ -1,0 +1,341 @@
+-- Headers of traces with commits: what was spelled is read, and what was read was spelled so.
+use Rattle.std.proofs.Common.{◌≡◌, ◌≢◌, ◌≤◌, ◌*◌, ℕ, zero, suc, List, [], ◌∷◌, ◌++◌, length, refl, ap, sym, ◌∙◌}
+use Rattle.std.proofs.Common.{append_assoc, arith, cond, false, inl, inr, length-append, true}
+use Rattle.std.proofs.lemmas.Bool.{eqb-true}
+use Rattle.std.specs.Io.BufRead.{ends_with_byte}
+use Rattle.std.specs.Prelude.{◌==◌, ◌⊎◌, Bool, Option, Some, None, codes, option_map, ⊤}
+use Rattle.tl_beat.proofs.SpelledLines.{ends_with_byte-line}
+use Rattle.tl_command.proofs.LibertyWords.{liberties_again, liberties_taken, word-short}
+use Rattle.tl_command.specs.code.LibertyReading.{liberties_at}
+use Rattle.tl_command.specs.statement.LibertyWords.{LacksComma, SpellsLiberties}
+use Rattle.tl_engine.proofs.LinksHeaders.{front-short, front_again, front_taken}
+use Rattle.tl_engine.specs.code.HeadReading.{front_at}
+use Rattle.tl_engine.specs.statement.LinksHeader.{fourth_front}
+use Rattle.tl_engine.specs.statement.Lines.{IsOpen}
+use Rattle.tl_params.proofs.Headers.{is_end-taken, level-short, level_taken, more_levels}
+use Rattle.tl_params.proofs.Options.{some_pair}
+use Rattle.tl_params.proofs.UpTo.{all-so, up_to-end, up_to-step}
+use Rattle.tl_params.specs.code.HeaderReading.{level_at, onto}
+use Rattle.tl_params.specs.declared.level.Level.{Level}
+use Rattle.tl_params.specs.declared.level.Level.TheVariants as level
+use Rattle.tl_params.specs.declared.liberties.Liberties.{Liberties}
+use Rattle.tl_params.specs.declared.width.Width.{Width}
+use Rattle.tl_params.specs.statement.Config.{IsCount}
+use Rattle.tl_params.specs.statement.Header.{is_end, level_text}
+use Rattle.tl_params.specs.statement.Liberties.{united}
+use Rattle.tl_commit_lines.specs.code.HeadReading.{links_at, marked, marked_at, unmarked, with_mark}
+use Rattle.tl_commit_lines.specs.declared.header.CommitHeader.{CommitHeader}
+use Rattle.tl_commit_lines.specs.declared.header.MarkedLevel.{MarkedLevel}
+use Rattle.tl_commit_lines.specs.statement.MarkedHeader.{AreMarkable, IsMarkedHeader, NamesMarked, SpellsMarked, links_text, mark_text}
+use Rattle.tl_commit_lines.specs.statement.MarkedHeader.{some_marked}
+
+-- ---- a level and its mark
+
+-- only caches store
+abbrev IsMarkable : MarkedLevel → Type 0
+IsMarkable x = x.complete ≡ true → x.level ≡ level.C
+
+abbrev marked_with : List ℕ → MarkedLevel × List ℕ
+marked_with rest = (marked, rest)
+
+abbrev unmarked_with : Level → List ℕ → MarkedLevel × List ℕ
+unmarked_with l rest = (unmarked l, rest)
+
+-- what is behind the level that was read, and its level
+record IsMark (l : Level) (bytes : List ℕ) (x : MarkedLevel) (rest : List ℕ) : Type 0 where
+  level_is : x.level ≡ l
+  behind : bytes ≡ mark_text x.complete ++ rest
+  markable : IsMarkable x
+
+no-mark : (l : Level) (bytes rest : List ℕ) (x : MarkedLevel) → unmarked_with l bytes ≡ (x, rest) → IsMark l bytes x rest
+no-mark l bytes rest x is =
+    let same = ap (λ (z : MarkedLevel × List ℕ). z.0) is in
+    let ends = ap (λ (z : MarkedLevel × List ℕ). z.1) is in
+    rw (← same, ← ends) (record { level_is = refl; behind = refl; markable = λ no. absurd cc })
+
+mark_taken : (l : Level) (bytes rest : List ℕ) (x : MarkedLevel) → with_mark l bytes ≡ (x, rest) → IsMark l bytes x rest
+mark_taken level.UL bytes rest x is = no-mark level.UL bytes rest x is
+mark_taken level.UH bytes rest x is = no-mark level.UH bytes rest x is
+mark_taken level.C [] rest x is = no-mark level.C [] rest x is
+mark_taken level.C (c ∷ bytes) rest x is = go (c == 43) refl is
+  where
+    go : (b : Bool) → (c == 43) ≡ b → cond b (marked_with bytes) (unmarked_with level.C (c ∷ bytes)) ≡ (x, rest)
+        → IsMark level.C (c ∷ bytes) x rest
+    go true plus same =
+        let is_marked = ap (λ (z : MarkedLevel × List ℕ). z.0) same in
+        let ends = ap (λ (z : MarkedLevel × List ℕ). z.1) same in
+        rw (← is_marked, ← ends, eqb-true c 43 plus) (record { level_is = refl; behind = refl; markable = λ is. refl })
+    go false plus same = no-mark level.C (c ∷ bytes) rest x same
+
+-- the bytes of a level with its mark
+abbrev pub field : MarkedLevel → List ℕ → List ℕ
+field x rest = 32 ∷ (level_text x.level ++ (mark_text x.complete ++ rest))
+
+some-is : {A : Type 0} {x y : A} → Some x ≡ Some y → x ≡ y
+some-is e = cc
+
+marked_taken : (bytes rest : List ℕ) (x : MarkedLevel) → marked_at bytes ≡ Some (x, rest)
+    → (bytes ≡ field x rest) × IsMarkable x
+marked_taken bytes rest x e = go (level_at bytes) refl e
+  where
+    go : (o : Option (Level × List ℕ)) → level_at bytes ≡ o → option_map (λ y. with_mark y.0 y.1) o ≡ Some (x, rest)
+        → (bytes ≡ field x rest) × IsMarkable x
+    go None is f = absurd cc
+    go (Some (l, left)) is f =
+        let it = mark_taken l left rest x (some-is f) in (
+          level_taken bytes left l is ∙ ap (λ (k : Level). 32 ∷ (level_text k ++ left)) (sym it.level_is)
+              ∙ ap (λ (b : List ℕ). 32 ∷ (level_text x.level ++ b)) it.behind,
+          it.markable,
+        )
+
+-- where no level is read, none is read with its mark
+pub no-level : (bytes : List ℕ) → level_at bytes ≡ None → marked_at bytes ≡ None
+no-level bytes none = rw none refl
+
+-- the bytes begin with no plus
+abbrev pub NoPlus : List ℕ → Type 0
+NoPlus [] = ⊤
+NoPlus (c ∷ rest) = (c == 43) ≡ false
+
+mark_again : (l : Level) (b : Bool) (rest : List ℕ) → (b ≡ true → l ≡ level.C) → NoPlus rest
+    → marked_at (32 ∷ (level_text l ++ (mark_text b ++ rest))) ≡ Some (record { level = l; complete = b }, rest)
+mark_again l true rest markable none = rw (markable refl) refl
+mark_again level.UL false rest markable none = refl
+mark_again level.UH false rest markable none = refl
+mark_again level.C false [] markable none = refl
+mark_again level.C false (c ∷ rest) markable none = rw none refl
+
+marked_again : (x : MarkedLevel) (rest : List ℕ) → IsMarkable x → NoPlus rest → marked_at (field x rest) ≡ Some (x, rest)
+marked_again x rest markable none = mark_again x.level x.complete rest markable none
+
+-- ---- all of them
+
+-- the links of a header and the end of its line
+abbrev pub tail : List MarkedLevel → List ℕ
+tail links = links_text links ++ codes "\n"
+
+-- the bytes are those of these links and a line feed
+abbrev AreLinks : List ℕ → List MarkedLevel → Type 0
+AreLinks bytes links = (bytes ≡ tail links) × AreMarkable links
+
+one_more : (bytes rest : List ℕ) (x : MarkedLevel) (links : List MarkedLevel) → marked_at bytes ≡ Some (x, rest)
+    → AreLinks rest links → AreLinks bytes (x ∷ links)
+one_more bytes rest x links is (text, markable) =
+    let (front, of_cache) = marked_taken bytes rest x is in
+    (rw (front, text) (simp append_assoc), (of_cache, markable))
+
+none_at_end : (bytes : List ℕ) → is_end bytes ≡ true → AreLinks bytes []
+none_at_end bytes end = (is_end-taken bytes end, tt)
+
+pub links_taken : (n : ℕ) (bytes : List ℕ) (links : List MarkedLevel) → links_at n bytes ≡ Some links
+    → ((bytes ≡ tail links) × AreMarkable links) × (length links ≤ n)
+links_taken n bytes links e = all-so marked_at AreLinks none_at_end one_more n bytes links e
+
+no_plus : (links : List MarkedLevel) → NoPlus (tail links)
+no_plus [] = refl
+no_plus (x ∷ links) = refl
+
+more_links : (x : MarkedLevel) (rest : List ℕ) → is_end (field x rest) ≡ false
+more_links x rest = more_levels x.level (mark_text x.complete ++ rest)
+
+tail_more : (x : MarkedLevel) (links : List MarkedLevel) → tail (x ∷ links) ≡ field x (tail links)
+tail_more x links = simp append_assoc
+
+pub links_again : (n : ℕ) (links : List MarkedLevel) → length links ≤ n → AreMarkable links
+    → links_at n (tail links) ≡ Some links
+links_again n [] few markable = up_to-end marked_at n (10 ∷ []) refl
+links_again zero (x ∷ links) few markable = absurd (omega arith)
+links_again (suc n) (x ∷ links) few markable =
+    ap (links_at (suc n)) (tail_more x links)
+    ∙ up_to-step marked_at (suc n) n (field x (tail links)) (tail links) x refl (more_links x (tail links))
+    (marked_again x (tail links) markable.0 (no_plus links))
+    ∙ ap (onto x) (links_again n links (omega arith) markable.1)
+
+-- ---- a whole header
+
+-- a header with a mark has a link
+some-many : (links : List MarkedLevel) → some_marked links ≡ true → length links ≤ 16 → IsCount (length links)
+some-many [] some few = absurd cc
+some-many (x ∷ links) some few = (omega arith, few)
+
+-- the bytes begin with a comma
+abbrev begins_comma : List ℕ → Bool
+begins_comma [] = false
+begins_comma (c ∷ rest) = c == 44
+
+lacks_comma : (links : List MarkedLevel) → IsCount (length links) → LacksComma (tail links)
+lacks_comma [] many rest e = absurd (omega (arith, many.0))
+lacks_comma (x ∷ links) many rest e = let both : false ≡ true = ap begins_comma e in absurd cc
+
+pub header_spelled : (line rest left word : List ℕ) (width : Width) (may : Liberties) (links : List MarkedLevel)
+    → front_at line ≡ Some (width, rest) → SpellsLiberties word may → rest ≡ word ++ left
+    → links_at 16 left ≡ Some links → some_marked links ≡ true → SpellsMarked line width may links
+header_spelled line rest left word width may links front spells text read some =
+    let (are, few) = links_taken 16 left links read in
+    let (ends, markable) = are in
+    record {
+      word = word;
+      spells = spells;
+      is_line = front_taken line rest width front ∙ ap (λ (x : List ℕ). fourth_front width ++ x)
+          (text ∙ ap (λ (x : List ℕ). word ++ x) ends);
+      so_many = some-many links some few;
+      markable = markable;
+      marked = some;
+    }
+
+module _ (line : List ℕ) (width : Width) (may : Liberties) (links : List MarkedLevel)
+    (h : SpellsMarked line width may links) where
+  front_is : front_at line ≡ Some (width, h.word ++ tail links)
+  front_is = ap front_at h.is_line ∙ front_again width (h.word ++ tail links)
+
+  pub marked_unread : front_at line ≢ None
+  marked_unread none = let some = front_is in cc
+
+  pub marked_behind : (x : Width × List ℕ) → front_at line ≡ Some x → (x.0 ≡ width) × (x.1 ≡ h.word ++ tail links)
+  marked_behind x is = some_pair x (width, h.word ++ tail links) (sym is ∙ front_is)
+
+  pub no_comma : LacksComma (tail links)
+  no_comma = lacks_comma links h.so_many
+
+  pub links_are : (left : List ℕ) → left ≡ tail links → links_at 16 left ≡ Some links
+  links_are left is = ap (links_at 16) is ∙ links_again 16 links h.so_many.1 h.markable
+
+-- links that are there are read, as these
+pub not_read : (links : List MarkedLevel) (left : List ℕ) → links_at 16 left ≡ None → links_at 16 left ≡ Some links → ⊥
+not_read links left none some = let both : None ≡ Some links = sym none ∙ some in absurd cc
+
+pub same_links : (found links : List MarkedLevel) (left : List ℕ) → links_at 16 left ≡ Some found
+    → links_at 16 left ≡ Some links → found ≡ links
+same_links found links left is also = some-is (sym is ∙ also)
+
+-- ---- a line is a header of a trace with commits, or none
+
+abbrev MarkedOrNone : List ℕ → Type 0
+MarkedOrNone line =
+    ((width : Width) × (may : Liberties) × (links : List MarkedLevel) × SpellsMarked line width may links)
+    ⊎ ((width : Width) (may : Liberties) (links : List MarkedLevel) → ¬ SpellsMarked line width may links)
+
+module _ (line : List ℕ) where
+  at_links : (width : Width) (rest left word : List ℕ) (may : Liberties) → front_at line ≡ Some (width, rest)
+      → SpellsLiberties word may → rest ≡ word ++ left → liberties_at rest ≡ Some (may, left)
+      → (o : Option (List MarkedLevel)) → links_at 16 left ≡ o → MarkedOrNone line
+  at_links width rest left word may front spells text named o is = go o is
+    where
+      unlike : (wide : Width) (other : Liberties) (links : List MarkedLevel) → SpellsMarked line wide other links
+          → links_at 16 left ≡ Some links
+      unlike wide other links h =
+          let behind = (marked_behind line wide other links h (width, rest) front).1 in
+          let read = liberties_again h.word (tail links) other h.spells (no_comma line wide other links h) in
+          let (m, ends) = some_pair (may, left) (other, tail links) (sym named ∙ ap liberties_at behind ∙ read) in
+          links_are line wide other links h left ends
+
+      none_read : (wide : Width) (other : Liberties) (links : List MarkedLevel) → links_at 16 left ≡ None
+          → ¬ SpellsMarked line wide other links
+      none_read wide other links none h = let some = unlike wide other links h in absurd cc
+
+      not_marked : (found links : List MarkedLevel) (wide : Width) (other : Liberties)
+          → links_at 16 left ≡ Some found → some_marked found ≡ false → ¬ SpellsMarked line wide other links
+      not_marked found links wide other is none h =
+          let same : Some found ≡ Some links = sym is ∙ unlike wide other links h in
+          let links_same : found ≡ links = cc in
+          let some = h.marked in
+          let both : false ≡ true = sym none ∙ ap some_marked links_same ∙ some in
+          absurd cc
+
+      go : (o : Option (List MarkedLevel)) → links_at 16 left ≡ o → MarkedOrNone line
+      go None is = inr (λ wide other links. none_read wide other links is)
+      go (Some links) is = with_some (some_marked links) refl
+        where
+          with_some : (b : Bool) → some_marked links ≡ b → MarkedOrNone line
+          with_some true some = inl (width, may, links, header_spelled line rest left word width may links front spells text is some)
+          with_some false none = inr (λ wide other others. not_marked links others wide other is none)
+
+  at_liberties : (width : Width) (rest : List ℕ) → front_at line ≡ Some (width, rest)
+      → (o : Option (Liberties × List ℕ)) → liberties_at rest ≡ o → MarkedOrNone line
+  at_liberties width rest front None is = inr (λ wide other links. no wide other links)
+    where
+      no : (wide : Width) (other : Liberties) (links : List MarkedLevel) → ¬ SpellsMarked line wide other links
+      no wide other links h =
+          let behind = (marked_behind line wide other links h (width, rest) front).1 in
+          let read = liberties_again h.word (tail links) other h.spells (no_comma line wide other links h) in
+          let some = ap liberties_at behind ∙ read in
+          absurd cc
+  at_liberties width rest front (Some (may, left)) is =
+      let (word, spells, text) = liberties_taken rest left may is in
+      at_links width rest left word may front spells text is (links_at 16 left) refl
+
+  at_front : (o : Option (Width × List ℕ)) → front_at line ≡ o → MarkedOrNone line
+  at_front None is = inr (λ wide other links h. absurd (marked_unread line wide other links h is))
+  at_front (Some (width, rest)) is = at_liberties width rest is (liberties_at rest) refl
+
+-- with what is allowed besides
+abbrev pub NamedOrNone : Liberties → List ℕ → Type 0
+NamedOrNone allow line =
+    ((width : Width) × (may : Liberties) × (links : List MarkedLevel) × NamesMarked allow line width may links)
+    ⊎ ((width : Width) (may : Liberties) (links : List MarkedLevel) → ¬ NamesMarked allow line width may links)
+
+pub named_or_none : (allow : Liberties) (line : List ℕ) → NamedOrNone allow line
+named_or_none allow line = go (at_front line (front_at line) refl)
+  where
+    go : MarkedOrNone line → NamedOrNone allow line
+    go (inl (width, own, links, h)) = inl (width, united own allow, links, (own, h, refl))
+    go (inr none) = inr (λ width may links named. none width named.0 links named.1)
+
+-- nothing is named by a line that is no such header
+pub none_for : (allow : Liberties) (line : List ℕ)
+    → ((width : Width) (may : Liberties) (links : List MarkedLevel) → ¬ SpellsMarked line width may links)
+    → (width : Width) (may : Liberties) (links : List MarkedLevel) → ¬ NamesMarked allow line width may links
+none_for allow line none width may links (own, named, same) = none width own links named
+
+pub unnamed : (allow : Liberties) (line : List ℕ) (found : Option CommitHeader) → found ≡ None
+    → ((width : Width) (may : Liberties) (links : List MarkedLevel) → SpellsMarked line width may links
+    → IsMarkedHeader found width may links)
+    → (width : Width) (may : Liberties) (links : List MarkedLevel) → ¬ NamesMarked allow line width may links
+unnamed allow line found none every = none_for allow line (λ width may links h. rw none at (every width may links h))
+
+-- ---- a header's line ends in LF, and is short
+
+mark-short : (b : Bool) → length (mark_text b) ≤ 1
+mark-short true = omega arith
+mark-short false = omega arith
+
+links-short : (links : List MarkedLevel) → length (links_text links) ≤ 4 * length links
+links-short [] = omega arith
+links-short (x ∷ links) =
+    omega (
+      arith,
+      length-append (level_text x.level) (mark_text x.complete ++ links_text links),
+      length-append (mark_text x.complete) (links_text links),
+      level-short x.level,
+      mark-short x.complete,
+      links-short links,
+    )
+
+marked_open : (line : List ℕ) → IsOpen line → (width : Width) (may : Liberties) (links : List MarkedLevel)
+    → ¬ SpellsMarked line width may links
+marked_open line (inl ends) width may links h =
+    let text : line ≡ (fourth_front width ++ (h.word ++ links_text links)) ++ 10 ∷ [] =
+    h.is_line ∙ ap (λ (x : List ℕ). fourth_front width ++ x) (sym (append_assoc h.word (links_text links) (10 ∷ [])))
+    ∙ sym (append_assoc (fourth_front width) (h.word ++ links_text links) (10 ∷ [])) in
+    let lf : ends_with_byte 10 line ≡ true =
+    rw text (ends_with_byte-line (fourth_front width ++ (h.word ++ links_text links))) in
+    absurd cc
+marked_open line (inr long) width may links h =
+    let size = ap (λ (x : List ℕ). length x) h.is_line in
+    omega (
+      arith,
+      long,
+      size,
+      front-short width,
+      word-short h.word may h.spells,
+      links-short links,
+      h.so_many.1,
+      length-append (fourth_front width) (h.word ++ tail links),
+      length-append h.word (tail links),
+      length-append (links_text links) (10 ∷ []),
+    )
+
+-- so a line that is open names none
+pub open_marked : (allow : Liberties) (line : List ℕ) → IsOpen line → (width : Width) (may : Liberties)
+    (links : List MarkedLevel) → ¬ NamesMarked allow line width may links
+open_marked allow line is width may links (own, named, same) = marked_open line is width own links named

@@ -1,0 +1,2 @@
+pub mod EventWatching
+pub mod HeadReading

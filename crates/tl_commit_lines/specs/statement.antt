@@ -1,0 +1,2 @@
+pub mod JudgedEvents
+pub mod MarkedHeader

@@ -1,0 +1,115 @@
+//! Reads the header of a trace with commits.
+
+ghost use Rattle.std.specs.Prelude.{◌≡◌, List, IfSome};
+ghost use Rattle.tl_params.specs.code.HeaderReading.{Gives, GivesAll};
+ghost use Rattle.tl_params.specs.declared.liberties.Liberties.{Liberties};
+ghost use Rattle.tl_params.specs.declared.width.Width.{Width};
+ghost use Rattle.tl_commit_lines.specs.code.HeadReading.{ReadsMarked, links_at, marked_at};
+ghost use Rattle.tl_commit_lines.specs.code.HeadReading as code;
+ghost use Rattle.tl_commit_lines.specs.declared.header.MarkedLevel.{MarkedLevel};
+ghost use Rattle.tl_commit_lines.specs.statement.MarkedHeader.{IsMarkedHeader, SpellsMarked, some_marked};
+
+use arrayvec::ArrayVec;
+use tl_command::liberties::front_liberties;
+use tl_engine::links_header::front;
+use tl_params::config::MOST_CLIENTS;
+use tl_params::header::{front_level, is_end};
+use tl_params::level::Level;
+use tl_params::liberties::Liberties;
+use tl_params::width::Width;
+
+/// A link in a header: its level, and whether all its stores are in the trace, as `C+` says.
+#[derive(Clone, Copy, Debug, Default, PartialEq, Eq)]
+pub struct MarkedLevel {
+    pub level: Level,
+    pub complete: bool,
+}
+
+/// The header of a trace with commits: the bytes of a beat, the liberties of the links, and the links from link 0 on.
+#[derive(Drop)]
+pub struct CommitHeader {
+    pub width: Width,
+    pub may: Liberties,
+    pub links: ArrayVec<MarkedLevel, MOST_CLIENTS>,
+}
+
+/// A level with the mark after it, if it is C and has one, and the rest.
+fn with_mark(level: Level, bytes: &[u8]) -> (MarkedLevel, &[u8])
+    ensures { (result.0, result.1.now) ≡ code.with_mark level bytes.now }
+{
+    match (level, bytes) {
+        (Level::C, [b'+', rest @ ..]) => (
+            MarkedLevel {
+                level,
+                complete: true,
+            },
+            rest,
+        ),
+        _ => (
+            MarkedLevel {
+                level,
+                complete: false,
+            },
+            bytes,
+        ),
+    }
+}
+
+/// The level at the front, after a space, with its mark, and the rest.
+fn front_marked(bytes: &[u8]) -> Option<(MarkedLevel, &[u8])>
+    ensures { Gives result (marked_at bytes.now) }
+{
+    let (level, rest) = front_level(bytes)?;
+    Some(with_mark(level, rest))
+}
+
+/// The links up to the LF that ends the line, at most 16.
+fn links(bytes: &[u8]) -> Option<ArrayVec<MarkedLevel, MOST_CLIENTS>>
+    ensures { GivesAll result (links_at 16 bytes.now) }
+{
+    let mut links = ArrayVec::new();
+    let mut rest = bytes;
+    while !is_end(rest) {
+        let (link, after) = front_marked(rest)?;
+        if links.try_push(link).is_err() {
+            return None;
+        }
+        rest = after;
+    }
+    Some(links)
+}
+
+/// Whether one of the links has the mark.
+fn some_marked(links: &[MarkedLevel]) -> bool
+    ensures { result ≡ some_marked links.now }
+{
+    links.iter().any(|link| link.complete)
+}
+
+/// Reads the first line of a trace with commits, with its LF: `tltrace 4 W LIBERTIES LEVELS..`, of which at least one
+/// level is `C+`. A line of another form is no such header.
+pub fn read_marked(line: &[u8]) -> Option<CommitHeader>
+    // The line spells the header that is read, and each header that a line spells is read.
+    ensures spelled { IfSome result (λ header. SpellsMarked line.now header.width header.may header.links.items) }
+    ensures every_spelling { (width : Width) (may : Liberties) (links : List MarkedLevel) →
+        SpellsMarked line.now width may links → IsMarkedHeader result width may links }
+{
+    let (width, rest) = front(line)?;
+    let (may, rest) = front_liberties(rest)?;
+    let links = links(rest)?;
+    if !some_marked(links.as_slice()) {
+        return None;
+    }
+    Some(CommitHeader { width, may, links })
+}
+
+/// Reads the header of a trace with commits. Its links have the liberties that it names and those of `allow`.
+pub fn read_marked_for(allow: Liberties, line: &[u8]) -> Option<CommitHeader>
+    ensures { ReadsMarked allow line.now result }
+{
+    let Some(header) = read_marked(line) else {
+        return None;
+    };
+    let may = header.may.union(allow);
+    Some(CommitHeader { may, ..header })
+}

@@ -1,6 +1,0 @@
-use Rattle.tl_commits.specs.code.Loading.{IsRenewed}
-use Rattle.tl_memory.proofs.Keeping.{IsDone}
-use Rattle.tl_commits.proofs.loading.renew.Given as goal
-
-abbrev pub invariant-loop-n : goal.invariant-loop-n
-invariant-loop-n g l = IsDone (IsRenewed l.judge) l.n l.initial.loads.items l.loads.items

@@ -1,0 +1,8 @@
+-- Sets of values of a byte, by the bits of their words.
+use Rattle.std.specs.Prelude.{ℕ, ◌/◌, ◌%◌, Bool, slice_index_or}
+use Rattle.tl_burst.specs.statement.Burst.{bit}
+use Rattle.tl_commits.specs.declared.byte_set.ByteSet.{ByteSet}
+
+-- the value is one of the set
+abbrev pub has : ByteSet → ℕ → Bool
+has set v = bit (slice_index_or set.words (v / 64) 0) (v % 64)

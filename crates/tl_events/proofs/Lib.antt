@@ -1,0 +1,5 @@
+pub mod CommitFaults
+pub mod CommitLines
+pub mod CommitSpelled
+pub mod EventLines
+pub mod Pieces

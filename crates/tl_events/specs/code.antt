@@ -1,0 +1,2 @@
+pub mod CommitReading
+pub mod FromLeft

@@ -1,0 +1,3 @@
+pub mod CommitLine
+pub mod EventLine
+pub mod Names

@@ -14,6 +14,7 @@ LIBRARY = os.path.join(OUT, "libhefrudyl.a")
 
 WATCH = ["sv/tl_pkg.sv", "sv/tl_unknown.sv", "sv/tl_pending.sv", "sv/tl_port_watch.sv"]
 SV = WATCH + ["sv/tl_manager_recorder.sv", "sv/tl_link_recorder.sv"]
+COMMIT_RECORDER = ["sv/tl_commit_watch.sv", "sv/tl_commit_recorder.sv"]
 CHECKERS = ["sv/tl_manager_checker.sv", "sv/tl_link_checker.sv"]
 INCLUDES = "-I" + os.path.join(HERE, "sv")
 EXAMPLE = [f"example/{name}.sv" for name in (
@@ -45,6 +46,25 @@ LIBERAL_BUGS = {
     5: ("H12", "agree"),
     6: ("H13", "differ"),
     7: (None, "differ"),
+}
+
+# The bugs of both caches that their processors' stores and loads show: the rule, the cycle in which it is broken with seed 1, and
+# the rule that the beats alone break. The bench itself differs at each of them.
+COPY_BUGS = {
+    2: ("M7", 290, None),
+    10: ("M7", 1185, None),
+    11: ("M7", 1607, None),
+    12: ("M7", 295, None),
+    13: ("M7", 1387, None),
+    14: ("M5", 1349, None),
+    15: ("M6", 12321, None),
+    16: ("M5", 1023, None),
+}
+LIBERAL_COPY_BUGS = {
+    1: ("M7", 100, None),
+    6: ("M5", 661, "H13"),
+    7: ("M6", 7991, None),
+    8: ("M7", 100, None),
 }
 
 TESTS = []
@@ -139,6 +159,11 @@ def proved(width=8, checkers="CHECKED", base=0):
 
 def recorded():
     return verilator("recorded", "bench_recorded", SV + EXAMPLE)
+
+
+def recorded_commits(*flags):
+    """The example whose trace has what the caches' processors store and load."""
+    return verilator("with_commits" + "".join(flags), "bench_recorded", SV + COMMIT_RECORDER + EXAMPLE, "-DCOMMITS", *flags)
 
 
 def shared(*flags):

@@ -13,10 +13,10 @@ extern "C" {
 
 enum tl_code {
   TL_OK = 0,           /* done: a beat breaks no rule */
-  TL_BROKEN = 1,       /* the beat breaks the rule that the answer names; what judged it is closed */
+  TL_BROKEN = 1,       /* the beat or commit breaks the rule that the answer names; what judged it is closed */
   TL_BAD_ARGUMENT = 2, /* an argument is out of range, or the handle is empty or not yet freed; nothing changed */
   TL_NO_MEMORY = 3,    /* there is no memory; nothing changed (of a wide beat, tl_monitor_push_wide says what did) */
-  TL_CLOSED = 4,       /* an earlier beat broke a rule */
+  TL_CLOSED = 4,       /* an earlier beat or commit broke a rule */
   TL_NOTHING = 5,      /* no beat waits, or no copy is held; nothing changed */
   TL_TOO_MANY = 6      /* more blocks, sources or sinks than can be numbered; nothing changed */
 };
@@ -28,7 +28,8 @@ enum tl_rule {
   TL_H1 = 9, TL_H2 = 10, TL_H3 = 11, TL_H4 = 12, TL_H5 = 13, TL_H6 = 14, TL_H7 = 15, TL_H8 = 16,
   TL_H9 = 17, TL_H10 = 18, TL_H11 = 19, TL_H12 = 20, TL_H13 = 21,
   TL_A1 = 22, TL_A2 = 23, TL_A3 = 24,
-  TL_M1 = 25, TL_M2 = 26, TL_M3 = 27, TL_M4 = 28 /* of a judge of all links */
+  TL_M1 = 25, TL_M2 = 26, TL_M3 = 27, TL_M4 = 28, /* of a judge of all links */
+  TL_M5 = 29, TL_M6 = 30, TL_M7 = 31 /* of a judge of beats and commits */
 };
 
 enum tl_level { TL_UL = 0, TL_UH = 1, TL_C = 2 };
@@ -90,6 +91,18 @@ typedef struct tl_wide_beat {
   uint8_t denied;
   uint8_t corrupt;
 } tl_wide_beat;
+
+enum tl_commit_kind { TL_COMMIT_STORE = 0, TL_COMMIT_LOAD = 1, TL_COMMIT_BEGIN = 2 };
+
+/* A commit of the core of a link: a store to its cache's copy, a load from it, or the beginning of a load. It reaches the
+   2^size bytes, size 0 to 3, from an address on that is a multiple of their number. The value has these bytes, the lowest
+   address in the lowest byte; that of a beginning is 0. */
+typedef struct tl_commit {
+  uint64_t value;
+  uint32_t address;
+  uint8_t kind; /* enum tl_commit_kind */
+  uint8_t size;
+} tl_commit;
 
 typedef struct tl_answer {
   uint8_t code; /* enum tl_code */
@@ -162,9 +175,24 @@ tl_answer tl_judge_push(tl_judge *judge, uint8_t link, const tl_beat *beat);
 /* The same, but the judge goes on where a beat breaks a rule, as tl_monitor_try_push does. */
 tl_answer tl_judge_try_push(tl_judge *judge, uint8_t link, const tl_beat *beat);
 
-/* Judges the beat of a line of a trace so, which ends in a line feed. A line that spells no beat is
-   TL_BAD_ARGUMENT. */
+/* Judges the beat of a line of a trace so, which ends in a line feed; a judge of beats and commits judges the commit of one
+   too (docs/BENCHES.md, "Stores and loads"). A line that spells neither is TL_BAD_ARGUMENT. */
 tl_answer tl_judge_push_line(tl_judge *judge, const uint8_t *line, size_t length);
+
+/* Makes a judge of beats and commits of links that have these liberties. `complete` has as many numbers as there are levels:
+   1 where all stores of the link will be judged (level C+ of a trace), else 0. It judges beats as one of tl_judge_new_under
+   does, and then by M7, by which a report gives back what was stored. */
+tl_answer tl_judge_new_commits(tl_judge *judge, const uint8_t *levels, size_t links, const uint8_t *complete,
+                               size_t complete_count, uint8_t width, uint8_t liberties);
+
+/* Judges a commit of a link, 0 to 15, after the earlier beats and commits of all links: L1 where the link has no cache,
+   M5 where the cache hasn't the copy that was stored to or loaded from, M6 where a load brought a byte that the copy can't
+   have. Of one clock edge those commits come first that see the copy as it is before the edge, then the beats, then those
+   that use a beat of the edge. A field out of its range, or a judge of beats alone, is TL_BAD_ARGUMENT. */
+tl_answer tl_judge_commit(tl_judge *judge, uint8_t link, const tl_commit *commit);
+
+/* The same, but the judge goes on where a commit breaks a rule, as tl_judge_try_push does. */
+tl_answer tl_judge_try_commit(tl_judge *judge, uint8_t link, const tl_commit *commit);
 
 /* Makes a judge of wide beats, of 4, 8, 16, 32 or 64 bytes, of links that have these liberties. */
 tl_answer tl_judge_new_wide(tl_judge *judge, const uint8_t *levels, size_t links, uint8_t width,

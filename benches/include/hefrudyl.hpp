@@ -166,6 +166,35 @@ private:
   Judge(tl_judge made, Made) : Handle(made) {}
 };
 
+/// A judge of beats and commits of all links of one manager.
+class CommitJudge : public Handle<tl_judge, tl_judge_free> {
+public:
+  /// Of links of these levels that have these liberties; `complete` has 1 for each of which all stores will be judged.
+  explicit CommitJudge(const std::vector<std::uint8_t> &levels, const std::vector<std::uint8_t> &complete,
+                       std::uint8_t width = 8, std::uint8_t liberties = 0) {
+    tl_answer answer = tl_judge_new_commits(&handle, levels.data(), levels.size(), complete.data(), complete.size(),
+                                            width, liberties);
+    require_made(answer, "hefrudyl: levels, complete or width");
+  }
+
+  /// Judges a beat of a link, after the earlier beats and commits of all links (hefrudyl.h has the order).
+  tl_answer push(std::uint8_t link, const tl_beat &beat) { return tl_judge_push(&handle, link, &beat); }
+
+  /// The same, but a beat that breaks a rule isn't taken, and the judge goes on.
+  tl_answer try_push(std::uint8_t link, const tl_beat &beat) { return tl_judge_try_push(&handle, link, &beat); }
+
+  /// Judges a commit of a link, after the earlier beats and commits of all links.
+  tl_answer commit(std::uint8_t link, const tl_commit &commit) { return tl_judge_commit(&handle, link, &commit); }
+
+  /// The same, but a commit that breaks a rule isn't taken, and the judge goes on.
+  tl_answer try_commit(std::uint8_t link, const tl_commit &commit) { return tl_judge_try_commit(&handle, link, &commit); }
+
+  /// Judges the beat or the commit of a line of a trace, its line feed included.
+  tl_answer push_line(const std::string &line) {
+    return tl_judge_push_line(&handle, reinterpret_cast<const std::uint8_t *>(line.data()), line.size());
+  }
+};
+
 /// What judges wide beats of links that have these liberties (the sum of enum tl_liberty).
 template <typename Made, void (*Free)(Made *),
           tl_answer (*New)(Made *, const std::uint8_t *, std::size_t, std::uint8_t, std::uint8_t),

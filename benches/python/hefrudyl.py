@@ -76,6 +76,25 @@ class Beat:
     corrupt: bool = False
 
 
+class CommitKind(enum.IntEnum):
+    """The kind of a commit."""
+
+    STORE = 0
+    LOAD = 1
+    BEGIN = 2
+
+
+@dataclasses.dataclass(frozen=True)
+class Commit:
+    """A store of a link's core to its cache's copy, a load from it, or the beginning of a load: of the `2**size` bytes from
+    an address on, which `value` has, the lowest address in the lowest byte."""
+
+    kind: CommitKind
+    size: int
+    address: int
+    value: int = 0
+
+
 class Operation(enum.IntEnum):
     """The kind of an operation."""
 
@@ -152,7 +171,7 @@ class Admitted:
 
 @dataclasses.dataclass(frozen=True)
 class Verdict:
-    """What a monitor or judge says of a beat: `rule` is the name of the rule that it breaks, or empty."""
+    """What a monitor or judge says of a beat or a commit: `rule` is the name of the rule that it breaks, or empty."""
 
     code: Code
     rule: str
@@ -191,6 +210,10 @@ class _WideBeat(ctypes.Structure):
         ("denied", ctypes.c_uint8),
         ("corrupt", ctypes.c_uint8),
     ]
+
+
+class _Commit(ctypes.Structure):
+    _fields_ = [("value", ctypes.c_uint64), ("address", ctypes.c_uint32), ("kind", ctypes.c_uint8), ("size", ctypes.c_uint8)]
 
 
 class _Answer(ctypes.Structure):
@@ -285,6 +308,12 @@ def _load():
         free.restype, free.argtypes = None, [handle]
         under = getattr(library, f"tl_{name}_new_under")
         under.restype, under.argtypes = _Answer, getattr(library, f"tl_{name}_new").argtypes
+    judge = ctypes.POINTER(_Judge)
+    library.tl_judge_new_commits.restype = _Answer
+    library.tl_judge_new_commits.argtypes = [judge, *[ctypes.c_char_p, ctypes.c_size_t] * 2, ctypes.c_uint8, ctypes.c_uint8]
+    for name in ("commit", "try_commit"):
+        call = getattr(library, "tl_judge_" + name)
+        call.restype, call.argtypes = _Answer, [judge, ctypes.c_uint8, ctypes.POINTER(_Commit)]
     library.tl_monitor_entries.restype = _Answer
     library.tl_monitor_entries.argtypes = [ctypes.POINTER(_Monitor), ctypes.c_uint8, ctypes.POINTER(ctypes.c_uint64)]
     cover = ctypes.POINTER(_Cover)
@@ -372,6 +401,10 @@ def _struct(beat, of=_Beat):
     return shown
 
 
+def _commit(commit):
+    return _Commit(**{name: _field(getattr(commit, name), name, 1 << (8 * ctypes.sizeof(kind))) for name, kind in _Commit._fields_})
+
+
 def _taken(answer, what):
     if answer.code == Code.NO_MEMORY:
         raise MemoryError(f"hefrudyl: no memory for {what}")
@@ -416,18 +449,23 @@ class _Agent:
             self.close()
 
 
-class _Judging(_Agent):
-    """What judges beats of 1 to 16 links of these levels, by the library's calls of a name."""
+def _allowed(profile, liberties):
+    """The ending of the call that makes a judge of links under a profile or under liberties, and the name and number of these."""
+    return ("new", "profile", profile) if liberties is None else ("new_under", "liberties", int(liberties))
 
-    def __init__(self, name, handle, levels, width, profile, liberties):
+
+class _Judging(_Agent):
+    """What judges beats of 1 to 16 links, by the library's calls of a name. It is made of levels, and of other lists of a number
+    for each link."""
+
+    def __init__(self, name, handle, lists, width, new, kind, number):
         super().__init__(handle, getattr(_library, f"tl_{name}_free"), width)
         self._push, self._try_push, self._push_line = (
             getattr(_library, f"tl_{name}_{it}") for it in ("push", "try_push", "push_line"))
-        kind, number = ("profile", profile) if liberties is None else ("liberties", int(liberties))
-        new = getattr(_library, f"tl_{name}_new" if liberties is None else f"tl_{name}_new_under")
-        codes = bytes(_field(level, "a level", 256) for level in levels)
-        _taken(new(self._handle, codes, len(codes), _field(width, "width", 256), _field(number, kind, 256)),
-               f"levels, width or {kind}")
+        codes = [bytes(_field(number, "a link's number", 256) for number in numbers) for numbers in lists]
+        counted = [it for them in codes for it in (them, len(them))]
+        _taken(getattr(_library, f"tl_{name}_{new}")(self._handle, *counted, _field(width, "width", 256),
+                                                      _field(number, kind, 256)), f"levels, width or {kind}")
 
     def push(self, link, beat):
         """Judges a beat of a link."""
@@ -451,7 +489,26 @@ class Judge(_Judging):
     of each link, then B, C, D and E."""
 
     def __init__(self, levels, width=8, profile=1, liberties=None):
-        super().__init__("judge", _Judge(), levels, width, profile, liberties)
+        super().__init__("judge", _Judge(), [levels], width, *_allowed(profile, liberties))
+
+
+class CommitJudge(_Judging):
+    """A judge of beats and commits of all links of one manager, of beats of `width` bytes, under these liberties: each after
+    the earlier ones of all links. `complete` says of each link whether all its stores will be judged. Of one clock edge those
+    commits come first that see the copy as it is before the edge, then the beats, then those that use a beat of the edge."""
+
+    def __init__(self, levels, complete, width=8, liberties=0):
+        super().__init__("judge", _Judge(), [levels, complete], width, "new_commits", "liberties", int(liberties))
+
+    def commit(self, link, commit):
+        """Judges a commit of a link."""
+        answer = _library.tl_judge_commit(self._handle, _field(link, "link", 256), _commit(commit))
+        return Verdict(Code(answer.code), rule_name(answer.rule))
+
+    def try_commit(self, link, commit):
+        """The same, but a commit that breaks a rule isn't taken, and the next is judged as if it weren't there."""
+        answer = _library.tl_judge_try_commit(self._handle, _field(link, "link", 256), _commit(commit))
+        return Verdict(Code(answer.code), rule_name(answer.rule))
 
 
 class Monitor(_Judging):
@@ -459,7 +516,7 @@ class Monitor(_Judging):
     given, under these liberties: each beat after the earlier beats of its own link."""
 
     def __init__(self, levels, width=8, profile=1, liberties=None):
-        super().__init__("monitor", _Monitor(), levels, width, profile, liberties)
+        super().__init__("monitor", _Monitor(), [levels], width, *_allowed(profile, liberties))
 
     def entries(self, link):
         """How many keys are pending on a link, and how many blocks are held there, together."""

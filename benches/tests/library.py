@@ -5,6 +5,7 @@ import os
 from harness import TLTOOL, test, want, run, path, checked, recorded, together, compiled, least_times
 
 
+REFUSALS = ["-DREFUSALS", "-Wl,--wrap=malloc", "-Wl,--wrap=realloc"]
 SANITIZERS = ["-fsanitize=address,undefined", "-fno-sanitize-recover=all"]
 
 
@@ -37,13 +38,23 @@ def a_judge_of_all_links_from_c_under_the_sanitizers():
 @test
 def wide_beats_from_c():
     c_test("test_wide")
-    wrapped = ["-DREFUSALS", "-Wl,--wrap=malloc", "-Wl,--wrap=realloc"]
-    want("0 failures" in run([compiled("test_wide_refused", "gcc", "tests/test_wide.c", "-std=c11", *wrapped)]), "test_wide.c")
+    want("0 failures" in run([compiled("test_wide_refused", "gcc", "tests/test_wide.c", "-std=c11", *REFUSALS)]), "test_wide.c")
 
 
 @test
 def wide_beats_from_c_under_the_sanitizers():
     c_test("test_wide", *SANITIZERS)
+
+
+@test
+def stores_and_loads_from_c():
+    c_test("test_commits")
+    want("0 failures" in run([compiled("test_commits_refused", "gcc", "tests/test_commits.c", "-std=c11", *REFUSALS)]), "test_commits.c")
+
+
+@test
+def stores_and_loads_from_c_under_the_sanitizers():
+    c_test("test_commits", *SANITIZERS)
 
 
 @test

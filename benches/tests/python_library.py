@@ -32,6 +32,8 @@ def the_headers_and_pythons_numbers_are_the_librarys():
     for kinds in (module.Operation, module.Outcome, module.Reception, module.Perm):
         for kind in kinds:
             want(int(header[kind.name]) == kind, kind.name)
+    for kind in module.CommitKind:
+        want(int(header["COMMIT_" + kind.name]) == kind, kind.name)
 
 
 @test
@@ -63,7 +65,7 @@ def a_client_from_python():
 def the_headers_structs_are_pythons():
     module = python_module()
     structs = [("tl_" + name.lower(), getattr(module, "_" + name))
-               for name in ("Beat", "Answer", "Monitor", "Judge", "Client", "Operation", "Outcome", "Reception", "Manager", "Cover", "Tally")]
+               for name in ("Beat", "Commit", "Answer", "Monitor", "Judge", "Client", "Operation", "Outcome", "Reception", "Manager", "Cover", "Tally")]
     structs += [("tl_link_config", module._LinkConfig), ("tl_wide_beat", module._WideBeat), ("tl_bin_tally", module._BinTally)]
     source = path("layout.c")
     with open(source, "w") as text:
@@ -118,6 +120,13 @@ def read_trace(module, name):
     return ([module.Level[level] for level in header[min(version, 3) + 1:]], width, profile, liberties), lines[1:]
 
 
+def traces_of_rules(with_commits):
+    """The example traces of the rules, those with stores and loads or the others."""
+    folder = os.path.join(ROOT, "crates/tl_examples/data/rules")
+    names = [os.path.join(folder, it) for it in sorted(os.listdir(folder))]
+    return [it for it in names if ("C+" in open(it).readline()) == with_commits]
+
+
 def renamed(beat):
     """The beat behind an address of more than 32 bits, with long ids: 0 is kept, since L2 asks for it."""
     return dataclasses.replace(beat, address=beat.address + 0x1_8000_0000 if beat.channel < 3 else 0,
@@ -154,13 +163,34 @@ def told_of(module, kind, name):
 def python_judges_traces_as_the_command_does():
     """Every example trace of the rules and both traces beside them, link by link and all links together."""
     module = python_module()
-    folder = os.path.join(ROOT, "crates/tl_examples/data/rules")
-    names = sorted(os.listdir(folder))
+    names = traces_of_rules(with_commits=False)
     want(len(names) >= 40, f"{len(names)} traces")
-    for name in (os.path.join(folder, it) for it in names):
+    for name in names:
         for kind, command, right in ((module.Monitor, "monitor", "clean"), (module.Judge, "coherent", "coherent")):
             told, wanted = told_of(module, kind, name), judged(name, command)
             want(wanted == told or wanted.startswith(right) and not told, f"{name}: {told}, and {command} says {wanted}")
+
+
+@test
+def python_judges_traces_with_stores_and_loads_as_the_command_does():
+    """Every example trace with stores and loads, line by line."""
+    module = python_module()
+    names = traces_of_rules(with_commits=True)
+    want(len(names) >= 18, f"{len(names)} traces")
+    for name in names:
+        with open(name) as trace:
+            header, *lines = trace.read().splitlines()
+        _, _, width, liberties, *levels = header.split()
+        complete = [level.endswith("+") for level in levels]
+        levels = [module.Level[level.rstrip("+")] for level in levels]
+        told = f"coherent {len(lines)}"
+        with module.CommitJudge(levels, complete, int(width), read_liberties(module, liberties)) as judge:
+            for number, line in enumerate(lines, 2):
+                verdict = judge.push_line(line.encode() + b"\n")
+                if not verdict:
+                    told = f"line {number} {verdict.rule}"
+                    break
+        want(told == judged(name, "coherent"), f"{name}: {told}, and coherent says {judged(name, 'coherent')}")
 
 
 @test
@@ -171,7 +201,7 @@ def python_judges_wide_beats_as_the_command_does():
     wide = [it.path for it in sorted(os.scandir(os.path.join(data, "wide")), key=lambda it: it.name) if it.is_file()]
     names = [(it, lambda beat: beat) for it in wide if not it.endswith("narrow_line.trace")]
     want(len(names) >= 4, f"{len(names)} traces")
-    names += [(os.path.join(data, "rules", it), renamed) for it in sorted(os.listdir(os.path.join(data, "rules")))]
+    names += [(it, renamed) for it in traces_of_rules(with_commits=False)]
     for name, changed in names:
         for kind, command, right in ((module.WideMonitor, "monitor", "clean"), (module.WideJudge, "coherent", "coherent")):
             told, wanted = told_of_wide(module, kind, name, changed), judged(name, command)
@@ -230,6 +260,38 @@ def python_refuses_what_does_not_fit():
     with module.Monitor([module.Level.C]) as monitor:
         want(monitor.push(0, module.Beat(module.Channel.A, opcode=9)).code is module.Code.BAD_ARGUMENT, "opcode 9")
     want(monitor.push(0, module.Beat(module.Channel.E)).code is module.Code.BAD_ARGUMENT, "a closed monitor")
+
+
+@test
+def python_judges_stores_and_loads():
+    """A dirty line that is dropped is M7, one of a link of which not all stores are judged is not; structs and lines."""
+    module = python_module()
+    beat, channel, commit, kind = module.Beat, module.Channel, module.Commit, module.CommitKind
+    acquire = beat(channel.A, opcode=6, param=1, size=6, mask=0xFF)
+    granted = [acquire, *[beat(channel.D, opcode=5, size=6, data=bytes(8))] * 8, beat(channel.E)]
+    probe = beat(channel.B, opcode=6, param=2, size=6, mask=0xFF)
+    dropped = beat(channel.C, opcode=4, param=1, size=6)
+    for complete in (0, 1):
+        with module.CommitJudge([module.Level.C] * 2, [complete, 1 - complete]) as judge:
+            want(judge.try_commit(0, commit(kind.STORE, 2, 4, 5)).rule == "M5", "a store without a copy")
+            want(all(judge.push(0, it) for it in granted), "a block of zeros")
+            want(judge.commit(0, commit(kind.STORE, 2, 4, 0x12345678)), "a store")
+            want(judge.push_line(b"00 L 3 00000000 1234567800000000\n"), "a load of it")
+            want(judge.commit(0, commit(kind.BEGIN, 0, 0)), "a load begins")
+            told = judge.try_commit(0, commit(kind.LOAD, 0, 4, 0x79))
+            want(told.rule == ("M6" if complete else ""), f"a load of another byte: {told}")
+            want(judge.push(0, probe), "a Probe")
+            told = judge.push(0, dropped)
+            want(told.rule == ("M7" if complete else ""), f"a dirty line is dropped: {told}")
+            if complete:
+                want(judge.commit(0, commit(kind.LOAD, 0, 0)).code is module.Code.CLOSED, "a closed judge")
+            want(judge.try_commit(0, commit(kind.LOAD, 1, 1)).code is module.Code.BAD_ARGUMENT, "an address that isn't aligned")
+    for levels, complete, width in (([module.Level.C], [], 8), ([module.Level.C], [2], 8), ([module.Level.C], [1], 9), ([3], [1], 8)):
+        try:
+            module.CommitJudge(levels, complete, width)
+            want(False, f"{levels} {complete} {width} made a judge")
+        except ValueError:
+            pass
 
 
 @test

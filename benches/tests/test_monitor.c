@@ -130,7 +130,8 @@ static void names(void) {
   want(tl_rule_name(TL_NO_RULE, name, 3) == 0, "no rule has no name");
   want(tl_rule_name(TL_M2, name, 3) == 2 && memcmp(name, "M2", 2) == 0, "M2");
   want(tl_rule_name(TL_M4, name, 3) == 2 && memcmp(name, "M4", 2) == 0, "M4");
-  want(tl_rule_name(29, name, 3) == 0, "there is no rule 29");
+  want(tl_rule_name(TL_M7, name, 3) == 2 && memcmp(name, "M7", 2) == 0, "M7");
+  want(tl_rule_name(TL_M7 + 1, name, 3) == 0, "there is no rule behind M7");
   name[1] = '?';
   want(tl_rule_name(TL_L1, name, 1) == 1 && name[0] == 'L' && name[1] == '?', "no more than there is room for");
 }

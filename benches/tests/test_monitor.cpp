@@ -1,4 +1,4 @@
-// The C++ header: a monitor, a judge, a client and a manager are moved, freed once, and refuse what can't be made.
+// The C++ header: a monitor, judges, a client and a manager are moved, freed once, and refuse what can't be made.
 #include <hefrudyl.hpp>
 
 #include <cstdio>
@@ -34,6 +34,31 @@ int main() {
     right = right && judge.push_line(line).code == TL_OK;
   answer = judge.push_line("01 D 4 0 6 00 01 0 - 0\n");
   right = right && answer.code == TL_BROKEN && hefrudyl::rule_name(answer.rule) == "M1";
+  hefrudyl::CommitJudge unmade({TL_C, TL_C}, {1, 0}, 16);
+  hefrudyl::CommitJudge commits(std::move(unmade));
+  tl_commit stored = {};
+  stored.value = 5;
+  stored.kind = TL_COMMIT_STORE;
+  right = right && unmade.commit(0, stored).code == TL_BAD_ARGUMENT;
+  answer = commits.try_commit(0, stored);
+  right = right && answer.code == TL_BROKEN && hefrudyl::rule_name(answer.rule) == "M5";
+  right = right && commits.push_line("00 A 7 1 6 00 00000000 ffff - 0\n").code == TL_OK;
+  tl_beat granted = {};
+  granted.channel = TL_CHANNEL_D;
+  granted.opcode = TL_D_Grant;
+  granted.size = 6;
+  right = right && commits.push(0, granted).code == TL_OK && commits.try_push(0, granted).code == TL_BROKEN;
+  right = right && commits.commit(0, stored).code == TL_OK && commits.push_line("00 L 0 00000000 05\n").code == TL_OK;
+  stored.kind = TL_COMMIT_LOAD;
+  stored.value = 6;
+  answer = commits.commit(0, stored);
+  right = right && answer.code == TL_BROKEN && hefrudyl::rule_name(answer.rule) == "M6";
+  right = right && commits.push(0, acknowledge).code == TL_CLOSED;
+  try {
+    hefrudyl::CommitJudge none({TL_C, TL_C}, {1});
+    right = false;
+  } catch (const std::invalid_argument &) {
+  }
   hefrudyl::Client made(TL_C, 4);
   hefrudyl::Client client(std::move(made));
   tl_operation acquire = {};

@@ -41,12 +41,21 @@ for rule in ["M1", "M2", "M3", "M4"]:
     for suffix, name in [("", "wrong"), ("_right", "right")]:
         if field(name) != open("crates/tl_examples/data/rules/%s%s.trace" % (rule, suffix)).read():
             wrong.append("%s%s: the traces differ" % (rule, suffix))
+commits = open("crates/tl_engine/src/commit_rules.rt").read()
+commits = commits[commits.index("pub fn grounds") :]
+for rule in ["M5", "M6", "M7"]:
+    text = re.search(r"CommitRule::%s => \{\s*\"(.*?)\"" % rule, commits, re.S).group(1)
+    lines = [line.strip() for line in re.sub(r"\\\n\s*", "", text).split("\\n")]
+    at = next(k for k, line in enumerate(lines) if line.startswith("right instead"))
+    for suffix, shown in [("", lines[2:at]), ("_right", lines[at + 1 : -1])]:
+        if shown != open("crates/tl_examples/data/rules/%s%s.trace" % (rule, suffix)).read().splitlines():
+            wrong.append("%s%s: the traces differ" % (rule, suffix))
 for fault in ["F2", "F3", "F4", "F5", "F6"]:
     row = re.search(r"^\| \d \| %s \| (.*) \|$" % fault, formats, re.M).group(1)
     if row not in named:
         wrong.append("%s: the sentences differ" % fault)
 entries = re.findall(r"^### (\w+): ", open("docs/TRIAGE.md").read(), re.M)
-if entries != [*RULES, "M1", "M2", "M3", "M4"]:
+if entries != [*RULES, *("M%d" % i for i in range(1, 8))]:
     wrong.append("docs/TRIAGE.md: its entries aren't those of the rules, in their order: %s" % entries)
 print("\n".join(wrong) or "rules and faults say what the documents do")
 sys.exit(1 if wrong else 0)

@@ -12,42 +12,46 @@ use Rattle.tl_engine.specs.declared.explain_fault.ExplainFault.TheVariants.{Tool
 use Rattle.tl_engine.specs.declared.status.Status.{Status}
 use Rattle.tl_engine.specs.declared.status.ToolFault.{ToolFault}
 use Rattle.tl_engine.specs.declared.status.ToolFault.TheVariants.{Memory, Read, Write}
-use Rattle.tl_engine.specs.statement.JudgedLinks.{JudgedLinks}
+use Rattle.tl_engine.specs.statement.JudgedLinks.{LinksSoFar}
 use Rattle.tl_engine.specs.statement.Unexplained.{IsUnjudged}
 use Rattle.tl_engine.proofs.JudgedLines.{links_so_far}
 use Rattle.tl_params.specs.declared.liberties.Liberties.{Liberties}
 
-module _ (together : Bool) (allow : Liberties) where
-  -- what is known of the lines that were judged
-  abbrev pub Knows : Examiner → List (List ℕ) → List ℕ → Type 0
-  Knows = KnowsFor (λ (e : Examiner). judged_for e.link_lines) (together, allow) KnowsExaminer
+abbrev IsReadFault : Result Status ToolFault → Type 0
+IsReadFault outcome = outcome ≡ Err Read
 
-  abbrev IsReadFault : Result Status ToolFault → Type 0
-  IsReadFault outcome = outcome ≡ Err Read
-
+-- `known` and `tells` are what is known of the lines that were judged, and the verdict on all
+module _ (known so_far : List (List ℕ) → List ℕ → Type 0) (tells : List (List ℕ) → List ℕ → Status → Type 0)
+    (is_so_far : (lines : List (List ℕ)) (text : List ℕ) → known lines text → so_far lines text) where
   some_read : (outcome : Result Status ToolFault) (had left held holds : Option (List ℕ))
-      → IfOk outcome (RunsTo (JudgedLinks together allow) had left held holds)
-      → OnErr outcome (FailsAt (JudgedLinks together allow) had left held holds)
+      → IfOk outcome (RunsTo tells had left held holds) → OnErr outcome (FailsAt tells had left held holds)
       → (read : List ℕ) × Consumes had left read
   some_read (Ok status) had left held holds runs fails = (runs.0, runs.2)
   some_read (Err fault) had left held holds runs fails = (fails.0, fails.3)
 
-  unread : (had left held holds : Option (List ℕ))
-      → GivesUpFor (IsKnown Knows) (JudgedLinks together allow) had left held holds Read
-      → IsUnjudged together allow had left (Tool Read)
-  unread had left held holds (read, consumed, inl (text, appended, (e, known))) =
-      (read, consumed, inl (text, links_so_far together allow _ text (e.link_lines, (known.0.judged, known.1))))
+  unread : (had left held holds : Option (List ℕ)) → GivesUpFor known tells had left held holds Read
+      → IsUnjudged so_far tells had left (Tool Read)
+  unread had left held holds (read, consumed, inl (text, appended, is_known)) =
+      (read, consumed, inl (text, is_so_far _ text is_known))
   unread had left held holds (read, consumed, inr out) = (read, consumed, inr out)
 
   -- the first reading was given up, of which a writer into memory fails for want of it
-  pub unjudged_for : (fault : ToolFault) (outcome : Result Status ToolFault)
+  pub unjudged_by : (fault : ToolFault) (outcome : Result Status ToolFault)
       (had left held holds : Option (List ℕ)) → fault ≢ Write → (IsReadFault (Err fault) → IsReadFault outcome)
-      → IfOk outcome (RunsTo (JudgedLinks together allow) had left held holds)
-      → OnErr outcome (FailsAt (JudgedLinks together allow) had left held holds)
-      → IfErr outcome (GivesUpFor (IsKnown Knows) (JudgedLinks together allow) had left held holds)
-      → IsUnjudged together allow had left (Tool fault)
-  unjudged_for Memory outcome had left held holds other same runs fails gives =
+      → IfOk outcome (RunsTo tells had left held holds) → OnErr outcome (FailsAt tells had left held holds)
+      → IfErr outcome (GivesUpFor known tells had left held holds) → IsUnjudged so_far tells had left (Tool fault)
+  unjudged_by Memory outcome had left held holds other same runs fails gives =
       some_read outcome had left held holds runs fails
-  unjudged_for Read outcome had left held holds other same runs fails gives =
+  unjudged_by Read outcome had left held holds other same runs fails gives =
       unread had left held holds (rw (same refl) at gives)
-  unjudged_for Write outcome had left held holds other same runs fails gives = absurd (other refl)
+  unjudged_by Write outcome had left held holds other same runs fails gives = absurd (other refl)
+
+-- what an examiner knows of the lines that it has judged
+abbrev pub KnowsExamined : Bool → Liberties → List (List ℕ) → List ℕ → Type 0
+KnowsExamined together allow =
+    IsKnown (KnowsFor (λ (e : Examiner). judged_for e.link_lines) (together, allow) KnowsExaminer)
+
+pub examined-so-far : (together : Bool) (allow : Liberties) (lines : List (List ℕ)) (text : List ℕ)
+    → KnowsExamined together allow lines text → LinksSoFar together allow lines text
+examined-so-far together allow lines text (e, known) =
+    links_so_far together allow lines text (e.link_lines, (known.0.judged, known.1))

@@ -8,7 +8,7 @@ ghost use Rattle.tl_engine.specs.code.Tracing as tracing;
 ghost use Rattle.tl_engine.specs.code.Tracing.{AnswersBy, AnswersIn, NotesLine};
 ghost use Rattle.tl_engine.specs.code.LinkWatching.{judged_for};
 ghost use Rattle.tl_engine.specs.code.TraceJudging.{KnowsBeats};
-ghost use Rattle.tl_engine.specs.statement.JudgedLinks.{JudgedLinks};
+ghost use Rattle.tl_engine.specs.statement.JudgedLinks.{JudgedLinks, LinksSoFar};
 ghost use Rattle.tl_memory.specs.code.Taking as taking;
 ghost use Rattle.tl_params.specs.declared.level.Level.{Level};
 ghost use Rattle.tl_params.specs.declared.liberties.Liberties.{Liberties};
@@ -258,7 +258,8 @@ pub fn examine<R: Read>(
     requires { verdict.old.items ≡ [] }
     ensures ok { IfOk result (λ both. Reaches together allow (R.remaining reader.old) (R.remaining reader.new)
         verdict.new.items both.1 × IsVerdict both.0 both.1 verdict.new.items) }
-    ensures fault { IfErr result (IsUnjudged together allow (R.remaining reader.old) (R.remaining reader.new)) }
+    ensures fault { IfErr result (IsUnjudged (LinksSoFar together allow) (JudgedLinks together allow) (R.remaining reader.old)
+        (R.remaining reader.new)) }
 {
     let mut found = Found::new();
     let examiner = Examiner {

@@ -14,17 +14,19 @@ use Rattle.tl_wide_lines.specs.code.WideReplaying.{is_rule}
 use Rattle.tl_wide_lines.specs.statement.JudgedTrace.{JudgedTrace}
 use Rattle.tl_wide_lines.specs.statement.WideExplained.{ExplainsWide, ReachesWide}
 
--- the first reading reached its verdict
-pub reached : (p : Bool × Liberties) (together : Bool) (allow : Liberties) (had left : Option (List ℕ))
-    (read verdict : List ℕ) (status : Status) → p ≡ (together, allow) → Consumes had left read
-    → JudgedTrace p.0 p.1 (lines_of read) verdict status
-    → EndsAs (JudgedTrace p.0 p.1) left read verdict status → ReachesWide together allow had left verdict status
-reached p together allow had left read verdict status is consumed judged ends = (
-  read,
-  consumed,
-  subst (λ (q : Bool × Liberties). JudgedTrace q.0 q.1 (lines_of read) verdict status) is judged,
-  subst (λ (q : Bool × Liberties). EndsAs (JudgedTrace q.0 q.1) left read verdict status) is ends,
-)
+-- what an examiner knows of the lines that it has judged
+abbrev pub KnowsExamined : Bool → Liberties → List (List ℕ) → List ℕ → Type 0
+KnowsExamined together allow =
+    IsKnown (KnowsFor (λ (e : WideExaminer). trace_judged_for e.trace) (together, allow)
+    (λ e lines text. KnowsTraceLines e.trace lines text))
+
+pub examined-so-far : (together : Bool) (allow : Liberties) (lines : List (List ℕ)) (text : List ℕ)
+    → KnowsExamined together allow lines text → TraceSoFar together allow lines text
+examined-so-far together allow lines text (e, known) = trace-so-far together allow lines text (e.trace, known)
+
+pub examined-total : IsTotal (λ (e : WideExaminer). trace_judged_for e.trace)
+    (λ e lines text. KnowsTraceLines e.trace lines text) (λ p. JudgedTrace p.0 p.1)
+examined-total e lines text known more = trace-total e.trace lines text known more
 
 -- of a fault that is no breach of a rule nothing is claimed but the verdict
 pub other_explains : (allow : Liberties) (old new : Option (List ℕ)) (verdict : List ℕ) (good : ℕ) (found : Fault)

@@ -3,7 +3,8 @@
 ghost use Rattle.std.specs.Prelude.{◌≡◌, ◌≢◌, ◌+◌, [], IfErr, IfOk, None, OnOk, true, ⊤};
 ghost use Rattle.tl_engine.specs.statement.Fault.{fault_text};
 ghost use Rattle.tl_wide_lines.specs.code.WideWatching.{KnowsTraceLines, trace_judged_for};
-ghost use Rattle.tl_wide_lines.specs.statement.JudgedTrace.{JudgedTrace};
+ghost use Rattle.tl_engine.specs.statement.Unexplained.{IsUnjudged};
+ghost use Rattle.tl_wide_lines.specs.statement.JudgedTrace.{JudgedTrace, TraceSoFar};
 ghost use Rattle.tl_wide_lines.specs.statement.WideExplained.{ReachesWide};
 
 use crate::header::read_wide_for;
@@ -11,11 +12,12 @@ use crate::judge::Clue;
 use crate::lines::TraceLines;
 use std::alloc::{AllocError, Global};
 use std::io::Read;
-use tl_engine::engine::judge_input;
+use tl_engine::engine::handle_input;
+use tl_engine::explain::in_memory;
+use tl_engine::explain_fault::ExplainFault;
 use tl_engine::fault::{Fault, append_fault};
 use tl_engine::line_handler::LineHandler;
-use tl_engine::lines::Lines;
-use tl_engine::status::{Status, ToolFault};
+use tl_engine::status::Status;
 use tl_params::liberties::Liberties;
 use tl_wide::width::WideWidth;
 
@@ -54,12 +56,12 @@ impl Found {
 
 /// Judges the lines of a trace, and notes the facts for an explanation.
 #[derive(Drop)]
-pub struct WideExaminer {
+pub struct WideExaminer<'a> {
     trace: TraceLines,
-    found: Found,
+    found: &'a mut Found,
 }
 
-impl WideExaminer {
+impl WideExaminer<'_> {
     /// Notes a line with its fault, if any.
     fn note(&mut self, line: &[u8], fault: Option<Fault>) -> Result<(), AllocError>
         ensures good { fault ≡ None → self.new.trace ≡ self.old.trace }
@@ -75,7 +77,7 @@ impl WideExaminer {
     }
 }
 
-impl LineHandler for WideExaminer {
+impl LineHandler for WideExaminer<'_> {
     ghost use Rattle.std.specs.Prelude.{Bool};
     ghost use Rattle.tl_params.specs.declared.liberties.Liberties.{Liberties};
 
@@ -129,16 +131,18 @@ pub fn examine<R: Read>(
     allow: Liberties,
     reader: &mut R,
     verdict: &mut Vec<u8>,
-) -> Result<(Found, Status), ToolFault>
+) -> Result<(Found, Status), ExplainFault>
     requires { verdict.old.items ≡ [] }
     ensures ok { IfOk result (λ both. ReachesWide together allow (R.remaining reader.old) (R.remaining reader.new)
         verdict.new.items both.1) }
-    ensures fault { IfErr result (λ fault. fault ≢ ToolFault.Write) }
+    ensures fault { IfErr result (IsUnjudged (TraceSoFar together allow) (JudgedTrace together allow)
+        (R.remaining reader.old) (R.remaining reader.new)) }
 {
-    let mut lines = Lines::new(WideExaminer {
+    let mut found = Found::new();
+    let examiner = WideExaminer {
         trace: TraceLines::new(alloc, together, allow),
-        found: Found::new(),
-    });
-    let status = judge_input(alloc, &mut lines, reader, verdict)?;
-    Ok((lines.into_handler().found, status))
+        found: &mut found,
+    };
+    let status = in_memory(handle_input(alloc, examiner, reader, verdict))?;
+    Ok((found, status))
 }

@@ -210,7 +210,8 @@ fn reasons<R: Read>(
 /// its data. After a trace without a fault come the limits of the verdict, and no list of pending messages.
 ///
 /// Nothing is written before both readings have reached their ends. After that the only fault is `Write`: the writer
-/// took only a front of the text. `Changed` comes only after the verdict: the readings differ.
+/// took only a front of the text. `Read` and `Memory` are faults of the first reading, before its verdict and before
+/// the second begins, or of the second. `Changed` comes only after the verdict: the readings differ.
 pub fn explain_wide<R: Read, S: Read, W: Write>(
     alloc: Global,
     coherent: bool,

@@ -5,7 +5,7 @@ use Rattle.std.specs.Io.KnownBytes.{Consumes}
 use Rattle.tl_beat.specs.declared.beat.Beat.{Beat}
 use Rattle.tl_beat.specs.declared.beat.Link.{Link}
 use Rattle.tl_engine.specs.declared.explain_fault.ExplainFault.{ExplainFault}
-use Rattle.tl_engine.specs.declared.explain_fault.ExplainFault.TheVariants.{Changed, Tool}
+use Rattle.tl_engine.specs.declared.explain_fault.ExplainFault.TheVariants.{Tool}
 use Rattle.tl_engine.specs.declared.fault.Fault.{Fault}
 use Rattle.tl_engine.specs.declared.fault.Fault.TheVariants.{Rule as Breaks, MemoryRule as BreaksTogether}
 use Rattle.tl_engine.specs.declared.status.Status.{Status}
@@ -15,7 +15,7 @@ use Rattle.tl_engine.specs.statement.Explained.{broken_alone, is_of_order}
 use Rattle.tl_engine.specs.statement.Fault.{fault_text}
 use Rattle.tl_engine.specs.statement.Lines.{lines_of}
 use Rattle.tl_engine.specs.statement.Parts.{AppendsShort}
-use Rattle.tl_engine.specs.statement.Run.{EndsAs}
+use Rattle.tl_engine.specs.statement.Unexplained.{GivesUpReading, ReachesBy}
 use Rattle.tl_explain.specs.declared.reason.Reason.{Reason}
 use Rattle.tl_explain.specs.statement.Reasons.{IsEvidenceUnder, convicted_under}
 use Rattle.tl_explain.specs.statement.Sentences.{memory_rule_line, rule_line}
@@ -31,7 +31,7 @@ use Rattle.tl_wide.specs.statement.Naming.{WideTrace}
 use Rattle.tl_wide.specs.statement.Narrowed.{beats_of}
 use Rattle.tl_wide.specs.statement.Width.{part_width, wide_bytes_of}
 use Rattle.tl_wide_lines.specs.statement.Behind.{beats_taken, behind, with_parts}
-use Rattle.tl_wide_lines.specs.statement.JudgedTrace.{BeginWith, JudgedTrace}
+use Rattle.tl_wide_lines.specs.statement.JudgedTrace.{BeginWith, JudgedTrace, TraceSoFar}
 use Rattle.tl_wide_lines.specs.statement.WideHeader.{NamesWide}
 use Rattle.tl_wide_lines.specs.statement.WideText.{wide_text_of}
 
@@ -117,12 +117,9 @@ ExplainsWide allow old new verdict reasons Broken = (n : ℕ) × (fault : Fault)
 
 -- ---- a file with two readers
 
--- The first reading, of each link by itself or of all together, reached its verdict: at the end of the input, or at a
--- line at fault that no continuation can mend.
+-- The first reading, of each link by itself or of all together, reached its verdict.
 abbrev pub ReachesWide : Bool → Liberties → Option (List ℕ) → Option (List ℕ) → List ℕ → Status → Type 0
-ReachesWide together allow had left verdict status =
-    (read : List ℕ) × Consumes had left read × JudgedTrace together allow (lines_of read) verdict status
-    × EndsAs (JudgedTrace together allow) left read verdict status
+ReachesWide together allow = ReachesBy (JudgedTrace together allow)
 
 -- Both readings reached their ends, with this verdict and these reasons.
 pub record ReachesBoth (together : Bool) (allow : Liberties) (had left had_again left_again : Option (List ℕ))
@@ -134,10 +131,12 @@ pub record ReachesBoth (together : Bool) (allow : Liberties) (had left had_again
   pub said : text ≡ verdict ++ reasons
 
 -- An explanation ended with this fault. `Write`: both readings reached their ends, and the writer took only a front of
--- the text. Otherwise nothing was written.
+-- the text. Otherwise nothing was written: the first reading ended with the fault and the second didn't begin, or the
+-- first reached its verdict and the second ended with the fault.
 abbrev pub GivesUpWide : Bool → Liberties → Option (List ℕ) → Option (List ℕ) → Option (List ℕ) → Option (List ℕ)
     → Option (List ℕ) → Option (List ℕ) → ExplainFault → Type 0
 GivesUpWide together allow had left had_again left_again held holds (Tool Write) =
     (text : List ℕ) × (status : Status) × ReachesBoth together allow had left had_again left_again text status
     × AppendsShort held holds text
-GivesUpWide together allow had left had_again left_again held holds fault = holds ≡ held
+GivesUpWide together allow had left had_again left_again held holds fault =
+    GivesUpReading (TraceSoFar together allow) (JudgedTrace together allow) had left had_again left_again held holds fault

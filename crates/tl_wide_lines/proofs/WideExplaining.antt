@@ -1,17 +1,20 @@
 -- What the two readings of a wide trace bring.
-use Rattle.std.proofs.Common.{◌≡◌, ◌+◌, ℕ, Bool, false, List, [], subst}
-use Rattle.std.specs.Prelude.{Option}
-use Rattle.std.specs.Io.KnownBytes.{Consumes}
+use Rattle.std.proofs.Common.{◌≡◌, ◌+◌, ℕ, Bool, false, List, []}
+use Rattle.std.specs.Prelude.{Option, Some}
+use Rattle.tl_engine.specs.code.GivenUp.{IsKnown}
+use Rattle.tl_engine.specs.code.Judging.{IsTotal, KnowsFor}
 use Rattle.tl_engine.specs.declared.fault.Fault.{Fault}
 use Rattle.tl_engine.specs.declared.fault.Fault.TheVariants as fault
 use Rattle.tl_engine.specs.declared.status.Status.{Status}
 use Rattle.tl_engine.specs.declared.status.Status.TheVariants.{Broken}
 use Rattle.tl_engine.specs.statement.Fault.{fault_text}
-use Rattle.tl_engine.specs.statement.Lines.{lines_of}
-use Rattle.tl_engine.specs.statement.Run.{EndsAs}
+use Rattle.tl_engine.specs.statement.Run.{RunsTo}
 use Rattle.tl_params.specs.declared.liberties.Liberties.{Liberties}
 use Rattle.tl_wide_lines.specs.code.WideReplaying.{is_rule}
-use Rattle.tl_wide_lines.specs.statement.JudgedTrace.{JudgedTrace}
+use Rattle.tl_wide_lines.proofs.TraceJudged.{trace-so-far, trace-total}
+use Rattle.tl_wide_lines.specs.code.WideWatching.{KnowsTraceLines, trace_judged_for}
+use Rattle.tl_wide_lines.specs.declared.examine.WideExaminer.{WideExaminer}
+use Rattle.tl_wide_lines.specs.statement.JudgedTrace.{JudgedTrace, TraceSoFar}
 use Rattle.tl_wide_lines.specs.statement.WideExplained.{ExplainsWide, ReachesWide}
 
 -- what an examiner knows of the lines that it has judged
@@ -27,6 +30,13 @@ examined-so-far together allow lines text (e, known) = trace-so-far together all
 pub examined-total : IsTotal (λ (e : WideExaminer). trace_judged_for e.trace)
     (λ e lines text. KnowsTraceLines e.trace lines text) (λ p. JudgedTrace p.0 p.1)
 examined-total e lines text known more = trace-total e.trace lines text known more
+
+-- the first reading reached its verdict, which a writer into memory holds
+pub reached : (together : Bool) (allow : Liberties) (had left : Option (List ℕ)) (held verdict : List ℕ)
+    (status : Status) → held ≡ [] → RunsTo (JudgedTrace together allow) had left (Some held) (Some verdict) status
+    → ReachesWide together allow had left verdict status
+reached together allow had left held verdict status none (read, text, consumed, appended, judged, ends) =
+    rw (appended, none) (read, consumed, judged, ends)
 
 -- of a fault that is no breach of a rule nothing is claimed but the verdict
 pub other_explains : (allow : Liberties) (old new : Option (List ℕ)) (verdict : List ℕ) (good : ℕ) (found : Fault)

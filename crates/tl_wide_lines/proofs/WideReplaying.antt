@@ -1,8 +1,8 @@
 -- Lines of a wide trace that are read again bring the record on, up to the line at fault.
-use Rattle.std.proofs.Common.{◌≡◌, ◌∙◌, ◌+◌, ℕ, suc, List, [], ◌∷◌, ◌++◌, length, true, false, refl, sym, ap, subst}
+use Rattle.std.proofs.Common.{◌≡◌, ◌∙◌, ◌+◌, ℕ, List, [], ◌∷◌, ◌++◌, true, false, refl, sym, ap, subst}
 use Rattle.std.proofs.Common.{arith, append_assoc, length-append, inl, inr, eqb-true}
 use Rattle.std.proofs.lemmas.List.{append-nil}
-use Rattle.std.specs.Prelude.{◌==◌, ◌⊎◌, Bool, not, slice_get, IsTrue, OnOk, Option, Result, Ok, Err, ⊤}
+use Rattle.std.specs.Prelude.{◌==◌, ◌⊎◌, Bool, not, slice_get, IsTrue, OnOk, Option, Result, Ok, Err}
 use Rattle.std.specs.Result.{is_err}
 use Rattle.std.specs.Io.KnownBytes.{Consumes}
 use Rattle.tl_beat.specs.declared.beat.Beat.{Beat}
@@ -46,7 +46,7 @@ use Rattle.tl_wide_lines.specs.code.WideReplaying.{TakesLine, TellsLine, sentenc
 use Rattle.tl_wide_lines.specs.declared.reread.Passed.{Passed}
 use Rattle.tl_wide_lines.specs.declared.reread.Passed.TheVariants.{Strange, Taken, Told}
 use Rattle.tl_wide_lines.specs.declared.replay.WideReplay.{WideReplay}
-use Rattle.tl_wide_lines.specs.statement.WideExplained.{ExplainsWide, ExplainsWideFault, HasGuilty, IsConvicted}
+use Rattle.tl_wide_lines.specs.statement.WideExplained.{ExplainsWide, ExplainsWideFault, IsConvicted}
 use Rattle.tl_wide_lines.specs.statement.JudgedTrace.{BeginWith}
 use Rattle.tl_wide_lines.specs.statement.WideExplained.{wide_front_text}
 use Rattle.tl_wide_lines.specs.statement.WideHeader.{NamesWide}

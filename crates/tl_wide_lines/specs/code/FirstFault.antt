@@ -1,7 +1,5 @@
 -- The first fault of a wide trace, beat by beat.
 use Rattle.std.specs.Prelude.{◌≡◌, ℕ, Bool, List, [], ◌∷◌, length, Option, Some, None}
-use Rattle.tl_beat.specs.declared.beat.Beat.{Beat}
-use Rattle.tl_beat.specs.declared.beat.Link.{Link}
 use Rattle.tl_engine.specs.declared.fault.Fault.{Fault}
 use Rattle.tl_engine.specs.statement.JudgedLinks.{faults_by}
 use Rattle.tl_params.specs.declared.level.Level.{Level}

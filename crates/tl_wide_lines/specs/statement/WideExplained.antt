@@ -1,5 +1,5 @@
 -- The reasons for the verdict on a wide trace: those for the first part of its beat at fault that breaks the rule.
-use Rattle.std.specs.Prelude.{◌≡◌, ◌⊎◌, ◌+◌, ◌++◌, ℕ, Bool, true, false, List, [], ◌∷◌, length, slice_get, Option, Some, ⊤, codes}
+use Rattle.std.specs.Prelude.{◌≡◌, ◌+◌, ◌++◌, ℕ, Bool, true, false, List, [], ◌∷◌, length, slice_get, Option, Some, ⊤, codes}
 use Rattle.std.specs.Fmt.{decimal}
 use Rattle.std.specs.Io.KnownBytes.{Consumes}
 use Rattle.tl_beat.specs.declared.beat.Beat.{Beat}
@@ -21,7 +21,6 @@ use Rattle.tl_explain.specs.statement.Reasons.{IsEvidenceUnder, convicted_under}
 use Rattle.tl_explain.specs.statement.Sentences.{memory_rule_line, rule_line}
 use Rattle.tl_params.specs.declared.level.Level.{Level}
 use Rattle.tl_params.specs.declared.liberties.Liberties.{Liberties}
-use Rattle.tl_params.specs.declared.memory_rule.MemoryRule.{MemoryRule}
 use Rattle.tl_params.specs.declared.rule.Rule.{Rule}
 use Rattle.tl_rules.specs.statement.Conformance.{Trace}
 use Rattle.tl_wide.specs.declared.beat.WideBeat.{WideBeat}

@@ -2,7 +2,7 @@ use Rattle.std.specs.Prelude.{Some}
 use Rattle.std.proofs.lemmas.Result.{err_from_is_err_and}
 use Rattle.tl_engine.proofs.Unexplained.{unjudged_by}
 use Rattle.tl_wide_lines.proofs.TraceJudged.{made-for}
-use Rattle.tl_wide_lines.proofs.WideExplaining.{KnowsExamined, examined-so-far, examined-total}
+use Rattle.tl_wide_lines.proofs.WideExplaining.{KnowsExamined, examined-so-far, examined-total, reached}
 use Rattle.tl_wide_lines.proofs.examine.examine.Goals as goal
 use Rattle.tl_wide_lines.specs.statement.JudgedTrace.{JudgedTrace, TraceSoFar}
 
@@ -12,7 +12,8 @@ handle_input-requires-clause-total g c = examined-total
 pub returns-clause-ok : goal.returns-clause-ok
 returns-clause-ok g c =
     let same = made-for c.new.result c.args.together c.args.allow c.new.ensures.purpose in
-    rw (same.0, same.1) at c.handle_input.ensures.ok
+    reached c.args.together c.args.allow _ _ c.args.verdict.now.items _ c.in_ok-status.status c.requires
+    (rw c.in_ok-status.ensures.ok at (rw (same.0, same.1) at c.handle_input.ensures.ok))
 
 pub returns-in_err-status-clause-fault : goal.returns-in_err-status-clause-fault
 returns-in_err-status-clause-fault g c =

@@ -14,8 +14,10 @@ LIBRARY = os.path.join(OUT, "libhefrudyl.a")
 
 WATCH = ["sv/tl_pkg.sv", "sv/tl_unknown.sv", "sv/tl_pending.sv", "sv/tl_port_watch.sv"]
 SV = WATCH + ["sv/tl_manager_recorder.sv", "sv/tl_link_recorder.sv"]
-COMMIT_RECORDER = ["sv/tl_commit_watch.sv", "sv/tl_commit_recorder.sv"]
+COMMIT_WATCH = ["sv/tl_commit_watch.sv"]
+COMMIT_RECORDER = COMMIT_WATCH + ["sv/tl_commit_recorder.sv"]
 CHECKERS = ["sv/tl_manager_checker.sv", "sv/tl_link_checker.sv"]
+COMMIT_CHECKER = ["sv/tl_commit_checker.sv"]
 INCLUDES = "-I" + os.path.join(HERE, "sv")
 EXAMPLE = [f"example/{name}.sv" for name in (
     "tl_cache", "tl_liberal_cache", "tl_home", "tl_crossbar", "tl_shared_home", "tl_device", "bench_recorded")]
@@ -166,6 +168,12 @@ def recorded_commits(*flags):
     return verilator("with_commits" + "".join(flags), "bench_recorded", SV + COMMIT_RECORDER + EXAMPLE, "-DCOMMITS", *flags)
 
 
+def commits_checked(count=0, *flags):
+    """The same with one checker of all links, which judges what they store and load too."""
+    return with_library(f"commits_checked{count}" + "".join(flags), COMMIT_RECORDER + COMMIT_CHECKER,
+                        ["sv/tl_checker_dpi.cpp"], "-DCOMMITS", "-DTOGETHER", f"-DCOUNT={count}", *flags)
+
+
 def shared(*flags):
     """The example whose caches share a port of the manager."""
     return verilator("shared", "bench_recorded", SV + EXAMPLE, "-DSHARED", *flags)
@@ -235,6 +243,12 @@ def liberal_in_icarus(proved=False):
 def judged(trace, *words):
     """What `tltool monitor`, or the command with these words, writes of a trace."""
     done = subprocess.run([TLTOOL, *(words or ["monitor"]), trace], stdout=subprocess.PIPE, text=True, timeout=600)
+    return done.stdout.strip()
+
+
+def decoded(beat):
+    """The text of `tltool decode` for the fields of a beat line."""
+    done = subprocess.run([TLTOOL, "decode"], input=" ".join(beat) + "\n", stdout=subprocess.PIPE, text=True)
     return done.stdout.strip()
 
 

@@ -18,7 +18,7 @@ import traceback
 sys.path.insert(0, os.path.join(os.path.dirname(os.path.abspath(__file__)), "tests"))
 
 from harness import LIBRARY, TESTS, TLTOOL, Failed
-for subject in ("names", "pages", "your_cache", "your_bench", "recorder", "commits", "unknown", "ports", "shared", "wide", "lint", "library", "python_library", "liberties", "liberal", "checker", "agents", "conformance", "formal"):
+for subject in ("names", "pages", "your_cache", "your_bench", "recorder", "commits", "commit_checker", "unknown", "ports", "shared", "wide", "lint", "library", "python_library", "liberties", "liberal", "checker", "agents", "conformance", "formal"):
     __import__(subject)  # adds its tests
 
 

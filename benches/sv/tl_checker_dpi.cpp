@@ -1,6 +1,6 @@
-// The DPI side of tl_manager_checker and tl_link_checker: a proved monitor, or a proved judge of all links, for
-// each, and with COVER a proved cover. Nothing is judged or counted here: the words of a beat are put into a tl_beat,
-// and what the library answers is handed back.
+// The DPI side of tl_manager_checker, tl_link_checker and tl_commit_checker: a proved monitor, a proved judge of all links, or one
+// of beats and commits, for each, and with COVER a proved cover. Nothing is judged or counted here: the words of a beat are put
+// into a tl_beat, those of a commit into a tl_commit, and what the library answers is handed back.
 #include "tl_dpi.hpp"
 
 #include <cstdio>
@@ -9,14 +9,17 @@
 
 namespace {
 
-// What a handle of SystemVerilog stands for: the beats of its links are wide, or they aren't.
+constexpr tl_answer OF_ANOTHER_KIND = {TL_BAD_ARGUMENT, TL_NO_RULE};
+
+// What a handle of SystemVerilog stands for: the beats of its links are wide, or they aren't, and it judges commits, or it doesn't.
 struct Checker {
   std::unique_ptr<hefrudyl::Cover> cover;  // what counts situations, where they are counted
   bool counts = true;                      // no beat was at fault
 
   virtual ~Checker() = default;
   virtual tl_answer push(std::uint8_t link, const tl_beat &beat) = 0;
-  virtual tl_answer push_wide(std::uint8_t link, const tl_wide_beat &beat) = 0;
+  virtual tl_answer push_wide(std::uint8_t, const tl_wide_beat &) { return OF_ANOTHER_KIND; }
+  virtual tl_answer commit(std::uint8_t, const tl_commit &) { return OF_ANOTHER_KIND; }
 
   // Judges a beat, and counts its situations where no beat was at fault.
   tl_answer take(std::uint8_t link, const tl_beat &beat) {
@@ -27,19 +30,21 @@ struct Checker {
   }
 };
 
-constexpr tl_answer OF_ANOTHER_WIDTH = {TL_BAD_ARGUMENT, TL_NO_RULE};
-
 template <typename Judging> struct CheckerBy : Checker {
   Judging judging;
   explicit CheckerBy(Judging &&made) : judging(std::move(made)) {}
   tl_answer push(std::uint8_t link, const tl_beat &beat) override { return judging.try_push(link, beat); }
-  tl_answer push_wide(std::uint8_t, const tl_wide_beat &) override { return OF_ANOTHER_WIDTH; }
+};
+
+struct CommitChecker : CheckerBy<hefrudyl::CommitJudge> {
+  using CheckerBy::CheckerBy;
+  tl_answer commit(std::uint8_t link, const tl_commit &commit) override { return judging.try_commit(link, commit); }
 };
 
 template <typename Judging> struct WideCheckerBy : Checker {
   Judging judging;
   explicit WideCheckerBy(Judging &&made) : judging(std::move(made)) {}
-  tl_answer push(std::uint8_t, const tl_beat &) override { return OF_ANOTHER_WIDTH; }
+  tl_answer push(std::uint8_t, const tl_beat &) override { return OF_ANOTHER_KIND; }
   tl_answer push_wide(std::uint8_t link, const tl_wide_beat &beat) override { return judging.push(link, beat); }
 };
 
@@ -92,21 +97,44 @@ static std::unique_ptr<Checker> made(const std::vector<std::uint8_t> &levels, st
                   : checker_of<hefrudyl::Monitor>(levels, width, profile, liberties);
 }
 
-// `levels` has two bits for each link, the lowest for link 0; `liberties` is a sum of enum tl_liberty.
-extern "C" void *tl_checker_open(int links, int levels, int width, int profile, int liberties, int together, int covers,
-                                 int wide) {
-  std::vector<std::uint8_t> codes;
-  for (int i = 0; i < links; i++)
-    codes.push_back(static_cast<std::uint8_t>((static_cast<unsigned>(levels) >> (2 * i)) & 3));
+// So many numbers of so many bits each, the first in the lowest bits.
+static std::vector<std::uint8_t> numbers_of(int count, int bits, int packed) {
+  std::vector<std::uint8_t> numbers;
+  for (int i = 0; i < count; i++)
+    numbers.push_back(static_cast<std::uint8_t>((static_cast<unsigned>(packed) >> (bits * i)) & ((1u << bits) - 1)));
+  return numbers;
+}
+
+// What `make` makes, as a handle of SystemVerilog; none where it throws.
+template <typename Make> static void *handle_of(Make make) {
   try {
-    const auto bytes = static_cast<std::uint8_t>(width);
-    auto checker = made(codes, bytes, profile, liberties, together != 0, wide != 0);
-    if (covers) checker->cover = std::make_unique<hefrudyl::Cover>(codes, bytes, all_liberties(profile, liberties));
-    return checker.release();
+    Checker *checker = make().release();
+    return checker;
   } catch (const std::exception &error) {
     std::fprintf(stderr, "tl_checker: %s\n", error.what());
     return nullptr;
   }
+}
+
+// `levels` has two bits for each link, the lowest for link 0; `liberties` is a sum of enum tl_liberty.
+extern "C" void *tl_checker_open(int links, int levels, int width, int profile, int liberties, int together, int covers,
+                                 int wide) {
+  return handle_of([=] {
+    const auto codes = numbers_of(links, 2, levels);
+    const auto bytes = static_cast<std::uint8_t>(width);
+    auto checker = made(codes, bytes, profile, liberties, together != 0, wide != 0);
+    if (covers) checker->cover = std::make_unique<hefrudyl::Cover>(codes, bytes, all_liberties(profile, liberties));
+    return checker;
+  });
+}
+
+// The same of beats and commits; `complete` has a bit for each link of which all stores are judged.
+extern "C" void *tl_checker_open_commits(int links, int levels, int complete, int width, int profile, int liberties) {
+  return handle_of([=] {
+    return std::make_unique<CommitChecker>(hefrudyl::CommitJudge(numbers_of(links, 2, levels), numbers_of(links, 1, complete),
+                                                                 static_cast<std::uint8_t>(width),
+                                                                 all_liberties(profile, liberties)));
+  });
 }
 
 // The answer is the code, and 256 times the number of the rule. A beat that breaks one isn't taken, and the next is judged
@@ -122,6 +150,14 @@ extern "C" int tl_checker_push_wide(void *checker, int link, long long fields, i
                                     const svBitVecVal *lanes) {
   return tl_dpi::number_of(static_cast<Checker *>(checker)->push_wide(
       static_cast<std::uint8_t>(link), tl_dpi::wide_beat_of(fields, ids, address, mask, lanes)));
+}
+
+// The same of a commit, by the letter of its line.
+extern "C" int tl_checker_commit(void *checker, int link, int letter, int size, int address, long long value) {
+  const auto kind = letter == 'S' ? TL_COMMIT_STORE : letter == 'L' ? TL_COMMIT_LOAD : TL_COMMIT_BEGIN;
+  const tl_commit commit = {static_cast<std::uint64_t>(value), static_cast<std::uint32_t>(address),
+                            static_cast<std::uint8_t>(kind), static_cast<std::uint8_t>(size)};
+  return tl_dpi::number_of(static_cast<Checker *>(checker)->commit(static_cast<std::uint8_t>(link), commit));
 }
 
 // The name of a rule. A beat whose opcode isn't in use is none, and 0 stands for that: F4 in a trace.

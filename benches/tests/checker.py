@@ -5,15 +5,9 @@ import re
 import subprocess
 
 from harness import (
-    TLTOOL, CHECKERS, DPI, INCLUDES, SV, WATCH, HOME_BUGS, BUGS, test, want, run, path, files, verilator, icarus, checked, recorded,
-    together, covered, judged, beat_lines,
+    CHECKERS, DPI, INCLUDES, SV, WATCH, HOME_BUGS, BUGS, test, want, run, path, files, verilator, icarus, checked, recorded,
+    together, covered, decoded, judged, beat_lines,
 )
-
-
-def decoded(beat):
-    """The text of `tltool decode` for the fields of a beat line."""
-    done = subprocess.run([TLTOOL, "decode"], input=" ".join(beat) + "\n", stdout=subprocess.PIPE, text=True)
-    return done.stdout.strip()
 
 
 @test

@@ -6,8 +6,8 @@ import subprocess
 import sys
 
 from harness import (
-    BUGS, COMMIT_RECORDER, COPY_BUGS, EXAMPLE, INCLUDES, LIBERAL_BUGS, LIBERAL_COPY_BUGS, ROOT, SV, WATCH, beat_lines, files, icarus, judged, path,
-    recorded_commits, run, test, verilator, want,
+    BUGS, COMMIT_CHECKER, COMMIT_RECORDER, COMMIT_WATCH, COPY_BUGS, EXAMPLE, INCLUDES, LIBERAL_BUGS, LIBERAL_COPY_BUGS, ROOT, SV, WATCH,
+    beat_lines, commits_checked, files, icarus, judged, path, recorded_commits, run, test, verilator, want,
 )
 
 sys.path.insert(0, os.path.join(ROOT, "bench"))
@@ -110,23 +110,33 @@ def commits_behind_a_second_reset_are_refused():
 REFUSED = [
     ("W(32)", "tl_commits_are_not_of_wide_links"), ("ADDRESS_BITS(33)", "tl_commits_are_not_of_wide_links"),
     ("SOURCE_BITS(9)", "tl_commits_are_not_of_wide_links"), ("COMMITS(0)", "tl_COMMITS_is_1_to_16"), ("COMMITS(17)", "tl_COMMITS_is_1_to_16"),
-    ("FIRST(16)", "tl_links_are_0_to_15"), ("SINK_BITS(17)", "tl_SINK_BITS_is_1_to_16"),
+    ("SINK_BITS(17)", "tl_SINK_BITS_is_1_to_16"),
 ]
 REFUSED_COMPLETE = ["COMPLETE(16'b0)", "COMPLETE(16'b10)", "COMPLETE(16'b1), .LEVELS(1)", "N(2), .COMPLETE(16'b101)"]
+RECORDED, CHECKED = WATCH + COMMIT_RECORDER, WATCH + COMMIT_WATCH + COMMIT_CHECKER
+
+
+def elaborated(command, module, sources, parameters):
+    """What a simulator says of an instance."""
+    bench = path("refused.sv")
+    with open(bench, "w") as text:
+        text.write(f"module refused; {module} #({parameters}) r (); endmodule\n")
+    return subprocess.run([*command, *files(sources), bench], stdout=subprocess.PIPE, stderr=subprocess.STDOUT, text=True)
 
 
 @test
-def a_recorder_of_commits_refuses_what_no_trace_can_have():
+def commits_that_no_trace_can_have_are_refused_at_elaboration():
     cases = [(f".COMPLETE(16'b1), .{parameter}", name) for parameter, name in REFUSED]
     cases += [(f".{parameter}", "tl_COMPLETE_is_of_links_of_level_C") for parameter in REFUSED_COMPLETE] + [(".COMPLETE(16'b1)", None)]
+    too_many = [(".COMPLETE(16'b1), .FIRST(16)", "tl_links_are_0_to_15")]
     verilator_lint = ["verilator", "--lint-only", "--timing", "-Wno-PINMISSING", "-Wno-WIDTH", INCLUDES, "--top-module", "refused"]
-    for command in (verilator_lint, ["iverilog", "-g2012", INCLUDES, "-s", "refused", "-t", "null"]):
-        for parameters, name in cases:
-            bench = path("refused.sv")
-            with open(bench, "w") as text:
-                text.write(f"module refused; tl_commit_recorder #({parameters}) r (); endmodule\n")
-            told = subprocess.run([*command, *files(WATCH + COMMIT_RECORDER), bench], stdout=subprocess.PIPE, stderr=subprocess.STDOUT, text=True)
-            want((told.returncode != 0 and name in told.stdout) if name else told.returncode == 0, f"{command[0]} {parameters}: {told.stdout}")
+    # Icarus knows no DPI, by which the checker is called
+    for command, module, sources, wanted in (
+            (verilator_lint, "tl_commit_recorder", RECORDED, cases + too_many), (verilator_lint, "tl_commit_checker", CHECKED, cases),
+            (["iverilog", "-g2012", INCLUDES, "-s", "refused", "-t", "null"], "tl_commit_recorder", RECORDED, cases + too_many)):
+        for parameters, name in wanted:
+            told = elaborated(command, module, sources, parameters)
+            want((told.returncode != 0 and name in told.stdout) if name else told.returncode == 0, f"{command[0]} {module} {parameters}: {told.stdout}")
 
 
 # ---- the example's caches
@@ -145,12 +155,19 @@ def without_commits(name):
     return "alone"
 
 
+CACHES = ([], ["-DLIBERAL"])
+
+
+def in_icarus(*flags):
+    """The example in Icarus, as a command."""
+    return ["vvp", "-n", icarus("with_commits" + "".join(flags) + ".vvp", "bench_recorded", SV + COMMIT_RECORDER + EXAMPLE, "-DCOMMITS", *flags)]
+
+
 @test
 def what_right_caches_store_and_load_is_coherent_in_both_simulators():
-    for flags in ([], ["-DLIBERAL"]):
-        slow = icarus("with_commits.vvp", "bench_recorded", SV + COMMIT_RECORDER + EXAMPLE, "-DCOMMITS", *flags)
+    for flags in CACHES:
         for seed in (1, 2):
-            for name, command in (("fast", [recorded_commits(*flags)]), ("slow", ["vvp", "-n", slow])):
+            for name, command in (("fast", [recorded_commits(*flags)]), ("slow", in_icarus(*flags))):
                 told = run([*command, f"+seed={seed}", "+cycles=5000", f"+trace={path(name)}"])
                 want("agree" in told, f"{name}, seed {seed}: {told}")
             lines = beat_lines("fast")
@@ -163,8 +180,7 @@ def what_right_caches_store_and_load_is_coherent_in_both_simulators():
 @test
 def commits_between_beats_of_other_widths_are_coherent_too():
     for flags in (["-DWIDTH=4"], ["-DWIDTH=16"], ["-DSHARED"], ["-DLIBERAL", "-DLATE"]):
-        slow = icarus("with_commits.vvp", "bench_recorded", SV + COMMIT_RECORDER + EXAMPLE, "-DCOMMITS", *flags)
-        told = run(["vvp", "-n", slow, "+seed=5", "+cycles=2000", f"+trace={path('slow')}"])
+        told = run([*in_icarus(*flags), "+seed=5", "+cycles=2000", f"+trace={path('slow')}"])
         verdict = judged(path("slow"), "coherent")
         want("agree" in told and verdict == f"coherent {len(beat_lines('slow')) - 1}" == judged_by_model("slow"), f"{flags}: {verdict}, {told}")
 
@@ -196,3 +212,28 @@ def no_commit_hides_a_bug_that_a_link_shows():
                 run([built, "+seed=1", "+cycles=20000", f"+bug={bug}", f"+trace={path('copy')}"])
                 verdict = judged(path("copy"), "coherent")
                 want(verdict.endswith(f" {rule}"), f"bug {bug}: {verdict}")
+
+
+def ten_million_cycles(command, wanted):
+    """Fifty runs without a bug, of which the bench tells what is wanted, and the command judges the trace of each."""
+    count = 0
+    for seed in range(401, 451):
+        told = run([*command, f"+seed={seed}", "+cycles=200000", f"+trace={path('long')}"], timeout=7200)
+        lines = len(beat_lines("long")) - 1
+        verdicts = [judged(path("long"), it) for it in ("monitor", "coherent")]
+        want(verdicts == [f"clean {lines}", f"coherent {lines}"], f"seed {seed}: {verdicts}")
+        want(all(it in told for it in wanted), f"seed {seed}: {told}")
+        count += lines
+    print(f"        {count} lines")
+
+
+@test
+def ten_million_cycles_with_commits_long():
+    for flags in CACHES:
+        ten_million_cycles([commits_checked(0, *flags)], ["agree", "faults: 0"])
+
+
+@test
+def ten_million_cycles_with_commits_in_icarus_long():
+    for flags in CACHES:
+        ten_million_cycles(in_icarus(*flags), ["agree"])

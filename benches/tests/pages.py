@@ -4,7 +4,7 @@ import os
 import re
 import subprocess
 
-from harness import CHECKERS, COMMIT_RECORDER, INCLUDES, ROOT, SV, files, path, test, want
+from harness import CHECKERS, COMMIT_CHECKER, COMMIT_RECORDER, INCLUDES, ROOT, SV, files, path, test, want
 
 INSTANCE = re.compile(r"^    ((tl_\w+) #\(.*\) \w+ \(.*\);)$", re.M)
 HEAD = re.compile(r"^module (\w+)( #\(.*?\n\) \(\n.*?\n\);)", re.M | re.S)
@@ -23,7 +23,7 @@ def the_instances_of_the_page_fit_the_modules():
         # A module with the same ports, whose signals so have the names that `.*` asks for.
         with open(around, "w") as out:
             out.write(f"module around{head}\n{instance}\nendmodule\n")
-        sources = files(SV + COMMIT_RECORDER + CHECKERS)
+        sources = files(SV + COMMIT_RECORDER + CHECKERS + COMMIT_CHECKER)
         own = os.path.join(folder, f"{module}.sv")
         told = subprocess.run(
             ["verilator", "--lint-only", "--timing", "-Wno-WIDTH", "-Wno-MULTITOP", INCLUDES, "--top-module", "around",

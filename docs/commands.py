@@ -13,8 +13,9 @@ HELP = "help"
 RULES = [*(f"L{it}" for it in range(1, 8)), "S1", *(f"H{it}" for it in range(1, 14))]
 TRACE = [*(f"F{it}" for it in range(1, 8)), *RULES]
 TOGETHER = [*TRACE, *(f"M{it}" for it in range(1, 5))]
+COMMITS = [*(f"M{it}" for it in range(5, 8))]
 # The codes that each command can write.
-CODES = {"decode": [f"F{it}" for it in range(1, 7)], "monitor": [*TRACE, "F9"], "explain": TOGETHER, "chart": TRACE, "cover": [*TRACE, "F9"], "coherent": [*TOGETHER, "F9"], "run": ["F1", "F7", "F8"], "random": []}
+CODES = {"decode": [f"F{it}" for it in range(1, 7)], "monitor": [*TRACE, "F9"], "explain": [*TOGETHER, "F9"], "chart": TRACE, "cover": [*TRACE, "F9"], "coherent": [*TOGETHER, *COMMITS, "F9"], "run": ["F1", "F7", "F8"], "random": []}
 
 
 def section(text, name):

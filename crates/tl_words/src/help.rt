@@ -62,11 +62,13 @@ pub const TOOL: &str =
   F1 to F6      the line is not a beat
   F7            the first line is not a header
   F8            the line is not an event (`run`)
-  F9            a wide trace has too many blocks, sources or sinks (`monitor`, `coherent`, `cover`)
+  F9            a wide trace has too many blocks, sources or sinks (`monitor`, `coherent`, `explain`,
+                `cover`)
   L1 to L7      the beat is not legal by itself
   S1            the beat does not continue its burst
   H1 to H13     the beat breaks the order of messages
   M1 to M4      the beat breaks a rule of memory, between links (`coherent`)
+  M5 to M7      a store, a load, or a beat beside them breaks a rule of the copies (`coherent`)
 
 Exit status:
   0  no line is at fault, or help or the version was requested
@@ -187,9 +189,16 @@ pub const TRACE: &str = outcomes_of_a_trace!(
 
 /// The help after the options of `coherent`.
 pub const TOGETHER: &str = outcomes_of_all_links!(
-    "It checks the rules of each link, and M1 to M4 between the links.\n",
+    "It checks the rules of each link, M1 to M4 between the links, and M5 to M7 of stores and loads.\n",
     "`tltool explain --coherent FILE` says why a line is at fault, `tltool explain M1` what M1 means.\n",
     ;
+    "  M5   for S, the link doesn't hold Trunk of the block, or its data are under way in a GrantData, a\n",
+    "       ProbeAckData or a ReleaseData; for L, the link holds nothing of the block, and no GrantData\n",
+    "       under way has brought the bytes, at every moment since the I line if there is one\n",
+    "  M6   a byte isn't one that it may be, at every moment since the I line if there is one at which\n",
+    "       the link held the block; not judged where the link holds Trunk and isn't C+\n",
+    "  M7   a byte of the data isn't one that it may be; or Trunk goes without data, and a byte that was\n",
+    "       stored can't be what memory has; not judged where the link isn't C+\n",
     "  F9   more than 2^26 blocks, 256 sources of a link or 256 sinks\n",
     ;
     "\n  tltool coherent two_caches.trace",
@@ -220,6 +229,7 @@ pub const COHERENT: &str = "Check all links of a manager together, as `coherent`
 pub const EXPLAIN: &str = outcomes_of_all_links!(
     "M1 to M4 are checked only with `--coherent`.\n",
     ;
+    "  F9   more than 2^26 blocks, 256 sources of a link or 256 sinks\n",
     ;
     "\n  tltool explain wrong_report.trace",
     "\n  tltool explain --coherent rules/M1.trace",

@@ -1,5 +1,5 @@
 -- The event that is meant by what a line says.
-use Rattle.tl_schedule.proofs.Imports.{Asked, Said, Load, Store, Acquire, Whole, Release, Access, Deliver, Fits, Get}
+use Rattle.tl_schedule.proofs.Imports.{Asked, Said, Access, Fits, Get}
 use Rattle.tl_schedule.proofs.Imports.{event_of, front, number_in, size_in}
 use Rattle.std.proofs.Common.{◌≡◌, ℕ, ◌≤◌, Bool, true, false, List, refl, ap}
 use Rattle.std.{proofs.Math.Bridge.le_prop, proofs.lemmas.Bool.leb-true, proofs.lemmas.Bool.le-leb}

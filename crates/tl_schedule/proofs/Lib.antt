@@ -11,4 +11,6 @@ pub mod WholeLines
 pub mod Commons
 pub mod Gets
 pub mod ByteDigits
+pub mod CommitTexts
+pub mod Stored
 pub mod Imports

@@ -1,7 +1,9 @@
+pub mod CommitWriting
 pub mod CommonReading
 pub mod EventReading
 pub mod FieldReading
 pub mod GetReading
 pub mod HeaderReading
 pub mod NameReading
+pub mod Storing
 pub mod Then

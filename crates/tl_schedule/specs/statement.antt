@@ -1,3 +1,4 @@
+pub mod Commits
 pub mod CommonLine
 pub mod EventLine
 pub mod OutcomeLine

@@ -3,6 +3,7 @@
 #![tactic(auto)]
 
 pub mod access;
+pub mod commit;
 pub mod common;
 mod field;
 mod get;
@@ -10,3 +11,4 @@ pub mod header;
 pub mod line;
 pub mod name;
 pub mod outcome;
+pub mod whole;

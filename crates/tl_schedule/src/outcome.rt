@@ -247,7 +247,7 @@ fn asked_size<const W: usize>(event: &Event<W>) -> u8
 }
 
 /// The link of a delivery, or of the client that is asked.
-fn link_of<const W: usize>(event: &Event<W>) -> Link
+pub(crate) fn link_of<const W: usize>(event: &Event<W>) -> Link
     ensures { result ≡ link_of event.now }
 {
     match event {

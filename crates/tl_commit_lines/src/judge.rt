@@ -30,8 +30,8 @@ pub enum EventJudge<const W: usize> {
     OfAll(CommitJudge<W>),
 }
 
-/// The levels of links.
-fn levels_of(alloc: Global, links: &[MarkedLevel]) -> Result<Vec<Level>, AllocError>
+/// The levels of links. The error means that there is no memory left.
+pub fn levels_of(alloc: Global, links: &[MarkedLevel]) -> Result<Vec<Level>, AllocError>
     ensures { IfOk result (λ levels. levels.items ≡ levels_of links.now) }
 {
     let mut levels = Vec::new(alloc);

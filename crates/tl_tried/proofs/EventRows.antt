@@ -21,7 +21,7 @@ use Rattle.tl_params.specs.declared.liberties.Liberties.{Liberties}
 use Rattle.tl_rules.specs.statement.Conformance.{Trace}
 use Rattle.tl_tried.proofs.Covered.{found_are}
 use Rattle.tl_tried.proofs.WideRowed.{rows-begun, rows-followed}
-use Rattle.tl_tried.specs.code.EventCover.{CoversBeats, CoversEvents, TakesBeatOf, TakesEvent, events_found_in}
+use Rattle.tl_tried.specs.code.EventCover.{CoversEvents, TakesBeatOf, TakesEvent, events_found_in}
 use Rattle.tl_tried.specs.code.Following.{TakesBeat}
 use Rattle.tl_tried.specs.code.WideRows.{first_in, followed}
 use Rattle.tl_tried.specs.declared.event_covering.EventCovering.{EventCovering}

@@ -1,5 +1,5 @@
 -- What a covering of a trace with commits answers of an event, and of a line.
-use Rattle.std.specs.Prelude.{◌≡◌, ◌+◌, ℕ, false, List, [], ◌∷◌, length, map, Option, Some, None}
+use Rattle.std.specs.Prelude.{◌≡◌, ◌+◌, ℕ, false, List, ◌∷◌, length, map, Option, Some, None}
 use Rattle.tl_beat.specs.declared.beat.Link.{Link}
 use Rattle.tl_commit_lines.specs.declared.header.MarkedLevel.{MarkedLevel}
 use Rattle.tl_commit_lines.specs.statement.JudgedEvents.{IsEventAtFault, fault_by}

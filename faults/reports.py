@@ -20,6 +20,8 @@ NAMES = {
     "C": ["AccessAck", "AccessAckData", "HintAck", None, "ProbeAck", "ProbeAckData", "Release", "ReleaseData"],
     "D": ["AccessAck", "AccessAckData", "HintAck", None, "Grant", "GrantData", "ReleaseAck", None],
 }
+# The letters of commits.
+KINDS = {"S": "Store", "L": "Load", "I": "LoadBegin"}
 # How a trace is given: as a file or on standard input, and what is done to it before.
 TRACES = [
     ("two_caches.trace", "cat"),
@@ -36,6 +38,12 @@ TRACES = [
     ("two_caches.trace", "sed '1s/.*/tltrace 4 8 early,drops C C/'"),
     ("two_caches.trace", "sed '1s/.*/tltrace 4 8 ids,drops C C/'"),
     ("wrong_report.trace", "sed '1s/.*/tltrace 4 8 standard C/'"),
+    ("rules/M6.trace", "cat"),
+    ("rules/M7_dropped.trace", "cat"),
+    ("rules/M5_begun.trace", "cat"),
+    ("rules/M6_right.trace", "sed '1s/C+/UH C C+/; s/^00/02/'"),
+    ("rules/M6.trace", "sed '5s/ 05$//'"),
+    ("two_caches.trace", "sed '1s/.*/tltrace 4 8 none C+ C+/; 11a 00 S 0 00000000 5a' | sed '20a 01 I 3 00000008\n00 L 0 00000000 5a'"),
 ]
 OPTIONS = [[], ["--all", "1"], ["--all", "2"], ["--all", "100"]]
 
@@ -46,9 +54,15 @@ def run(words, place, **given):
 
 
 def kind(line):
-    """The link, channel and message of a beat's line."""
-    link, channel, third = line.split(" ")[:3]
-    return int(link, 16), channel, "GrantAck" if channel == "E" else NAMES[channel][int(third, 16)]
+    """The link, channel and message of a beat's line, or the letter and kind of a commit's."""
+    link, letter, third = line.split(" ")[:3]
+    return int(link, 16), letter, KINDS.get(letter) or ("GrantAck" if letter == "E" else NAMES[letter][int(third, 16)])
+
+
+def rank(kind):
+    """The rank of an entry: by link, and then the beats by channel and opcode, and the commits."""
+    link, letter, message = kind
+    return link, "ABCDESLI".index(letter), NAMES.get(letter, [message]).index(message)
 
 
 def judged(tool, command, most, trace, place):
@@ -96,7 +110,7 @@ def one(checks, tool, command, options, trace, piped, place, version, says):
     checks.want(f"{what}: the report", json.loads(text), {
         "beats": len(taken),
         "command": command,
-        "counts": [{"beats": counts[it], "channel": it[1], "link": it[0], "message": it[2]} for it in sorted(counts, key=lambda it: (it[0], it[1], NAMES.get(it[1], ["GrantAck"]).index(it[2])))],
+        "counts": [{"beats": counts[it], "channel": it[1], "link": it[0], "message": it[2]} for it in sorted(counts, key=rank)],
         "faults": [{"line": number, "rule": code, "sentence": says(code)} for number, code in faults],
         "input": {"bytes": len(bytes_read), "header": header, "sha256": hashlib.sha256(bytes_read).hexdigest()},
         "tool": {"name": "tltool", "proved_with": version[1], "version": version[0]},

@@ -115,7 +115,7 @@ COMMITS = (
     ("M6", 5, "line 6 M6"), ("M6_right", 5, "coherent 5"), ("M6_unmarked_right", 5, "coherent 5"), ("M7", 5, "line 6 M7"),
     ("M7_right", 5, "coherent 5"), ("M7_dropped", 8, "line 9 M7"), ("M7_dropped_right", 8, "coherent 8"), ("M7_asked_right", 9, "coherent 9"),
     ("M7_coming", 17, "line 18 M7"), ("M7_coming_right", 24, "coherent 24"))
-COMMITS_UNREAD = "tltool: the header has a level C+, which only monitor and coherent read"
+COMMITS_UNREAD = "tltool: the header has a level C+, which only monitor, coherent and cover read"
 # Lines of no commit, with their faults, and headers in which a mark isn't at its place.
 NO_COMMITS = (("00 S 0 00000000", "F1"), ("00 I 0 00000000 05", "F1"), ("00 L 0 00000000 05 0", "F1"), ("00 T 0 00000000 05", "F2"),
     ("00 s 0 00000000 05", "F2"), ("00 S 4 00000000 05", "F3"), ("00 S 1 00000001 0505", "F3"), ("00 S 1 00000000 05", "F3"),
@@ -402,8 +402,24 @@ ROWS = [
     ("tltool chart <rules/M6.trace", 1, "..", f"{COMMITS_UNREAD}\n"),
     ("tltool explain rules/M6.trace", 1, "line 1 F7\n..", f"{COMMITS_UNREAD}\n"),
     ("tltool explain --coherent rules/M6.trace", 1, "line 1 F7\n..", f"{COMMITS_UNREAD}\n"),
-    ("tltool cover rules/M6.trace", 1, "line 1 F7\n..", ""),
-    ("tltool coherent --all 2 rules/M6.trace", 1, "line 1 F7\n..", ""),
+    # the situations of the beats, with the lines of the trace
+    *((f"tltool cover rules/{name}.trace | head -1", 0, f"clean {lines}\n", "") for name, lines, _ in COMMITS),
+    ("(cat rules/M6.trace; echo 00 C 7 1 6 00 00000000 0000000000000000 0) | tltool cover | grep release-TtoN", 0, "release-TtoN 1, line 7: ..", ""),
+    ("sed '5s/ 05$//' rules/M6.trace | tltool cover | head -1", 0, "line 5 F1\n", ""),
+    ("(sed '5s/05/07/' rules/M6.trace; printf '00 L 0') | tltool cover | head -1", 0, "line 7 F1\n", ""),
+    ("echo 'tltrace 4 8 none C+' | tltool cover | head -1", 0, "clean 0\n", ""),
+    # all that are at fault: neither a beat nor a commit at fault leaves anything
+    *((f"tltool coherent --all 9 rules/{name}.trace", int("M" in end or "L" in end), f"{end}\n" + "faults 1\n" * ("M" in end or "L" in end), "") for name, _, end in COMMITS),
+    *((f"tltool monitor --all 9 <rules/{name}.trace", 0, f"clean {lines}\n", "") for name, lines, _ in COMMITS),
+    ("(cat rules/M6.trace; echo 00 L 0 00000000 05; tail -1 rules/M6.trace) | tltool coherent --all 9", 1, "line 6 M6\nline 8 M6\nfaults 2\n", ""),
+    ("(cat rules/M5.trace; echo 00 L 0 00000000 07) | tltool coherent --all 9", 1, "line 5 M5\nfaults 1\n", ""),
+    ("(cat rules/M7.trace; tail -1 rules/M7_right.trace) | tltool coherent --all 9", 1, "line 6 M7\nfaults 1\n", ""),
+    ("sed '5s/ 05$//' rules/M6.trace | tltool coherent --all 9", 1, "line 5 F1\nfaults 1\n", ""),
+    ("sed '5s/ 05$//' rules/M6.trace | tltool monitor --all 9", 1, "line 5 F1\nfaults 1\n", ""),
+    ("(cat rules/M6.trace; printf '00 L 0') | tltool coherent --all 9", 1, "line 6 M6\nline 7 F1\nfaults 2\n", ""),
+    ("tltool coherent --all 1 rules/M6.trace", 1, "line 6 M6\nfaults 1\n", ""),
+    ("sed '9s/.*/00 A 6 1 6 01 00000000 ffff - 0/' rules/M7_dropped.trace | tltool coherent --all 9 --allow drops", 1, "line 9 M7\nfaults 1\n", ""),
+    *((f"sed '1s/.*/{header}/' rules/M6_right.trace | tltool coherent --all 9", 1, "line 1 F7\nfaults 1\n", "") for header in NO_MARKS),
     ("sed 4q rules/M1.trace | tltool coherent", 0, "coherent 3\n", ""),
     ("(cat rules/M1.trace; echo x) | tltool coherent", 1, "line 5 M1\n", ""),
     ("sed '1s/.*/tltrace 1 C/' rules/M1.trace | tltool coherent", 1, "line 4 L1\n", ""),

@@ -56,7 +56,7 @@ module _ (together : Bool) (allow : Liberties) (lines : List (List ℕ)) (text :
       line-says together allow old lines text k new line (Some found) watches
   links-say line old new answer watches k = absurd watches
 
-  links-open : (line : List ℕ) (links : EventLinks) → IsOpen line → KnowsEventLinks together allow links lines text
+  pub links-open : (line : List ℕ) (links : EventLinks) → IsOpen line → KnowsEventLinks together allow links lines text
       → EventSays together allow links lines text line (Some (Line F1))
   links-open line (Four judge) is k =
       line-stops together allow judge lines text k line (Line F1) (inl (F1, open-event 4 line is, refl))
@@ -65,7 +65,7 @@ module _ (together : Bool) (allow : Liberties) (lines : List (List ℕ)) (text :
   links-open line (Sixteen judge) is k =
       line-stops together allow judge lines text k line (Line F1) (inl (F1, open-event 16 line is, refl))
 
-  links-end : (links : EventLinks) → KnowsEventLinks together allow links lines text
+  pub links-end : (links : EventLinks) → KnowsEventLinks together allow links lines text
       → JudgedCommits together allow lines (text ++ said_by together (length lines - 1)) Clean
   links-end (Four judge) k = lines-end together allow judge lines text k
   links-end (Eight judge) k = lines-end together allow judge lines text k
@@ -80,13 +80,13 @@ module _ (together : Bool) (allow : Liberties) (lines : List (List ℕ)) (text :
 -- ---- a trace without commits
 
 -- what is said of lines of which the first is no header of a trace with commits
-trace-judged : (together : Bool) (allow : Liberties) (lines : List (List ℕ)) (text : List ℕ) (status : Status)
+pub trace-judged : (together : Bool) (allow : Liberties) (lines : List (List ℕ)) (text : List ℕ) (status : Status)
     → NoneMarked allow lines → JudgedTrace together allow lines text status
     → JudgedCommits together allow lines text status
 trace-judged together allow [] text status none judged = judged
 trace-judged together allow (line ∷ lines) text status none judged = inr (none, judged)
 
-none-first : (allow : Liberties) (lines : List (List ℕ)) (line : List ℕ) (more : List (List ℕ))
+pub none-first : (allow : Liberties) (lines : List (List ℕ)) (line : List ℕ) (more : List (List ℕ))
     → NoneMarked allow lines → (lines ≡ [] → NoneMarked allow (line ∷ [])) → NoneMarked allow (lines ++ line ∷ more)
 none-first allow [] line more none first = first refl
 none-first allow (l ∷ lines) line more none first = none

@@ -112,7 +112,7 @@ module _ {wide : Width} (together : Bool) (allow : Liberties) (old : EventJudge 
       (rest, status, rw k.silent (told more rest status judged))
 
   module _ (new : EventJudge (bytes_of wide)) (line : List ℕ) where
-    line-taken : (link : Link) (x : Event (bytes_of wide)) → SpellsEvent line link x
+    unfoldable pub line-taken : (link : Link) (x : Event (bytes_of wide)) → SpellsEvent line link x
         → fault_by (bytes_of wide) together k.links k.may link x k.events ≡ None
         → KnowsEvents together new k.links k.may ((link, x) ∷ k.events)
         → KnowsEventTrace wide together allow new (lines ++ line ∷ []) text
@@ -145,7 +145,7 @@ module _ {wide : Width} (together : Bool) (allow : Liberties) (old : EventJudge 
     line-says (Some found) watches = line-stops line found (watches k.links k.may k.events k.known)
 
 -- what its header begins
-pub header-known : (wide : Width) (together : Bool) (allow : Liberties) (line : List ℕ) (may : Liberties)
+abbrev pub header-known : (wide : Width) (together : Bool) (allow : Liberties) (line : List ℕ) (may : Liberties)
     (links : List MarkedLevel) (judge : EventJudge (bytes_of wide)) → NamesMarked allow line wide may links
     → KnowsEvents together judge links may [] → KnowsEventTrace wide together allow judge (line ∷ []) []
 header-known wide together allow line may links judge named known = record {

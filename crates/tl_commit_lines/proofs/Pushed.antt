@@ -65,10 +65,13 @@ module _ {w : ℕ} (link : Link) where
 
   pub all-bad : (old new : CommitJudge w) (x : Event w) (breach : CommitBreach)
       → Above old (λ levels complete l e. broken_by_judge levels complete l link x e ≡ Some breach)
+      → Above old (λ levels complete l e. KnowsCommits new levels complete l e)
       → Says (OfAll old) (OfAll new) x (Some (fault_of_commits breach))
-  all-bad old new x breach broken false links may e known = absurd known
-  all-bad old new x breach broken true links may e known =
-      ap (option_map fault_of_commits) (broken (levels_of links) (complete_of links) may e known)
+  all-bad old new x breach broken knows false links may e known = absurd known
+  all-bad old new x breach broken knows true links may e known = (
+    ap (option_map fault_of_commits) (broken (levels_of links) (complete_of links) may e known),
+    knows (levels_of links) (complete_of links) may e known,
+  )
 
   -- ---- each link by itself
 
@@ -89,11 +92,14 @@ module _ {w : ℕ} (link : Link) where
 
   pub beat-bad : (old new : Monitor w) (x : Beat w) (rule : Rule)
       → Beside old (λ levels may t. fault_under levels may t false (link, x) ≡ Some (monitor.Broken rule))
+      → Beside old (λ levels may t. KnowsUnder new levels may t false)
       → Says (OfLinks old) (OfLinks new) (event.Beat x) (Some (Breaks rule))
-  beat-bad old new x rule broken true links may e known = absurd known
-  beat-bad old new x rule broken false links may e known =
-      ap (option_map Breaks) (broken_by (broken_on_link_under may (levels_of links) (link, x) (beats_of e)) rule
-      (broken (levels_of links) may (beats_of e) known))
+  beat-bad old new x rule broken knows true links may e known = absurd known
+  beat-bad old new x rule broken knows false links may e known = (
+    ap (option_map Breaks) (broken_by (broken_on_link_under may (levels_of links) (link, x) (beats_of e)) rule
+        (broken (levels_of links) may (beats_of e) known)),
+    knows (levels_of links) may (beats_of e) known,
+  )
 
   -- a commit changes nothing
   commit-passed : (m : Monitor w) (x : Commit) → Says (OfLinks m) (OfLinks m) (event.Commit x) None
@@ -116,7 +122,7 @@ module _ {w : ℕ} (link : Link) where
       let (good, knows) = says together links may e known in
       (link, x, spells, good, knows)
   line-watched old new line x (Ok (Some found)) spells says = λ together links may e known.
-      inr (link, x, spells, says together links may e known)
+      inr (link, x, spells, (says together links may e known).0)
 
 pub line-unread : {w : ℕ} (judge : EventJudge w) (line : List ℕ) (fault : LineFault) → Some fault ≡ event_fault w line
     → (together : Bool) → WatchesEvent together judge judge line (Some (Line fault))

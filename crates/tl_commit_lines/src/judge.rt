@@ -30,8 +30,8 @@ pub enum EventJudge<const W: usize> {
     OfAll(CommitJudge<W>),
 }
 
-/// The levels of links.
-fn levels_of(alloc: Global, links: &[MarkedLevel]) -> Result<Vec<Level>, AllocError>
+/// The levels of links. The error means that there is no memory left.
+pub fn levels_of(alloc: Global, links: &[MarkedLevel]) -> Result<Vec<Level>, AllocError>
     ensures { IfOk result (λ levels. levels.items ≡ levels_of links.now) }
 {
     let mut levels = Vec::new(alloc);
@@ -88,7 +88,8 @@ impl<const W: usize> EventJudge<W> {
         Ok(EventJudge::OfAll(judge))
     }
 
-    /// Judges the next event, and takes it if it isn't at fault. The error means that there is no memory left.
+    /// Judges the next event, and takes it if it isn't at fault. After one at fault the judge is as before, and goes on.
+    /// The error means that there is no memory left.
     pub fn push(&mut self, link: Link, event: &Event<W>) -> Result<Option<Fault>, AllocError>
         requires width { IsWidth W }
         requires event { IsEvent event.now }

@@ -19,19 +19,25 @@ use Rattle.tl_engine.specs.statement.LinksHeader.{NamesAllowed}
 use Rattle.tl_engine.specs.statement.Width.{bytes_of}
 use Rattle.tl_engine.proofs.Decoded.{open_fault}
 use Rattle.tl_engine.proofs.LinksHeaders.{open_allowed}
+use Rattle.tl_commit_lines.proofs.JudgedLines.{open-event}
+use Rattle.tl_commit_lines.proofs.MarkedHeaders.{open_marked}
+use Rattle.tl_commit_lines.specs.declared.header.MarkedLevel.{MarkedLevel}
+use Rattle.tl_commit_lines.specs.statement.MarkedHeader.{NamesMarked}
 use Rattle.tl_report.proofs.Searched.{found_in, knows_header, opened}
+use Rattle.tl_report.specs.code.EventJudging.{event_ways}
 use Rattle.tl_report.specs.code.LineJudging.{Ways}
 use Rattle.tl_report.specs.code.NarrowJudging.{narrow_ways}
 use Rattle.tl_report.specs.code.Searching.{EndsLines, EndsSearch, EndsWith, HasFound, KnowsLines, KnowsSearch, SearchesLine}
 use Rattle.tl_report.specs.code.Searching.{StartsLines, StartsSearch, TellsLines, aim_of}
 use Rattle.tl_report.specs.code.WideJudging.{wide_ways}
+use Rattle.tl_report.specs.declared.events.EventLineJudge.{EventLineJudge}
 use Rattle.tl_report.specs.declared.findings.Findings.{Findings}
 use Rattle.tl_report.specs.declared.narrow.NarrowLineJudge.{NarrowLineJudge}
 use Rattle.tl_report.specs.declared.search.Search.{Search}
 use Rattle.tl_report.specs.declared.search_lines.SearchLines.{SearchLines}
 use Rattle.tl_report.specs.declared.search_lines.SearchLines.TheVariants as of
 use Rattle.tl_report.specs.declared.wide.WideLineJudge.{WideLineJudge}
-use Rattle.tl_report.specs.statement.Found.{FindsFor, IsHeadless, no_header, terms_of}
+use Rattle.tl_report.specs.statement.Found.{FindsFor, IsHeadless, event_terms_of, no_header, terms_of}
 use Rattle.tl_report.specs.statement.Said.{Searches}
 use Rattle.tl_report.specs.statement.Taken.{AreCounted}
 use Rattle.tl_wide.specs.declared.width.WideWidth.{WideWidth}
@@ -62,6 +68,15 @@ begun_wide line width may levels aim s spells is =
     (terms_of aim.together may levels) s line is
     (λ lines found beats cells finds. inl (width, may, levels, spells, finds))
 
+pub begun_events : (line : List ℕ) (width : Width) (may : Liberties) (links : List MarkedLevel) (aim : Aim)
+    (s : Search (EventLineJudge (bytes_of width))) → NamesMarked aim.allow line width may links
+    → StartsSearch (event_ways (bytes_of width)) aim (event_terms_of aim.together may links) s
+    → KnowsSearch (event_ways (bytes_of width)) s (line ∷ [])
+unfolding FindsFor
+begun_events line width may links aim s spells is =
+    knows_header (event_ways (bytes_of width)) aim (event_terms_of aim.together may links) s line is
+    (λ lines found beats cells finds. inr (inr (inl (width, may, links, spells, finds))))
+
 -- a broken status isn't clean
 pub unclean : {A : Type 0} → Broken ≡ Clean → A
 unclean e = absurd cc
@@ -70,13 +85,17 @@ pub no_header_ends : (alloc : Global) (aim : Aim) (line : List ℕ) → IsHeadle
     → Ends KnowsLines EndsLines (of.Waiting alloc aim) (of.Waiting alloc aim) line
 unfolding FindsFor
 no_header_ends alloc aim line none = λ lines text known more beats cells counted.
-    rw known (inr (inr (none, (refl, counted))))
+    rw known (inr (inr (inr (none, (refl, counted)))))
 
 -- a line that has no LF or more than 256 bytes is no header
 pub open_header : (alloc : Global) (aim : Aim) (line : List ℕ) → IsOpen line
     → Ends KnowsLines EndsLines (of.Waiting alloc aim) (of.Waiting alloc aim) line
 open_header alloc aim line is =
-    no_header_ends alloc aim line (open_allowed aim.allow line is, open_wide aim.allow line is)
+    no_header_ends alloc aim line (
+      open_allowed aim.allow line is,
+      open_wide aim.allow line is,
+      open_marked aim.allow line is,
+    )
 
 pub stops : (h : SearchLines) (line was is : List ℕ) (fault : Fault) → Stops KnowsLines TellsLines h line was is fault
 stops h line was is fault = λ lines before known more broken. unclean broken
@@ -102,6 +121,9 @@ started alloc aim new line was (Ok None) starts = λ lines before known. rw know
     knows_text (of.WideSixteen s) text k = k
     knows_text (of.WideThirtyTwo s) text k = k
     knows_text (of.WideSixtyFour s) text k = k
+    knows_text (of.EventFour s) text k = k
+    knows_text (of.EventEight s) text k = k
+    knows_text (of.EventSixteen s) text k = k
 started alloc aim new line was (Ok (Some fault)) starts = λ lines before known more broken. unclean broken
 
 pub start_ends : {E : Type 0} (alloc : Global) (aim : Aim) (new : SearchLines) (line : List ℕ) (r : Result (Option Fault) E)
@@ -120,7 +142,7 @@ start_aim alloc aim new line (Ok (Some fault)) starts = ap aim_of starts.0
 -- ---- what the handler says of a line
 
 -- the variant of a handler whose lines are searched so
-pub record IsSearch {J X : Type 0} (ways : Ways J X) (wrap : Search J → SearchLines) : Type 0 where
+pub record IsSearch {J T X : Type 0} (ways : Ways J T X) (wrap : Search J → SearchLines) : Type 0 where
   pub into : (s : Search J) (lines : List (List ℕ)) (text : List ℕ) → KnowsLines (wrap s) lines text
       → KnowsSearch ways s lines
   pub out : (s : Search J) (lines : List (List ℕ)) (text : List ℕ) → KnowsSearch ways s lines
@@ -203,7 +225,34 @@ wide_sixty_four = record {
   aim_is = λ s. refl;
 }
 
-module _ {J X : Type 0} (ways : Ways J X) (wrap : Search J → SearchLines) (so : IsSearch ways wrap) where
+pub event_four : IsSearch (event_ways 4) of.EventFour
+event_four = record {
+  into = λ s lines text k. k;
+  out = λ s lines text k. k;
+  into_ends = λ s lines e. e;
+  out_ends = λ s lines e. e;
+  aim_is = λ s. refl;
+}
+
+pub event_eight : IsSearch (event_ways 8) of.EventEight
+event_eight = record {
+  into = λ s lines text k. k;
+  out = λ s lines text k. k;
+  into_ends = λ s lines e. e;
+  out_ends = λ s lines e. e;
+  aim_is = λ s. refl;
+}
+
+pub event_sixteen : IsSearch (event_ways 16) of.EventSixteen
+event_sixteen = record {
+  into = λ s lines text k. k;
+  out = λ s lines text k. k;
+  into_ends = λ s lines e. e;
+  out_ends = λ s lines e. e;
+  aim_is = λ s. refl;
+}
+
+module _ {J T X : Type 0} (ways : Ways J T X) (wrap : Search J → SearchLines) (so : IsSearch ways wrap) where
   pub read_judged : {E : Type 0} (old new : Search J) (line was : List ℕ) (r : Result (Option Fault) E)
       → IfOk r (SearchesLine ways old new line) → IfOk r (Judges KnowsLines TellsLines (wrap old) (wrap new) line was was)
   read_judged old new line was (Err e) reads = tt
@@ -242,6 +291,12 @@ open_ends (of.WideThirtyTwo s) read line is = λ lines text k more.
     opened (wide_ways 32 16) s line lines k is (λ terms. open-fault 32 line is) more
 open_ends (of.WideSixtyFour s) read line is = λ lines text k more.
     opened (wide_ways 64 16) s line lines k is (λ terms. open-fault 64 line is) more
+open_ends (of.EventFour s) read line is = λ lines text k more.
+    opened (event_ways 4) s line lines k is (λ terms. open-event 4 line is) more
+open_ends (of.EventEight s) read line is = λ lines text k more.
+    opened (event_ways 8) s line lines k is (λ terms. open-event 8 line is) more
+open_ends (of.EventSixteen s) read line is = λ lines text k more.
+    opened (event_ways 16) s line lines k is (λ terms. open-event 16 line is) more
 
 -- ---- the end
 
@@ -256,13 +311,16 @@ read_clean (of.WideEight s) read count was is = λ lines before k counted clean.
 read_clean (of.WideSixteen s) read count was is = λ lines before k counted clean. k.some
 read_clean (of.WideThirtyTwo s) read count was is = λ lines before k counted clean. k.some
 read_clean (of.WideSixtyFour s) read count was is = λ lines before k counted clean. k.some
+read_clean (of.EventFour s) read count was is = λ lines before k counted clean. k.some
+read_clean (of.EventEight s) read count was is = λ lines before k counted clean. k.some
+read_clean (of.EventSixteen s) read count was is = λ lines before k counted clean. k.some
 
 pub no_lines : (alloc : Global) (aim : Aim) (status : Status) (f : Findings) → f.faults.items ≡ no_header
     → AreCounted f.beats f.cells.items [] → HasFound (of.Waiting alloc aim) status f
 no_lines alloc aim Clean f found none lines has some = absurd (some refl has.1)
 no_lines alloc aim Broken f found none lines has some = rw found (has f.beats f.cells.items none)
 
-module _ {J X : Type 0} (ways : Ways J X) (wrap : Search J → SearchLines) (so : IsSearch ways wrap) where
+module _ {J T X : Type 0} (ways : Ways J T X) (wrap : Search J → SearchLines) (so : IsSearch ways wrap) where
   pub found_so : {E : Type 0} (s : Search J) (status : Status) (r : Result Findings E) → IfOk r (EndsWith status s.over s.findings s.lines)
       → IfOk r (HasFound (wrap s) status)
   found_so s status (Err e) is = tt

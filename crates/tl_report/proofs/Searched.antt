@@ -18,7 +18,6 @@ use Rattle.tl_report.specs.code.Searching.{SearchesLine, StartsSearch}
 use Rattle.tl_report.specs.declared.findings.Finding.{Finding}
 use Rattle.tl_report.specs.declared.findings.Findings.{Findings}
 use Rattle.tl_report.specs.declared.search.Search.{Search}
-use Rattle.tl_report.specs.statement.Form.{Terms}
 use Rattle.tl_report.specs.statement.Found.{FindsAfter, FindsFor, is_open, left_behind}
 use Rattle.tl_report.specs.statement.Taken.{AreCounted}
 
@@ -66,7 +65,7 @@ counted_alike f g taken same is = subst (λ (x : Findings). AreCounted x.beats x
 some_left : (behind many left : ℕ) → behind ≡ (many + 1) + left → 0 < behind
 some_left behind many left is = omega (arith, is)
 
-module _ {J X : Type 0} (ways : Ways J X) (old mid : Search J) (line : List ℕ) (same : IsElsewhereSame ways old mid) where
+module _ {J T X : Type 0} (ways : Ways J T X) (old mid : Search J) (line : List ℕ) (same : IsElsewhereSame ways old mid) where
   -- its beat is taken
   pub read_good : (new : Search J) → SearchJudges ways old mid line None → new.aim ≡ mid.aim → new.judge ≡ mid.judge
       → new.findings ≡ mid.findings → new.lines ≡ old.lines + 1 → new.over ≡ mid.over
@@ -170,7 +169,7 @@ module _ {J X : Type 0} (ways : Ways J X) (old mid : Search J) (line : List ℕ)
 -- ---- the first line
 
 -- A search that has read a header knows it, if what is found behind the header is found.
-pub knows_header : {J X : Type 0} (ways : Ways J X) (aim : Aim) (terms : Terms) (s : Search J) (line : List ℕ)
+pub knows_header : {J T X : Type 0} (ways : Ways J T X) (aim : Aim) (terms : T) (s : Search J) (line : List ℕ)
     → StartsSearch ways aim terms s
     → ((lines : List (List ℕ)) (found : List Finding) (beats : ℕ) (cells : List ℕ)
     → FindsAfter (ways.form terms) [] 2 (suc aim.behind) lines found beats cells → FindsFor aim (line ∷ lines) found beats cells)
@@ -199,8 +198,8 @@ open_is line (inr long) = go (not (ends_with_byte 10 line)) (lt-ltb 256 (length 
     go true e = refl
     go false e = e
 
-pub opened : {J X : Type 0} (ways : Ways J X) (s : Search J) (line : List ℕ) (lines : List (List ℕ))
-    → KnowsSearch ways s lines → IsOpen line → ((terms : Terms) → (ways.form terms).line_fault line ≡ Some F1)
+pub opened : {J T X : Type 0} (ways : Ways J T X) (s : Search J) (line : List ℕ) (lines : List (List ℕ))
+    → KnowsSearch ways s lines → IsOpen line → ((terms : T) → (ways.form terms).line_fault line ≡ Some F1)
     → (more : List (List ℕ)) → EndsSearch s (lines ++ line ∷ more)
 unfolding FindsAfter
 opened ways s line lines k is bad more =
@@ -210,13 +209,13 @@ opened ways s line lines k is bad more =
 -- ---- the end
 
 -- what was found, where all lines were read
-all_found : {J X : Type 0} (ways : Ways J X) (s : Search J) (lines : List (List ℕ)) → KnowsSearch ways s lines
+all_found : {J T X : Type 0} (ways : Ways J T X) (s : Search J) (lines : List (List ℕ)) → KnowsSearch ways s lines
     → FindsFor s.aim lines s.findings.faults.items s.findings.beats s.findings.cells.items
 unfolding FindsAfter
 all_found ways s lines k = rw (append-nil lines, append-nil s.findings.faults.items) at
     (k.before [] [] s.findings.beats s.findings.cells.items (refl, k.so_many))
 
-pub found_in : {J X : Type 0} (ways : Ways J X) (s : Search J) (status : Status) (f : Findings) (lines : List (List ℕ))
+pub found_in : {J T X : Type 0} (ways : Ways J T X) (s : Search J) (status : Status) (f : Findings) (lines : List (List ℕ))
     → EndsWith status s.over s.findings s.lines f
     → ((status ≡ Clean) → KnowsSearch ways s lines) → ((status ≡ Broken) → EndsSearch s lines)
     → FindsFor s.aim lines f.faults.items f.beats f.cells.items

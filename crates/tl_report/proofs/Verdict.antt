@@ -12,16 +12,19 @@ use Rattle.tl_engine.specs.declared.fault.Fault.{Fault}
 use Rattle.tl_engine.specs.statement.Judged.{IsAtFault as IsAtFaultBy, JudgedAfter, JudgedBy}
 use Rattle.tl_engine.specs.statement.JudgedLinks.{faults_by}
 use Rattle.tl_engine.specs.statement.LinksHeader.{NamesAllowed}
+use Rattle.tl_commit_lines.proofs.AsBefore.{links-apart, wide-apart}
+use Rattle.tl_commit_lines.specs.statement.JudgedEvents.{IsEventAtFault, JudgedCommits, JudgedEvents}
+use Rattle.tl_commits.specs.statement.Events.{Events}
 use Rattle.tl_report.specs.declared.findings.Finding.{Finding}
-use Rattle.tl_report.specs.statement.Form.{Form, IsAtFault, Terms, first_fault_in, narrow, wide}
-use Rattle.tl_report.specs.statement.Found.{FindsAfter, FindsFor, is_open, left_behind, most_of, terms_of}
+use Rattle.tl_report.specs.statement.Form.{EventTerms, Form, IsAtFault, Terms, events, first_fault_in, narrow, wide}
+use Rattle.tl_report.specs.statement.Found.{FindsAfter, FindsFor, event_terms_of, is_open, left_behind, most_of, terms_of}
 use Rattle.tl_report.specs.statement.Said.{first_text, status_of}
 use Rattle.tl_wide.specs.declared.width.WideWidth.{WideWidth}
 use Rattle.tl_wide.specs.statement.Naming.{WideTrace}
 use Rattle.tl_wide_lines.proofs.JudgedLines.{begin-more, begin-none}
 use Rattle.tl_wide_lines.proofs.WideHeaders.{versions_apart}
 use Rattle.tl_report.proofs.WideTaken.{newest-last, nothing-found}
-use Rattle.tl_wide_lines.specs.statement.JudgedTrace.{BeginWith, JudgedTrace, JudgedWide}
+use Rattle.tl_wide_lines.specs.statement.JudgedTrace.{BeginWith, JudgedWide}
 use Rattle.tl_wide_lines.specs.statement.WideHeader.{NamesWide}
 
 -- ---- narrow beats
@@ -86,6 +89,32 @@ judged_wide terms all t n most (line ∷ lines) found beats cells number none be
       said = rw (bad, found_is, number) (refl, refl);
     }
 
+-- ---- beats and commits
+
+event_at_fault : {w : ℕ} (terms : EventTerms) (e : Events w) (line : List ℕ) (fault : Fault)
+    → IsAtFault (events w terms) e line fault → IsEventAtFault w terms.together terms.links terms.may e line fault
+event_at_fault terms e line fault (inl bad) = inl bad
+event_at_fault terms e line fault (inr (x, spells, bad)) = inr (x.0, x.1, spells, bad)
+
+events_judged : {w : ℕ} (terms : EventTerms) (e : Events w) (n most : ℕ) (lines : List (List ℕ))
+    (found : List Finding) (beats : ℕ) (cells : List ℕ) → n ≡ length e + 2
+    → FindsAfter (events w terms) e n (suc most) lines found beats cells
+    → JudgedEvents w terms.together terms.links terms.may e lines (first_text terms.together found beats)
+    (status_of found)
+unfolding JudgedEvents FindsAfter
+events_judged {w} terms e n most [] found beats cells number is =
+    rw (is.0, is.1.in_all ∙ length-map e (events w terms).cell) (refl, refl)
+events_judged terms e n most (line ∷ lines) found beats cells number (inl (x, spells, good, is)) =
+    inl (
+      x.0,
+      x.1,
+      spells,
+      good,
+      events_judged terms (x ∷ e) (n + 1) most lines found beats cells (omega (arith, number)) is,
+    )
+events_judged terms e n most (line ∷ lines) found beats cells number (inr (fault, later, is, found_is, behind)) =
+    inr (fault, event_at_fault terms e line fault is, rw (found_is, number) refl, rw found_is refl)
+
 -- ---- a trace
 
 -- a header of narrow beats is none of wide ones
@@ -97,32 +126,46 @@ apart allow line width may levels names wider own others wides =
 
 pub verdict_so : (aim : Aim) (lines : List (List ℕ)) (found : List Finding) (beats : ℕ) (cells : List ℕ)
     → FindsFor aim lines found beats cells
-    → JudgedTrace aim.together aim.allow lines (first_text aim.together found beats) (status_of found)
+    → JudgedCommits aim.together aim.allow lines (first_text aim.together found beats) (status_of found)
 unfolding FindsFor JudgedBy
 verdict_so aim [] found beats cells is = rw is.0 (refl, refl)
 verdict_so aim (line ∷ lines) found beats cells (inl (width, may, levels, spells, is)) =
-    inl (
-      width,
-      may,
-      levels,
-      spells,
-      judged_wide (terms_of aim.together may levels) lines [] 2 aim.behind lines found
-          beats cells refl (nothing-found _ (terms_of aim.together may levels)) (begin-none _ lines) is,
-    )
-verdict_so aim (line ∷ lines) found beats cells (inr (inl (width, may, levels, spells, is))) =
     inr (
-      apart aim.allow line width may levels spells,
+      (λ other own links marked. wide-apart line width other spells.0 marked.0 levels links spells.1 marked.1),
       inl (
         width,
         may,
         levels,
         spells,
-        judged_after (terms_of aim.together may levels) [] 2 aim.behind lines found beats
-            cells refl is,
+        judged_wide (terms_of aim.together may levels) lines [] 2 aim.behind lines found
+            beats cells refl (nothing-found _ (terms_of aim.together may levels)) (begin-none _ lines) is,
       ),
     )
-verdict_so aim (line ∷ lines) found beats cells (inr (inr (none, is))) =
-    inr (none.1, inr (none.0, rw is.0 refl, rw is.0 refl))
+verdict_so aim (line ∷ lines) found beats cells (inr (inl (width, may, levels, spells, is))) =
+    inr (
+      (λ other own links marked. links-apart line width other spells.0 marked.0 levels links spells.1 marked.1),
+      inr (
+        apart aim.allow line width may levels spells,
+        inl (
+          width,
+          may,
+          levels,
+          spells,
+          judged_after (terms_of aim.together may levels) [] 2 aim.behind lines found beats
+              cells refl is,
+        ),
+      ),
+    )
+verdict_so aim (line ∷ lines) found beats cells (inr (inr (inl (width, may, links, spells, is)))) =
+    inl (
+      width,
+      may,
+      links,
+      spells,
+      events_judged (event_terms_of aim.together may links) [] 2 aim.behind lines found beats cells refl is,
+    )
+verdict_so aim (line ∷ lines) found beats cells (inr (inr (inr (none, is)))) =
+    inr (none.2, inr (none.1, inr (none.0, rw is.0 refl, rw is.0 refl)))
 
 -- ---- how many are found
 
@@ -152,4 +195,6 @@ at_most aim (line ∷ lines) found beats cells (inl (width, may, levels, spells,
     at_most_after _ [] 2 (most_of aim) lines found beats cells is
 at_most aim (line ∷ lines) found beats cells (inr (inl (width, may, levels, spells, is))) =
     at_most_after _ [] 2 (most_of aim) lines found beats cells is
-at_most aim (line ∷ lines) found beats cells (inr (inr (none, is))) = rw is.0 (omega arith)
+at_most aim (line ∷ lines) found beats cells (inr (inr (inl (width, may, links, spells, is)))) =
+    at_most_after _ [] 2 (most_of aim) lines found beats cells is
+at_most aim (line ∷ lines) found beats cells (inr (inr (inr (none, is)))) = rw is.0 (omega arith)

@@ -1,3 +1,4 @@
+pub mod EventJudging
 pub mod LineJudging
 pub mod NarrowJudging
 pub mod Searching

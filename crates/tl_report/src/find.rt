@@ -30,8 +30,8 @@ pub fn search<R: Read>(alloc: Global, aim: Aim, reader: &mut R) -> Result<Findin
 }
 
 /// Writes `line N X` for each line of a trace that is at fault, at most as many as the aim asks for, and then `faults
-/// N`, their number. If there is none, it writes what `monitor` or `coherent` writes. The beat of a line at fault isn't
-/// taken: later lines are judged after the beats that were taken.
+/// N`, their number. If there is none, it writes what `monitor` or `coherent` writes. The beat or commit of a line at
+/// fault isn't taken: later lines are judged after those that were taken.
 ///
 /// Nothing is written before the search has come to its end. With the error `Write` it has, and a part of the text
 /// isn't written.

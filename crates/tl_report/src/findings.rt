@@ -21,9 +21,9 @@ pub struct Finding {
 pub struct Findings {
     /// The lines at fault, in their order.
     pub faults: Vec<Finding>,
-    /// The number of beats that were taken.
+    /// The number of beats and commits that were taken.
     pub beats: u64,
-    /// The number of these beats in each cell, by link and message.
+    /// The number of these in each cell, by link and message.
     pub cells: Vec<u64>,
 }
 
@@ -41,7 +41,7 @@ impl Findings {
         })
     }
 
-    /// Counts a beat of this cell. The error comes after beat 2^64 - 1, and changes nothing.
+    /// Counts a beat or a commit of this cell. The error comes after beat 2^64 - 1, and changes nothing.
     pub fn count(&mut self, cell: usize) -> Result<(), AllocError>
         requires { cell < most_cells }
         ensures same { self.new.faults.items ≡ self.old.faults.items }

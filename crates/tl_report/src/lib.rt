@@ -1,6 +1,7 @@
 //! The findings in a recorded trace: all its lines at fault. An `AllocError` means that there is no memory left.
 #![tactic(auto)]
 
+pub mod events;
 pub mod find;
 pub mod findings;
 pub mod law;

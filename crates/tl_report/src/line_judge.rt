@@ -17,11 +17,14 @@ pub enum Judged {
 
 /// Judges the lines after the header of a trace in turn.
 pub trait LineJudge: Drop {
-    /// A beat with its link.
+    /// A beat, or a beat or a commit, with its link.
     ghost Kind: { Type 0 };
 
+    /// The terms of the links of a trace.
+    ghost Given: { Type 0 };
+
     /// The beats of the judge, and its knowledge of those that it has taken.
-    ghost ways: { Ways Self Self.Kind };
+    ghost ways: { Ways Self Self.Given Self.Kind };
 
     /// Judges a line, and takes its beat if the line isn't at fault.
     fn judge_line(&mut self, line: &[u8]) -> Result<Judged, AllocError>

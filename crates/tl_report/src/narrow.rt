@@ -38,8 +38,11 @@ impl<const W: usize> LineJudge for NarrowLineJudge<W> {
     ghost use Rattle.tl_beat.specs.declared.beat.Beat.{Beat};
     ghost use Rattle.tl_beat.specs.declared.beat.Link.{Link};
     ghost use Rattle.tl_report.specs.code.NarrowJudging.{narrow_ways};
+    ghost use Rattle.tl_report.specs.statement.Form.{Terms};
 
     ghost Kind = { Link × Beat W };
+
+    ghost Given = { Terms };
 
     ghost ways = { narrow_ways W };
 

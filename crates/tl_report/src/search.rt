@@ -46,7 +46,7 @@ impl<J: LineJudge> Search<J> {
         })
     }
 
-    /// Judges the line of a beat, and counts the beat if the line isn't at fault.
+    /// Judges the line of a beat or a commit, and counts it if the line isn't at fault.
     fn judge(&mut self, line: &[u8]) -> Result<Option<Fault>, AllocError>
         ensures judges { IfOk result (SearchJudges J.ways self.old self.new line.now) }
         ensures same { IfOk result (λ _. IsElsewhereSame J.ways self.old self.new) }

@@ -3,13 +3,16 @@
 ghost use Rattle.std.specs.Prelude.{◌≡◌, [], IfOk};
 ghost use Rattle.tl_beat.specs.statement.Width.{IsWidth};
 ghost use Rattle.tl_engine.specs.declared.status.Status.{Status};
+ghost use Rattle.tl_report.specs.code.EventJudging.{event_ways};
 ghost use Rattle.tl_report.specs.code.Searching.{Begins, EndsLines, HasFound, KnowsLines, StartsSearch, TellsLines, aim_of};
 ghost use Rattle.tl_report.specs.code.NarrowJudging.{narrow_ways};
 ghost use Rattle.tl_report.specs.code.WideJudging.{wide_ways};
-ghost use Rattle.tl_report.specs.statement.Found.{IsHeadless, IsNotNarrow, IsNotWide, no_header, terms_of};
+ghost use Rattle.tl_report.specs.statement.Found.{IsHeadless, IsNotMarked, IsNotNarrow, IsNotWide, event_terms_of};
+ghost use Rattle.tl_report.specs.statement.Found.{no_header, terms_of};
 ghost use Rattle.tl_report.specs.statement.Taken.{AreCounted};
 ghost use Rattle.tl_wide.specs.statement.Width.{IsWideWidth, part_width};
 
+use crate::events::EventLineJudge;
 use crate::findings::{Finding, Findings};
 use crate::narrow::NarrowLineJudge;
 use crate::search::Search;
@@ -17,6 +20,7 @@ use crate::wide::WideLineJudge;
 use std::alloc::{AllocError, Global};
 use tl_beat::fault::LineFault;
 use tl_command::search::Aim;
+use tl_commit_lines::header::{CommitHeader, read_marked_for};
 use tl_engine::fault::Fault;
 use tl_engine::line_handler::LineHandler;
 use tl_engine::links_header::LinksHeader;
@@ -39,6 +43,9 @@ pub enum SearchLines {
     WideSixteen(Search<WideLineJudge<16, 16>>),
     WideThirtyTwo(Search<WideLineJudge<32, 16>>),
     WideSixtyFour(Search<WideLineJudge<64, 16>>),
+    EventFour(Search<EventLineJudge<4>>),
+    EventEight(Search<EventLineJudge<8>>),
+    EventSixteen(Search<EventLineJudge<16>>),
 }
 
 /// A search after a header of narrow beats.
@@ -66,6 +73,20 @@ fn wide<const W: usize, const P: usize>(
     ensures { IfOk result (StartsSearch (wide_ways W P) aim (terms_of aim.together links.may links.levels.items)) }
 {
     let judge = WideLineJudge::new(alloc, aim, links)?;
+    Search::new(alloc, aim, judge)
+}
+
+/// A search after a header of a trace with commits.
+fn events<const W: usize>(
+    alloc: Global,
+    aim: Aim,
+    header: &CommitHeader,
+) -> Result<Search<EventLineJudge<W>>, AllocError>
+    requires { IsWidth W }
+    ensures { IfOk result (StartsSearch (event_ways W) aim (event_terms_of aim.together header.now.may
+        header.now.links.items)) }
+{
+    let judge = EventLineJudge::new(alloc, aim.together, header)?;
     Search::new(alloc, aim, judge)
 }
 
@@ -102,12 +123,30 @@ fn begin_wide(alloc: Global, aim: Aim, line: &[u8]) -> Result<Option<SearchLines
     Ok(Some(lines))
 }
 
+/// Begins with the links that a header of a trace with commits names; `None` if the line is no such header.
+fn begin_events(alloc: Global, aim: Aim, line: &[u8]) -> Result<Option<SearchLines>, AllocError>
+    ensures { IfOk result (Begins IsNotMarked aim line.now) }
+{
+    let Some(header) = read_marked_for(aim.allow, line) else {
+        return Ok(None);
+    };
+    let lines = match header.width {
+        Width::Four => SearchLines::EventFour(events(alloc, aim, &header)?),
+        Width::Eight => SearchLines::EventEight(events(alloc, aim, &header)?),
+        Width::Sixteen => SearchLines::EventSixteen(events(alloc, aim, &header)?),
+    };
+    Ok(Some(lines))
+}
+
 /// Begins with the links that a header names; `None` if the line is no header.
 fn begin(alloc: Global, aim: Aim, line: &[u8]) -> Result<Option<SearchLines>, AllocError>
     ensures { IfOk result (Begins IsHeadless aim line.now) }
 {
-    match begin_wide(alloc, aim, line)? {
-        None => begin_narrow(alloc, aim, line),
+    if let Some(lines) = begin_wide(alloc, aim, line)? {
+        return Ok(Some(lines));
+    }
+    match begin_narrow(alloc, aim, line)? {
+        None => begin_events(alloc, aim, line),
         Some(lines) => Ok(Some(lines)),
     }
 }
@@ -156,6 +195,9 @@ impl SearchLines {
             SearchLines::WideSixteen(search) => search.into_findings(status),
             SearchLines::WideThirtyTwo(search) => search.into_findings(status),
             SearchLines::WideSixtyFour(search) => search.into_findings(status),
+            SearchLines::EventFour(search) => search.into_findings(status),
+            SearchLines::EventEight(search) => search.into_findings(status),
+            SearchLines::EventSixteen(search) => search.into_findings(status),
         }
     }
 }
@@ -191,6 +233,9 @@ impl LineHandler for SearchLines {
             SearchLines::WideSixteen(search) => search.read(line),
             SearchLines::WideThirtyTwo(search) => search.read(line),
             SearchLines::WideSixtyFour(search) => search.read(line),
+            SearchLines::EventFour(search) => search.read(line),
+            SearchLines::EventEight(search) => search.read(line),
+            SearchLines::EventSixteen(search) => search.read(line),
         }
     }
 

@@ -133,9 +133,12 @@ impl<const W: usize, const P: usize> WideLineJudge<W, P> {
 impl<const W: usize, const P: usize> LineJudge for WideLineJudge<W, P> {
     ghost use Rattle.tl_beat.specs.declared.beat.Link.{Link};
     ghost use Rattle.tl_report.specs.code.WideJudging.{wide_ways};
+    ghost use Rattle.tl_report.specs.statement.Form.{Terms};
     ghost use Rattle.tl_wide.specs.declared.beat.WideBeat.{WideBeat};
 
     ghost Kind = { Link × WideBeat W };
+
+    ghost Given = { Terms };
 
     ghost ways = { wide_ways W P };
 

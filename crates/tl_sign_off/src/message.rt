@@ -1,11 +1,35 @@
-//! The messages by which beats are counted, by their numbers.
+//! The messages by which beats are counted, and the kinds of commits, by their numbers.
 
 ghost use Rattle.std.specs.Prelude.{◌≡◌};
-ghost use Rattle.tl_sign_off.specs.statement.Message.{channel_name, message_name};
+ghost use Rattle.tl_sign_off.specs.statement.Message.{channel_name, last_letter, last_name, message_name};
 
 use tl_beat::opcode::{OpA, OpB, OpC, OpD};
 
-/// The letter of a message's channel.
+/// The letter of a kind of commits, and of GrantAck's channel before them.
+fn last_letter(message: u8) -> &'static str
+    ensures { result.now ≡ last_letter message }
+{
+    match message {
+        33 => "S",
+        34 => "L",
+        35 => "I",
+        _ => "E",
+    }
+}
+
+/// The name of a kind of commits, and of GrantAck before them.
+fn last_name(message: u8) -> &'static str
+    ensures { result.now ≡ last_name message }
+{
+    match message {
+        33 => "Store",
+        34 => "Load",
+        35 => "LoadBegin",
+        _ => "GrantAck",
+    }
+}
+
+/// The letter of a message's channel, or of a kind of commits.
 pub fn channel_name(message: u8) -> &'static str
     ensures { result.now ≡ channel_name message }
 {
@@ -14,11 +38,11 @@ pub fn channel_name(message: u8) -> &'static str
         1 => "B",
         2 => "C",
         3 => "D",
-        _ => "E",
+        _ => last_letter(message),
     }
 }
 
-/// The name of a message; empty if no message has this number.
+/// The name of a message, or of a kind of commits; empty if no message has this number.
 pub fn message_name(message: u8) -> &'static str
     ensures { result.now ≡ message_name message }
 {
@@ -40,6 +64,6 @@ pub fn message_name(message: u8) -> &'static str
             Some(opcode) => opcode.name(),
             None => "",
         },
-        _ => "GrantAck",
+        _ => last_name(message),
     }
 }

@@ -63,18 +63,18 @@ fn faults_value(alloc: Global, faults: &[Finding]) -> Result<Value, AllocError>
     Ok(Value::from(list))
 }
 
-/// The number of beats in a cell, with the link and message of the cell.
+/// The number of beats or commits in a cell, with the link and message of the cell.
 fn count_value(alloc: Global, cell: usize, number: u64) -> Result<Value, AllocError>
     ensures { IfOk result (λ v. view v ≡ count_data cell number) }
 {
-    let link = (cell / 33) as u64;
-    let message = (cell % 33) as u8;
+    let link = (cell / 36) as u64;
+    let message = (cell % 36) as u8;
     let channel = channel_name(message);
     let name = message_name(message);
     json!(in alloc; {"beats": number, "channel": channel, "link": link, "message": name})
 }
 
-/// Adds the entry for a cell, if the cell has beats.
+/// Adds the entry for a cell, if the cell has beats or commits.
 fn push_count(
     list: &mut Vec<Value>,
     alloc: Global,
@@ -90,7 +90,7 @@ fn push_count(
     Ok(())
 }
 
-/// The numbers of beats by link and message.
+/// The numbers of beats and commits by link and message.
 fn counts_value(alloc: Global, cells: &[u64]) -> Result<Value, AllocError>
     ensures { IfOk result (λ v. view v ≡ counts_data cells.now) }
 {

@@ -42,7 +42,7 @@ fn append_verdict(all: bool, account: &Account, out: &mut Vec<u8>) -> Result<(),
     }
 }
 
-/// Judges an input to its end, and writes the verdict as `tl_links::run::run_links` does, or as
+/// Judges an input to its end, and writes the verdict as `tl_commit_lines::run::run_events` does, or as
 /// `tl_report::find::find_all` does if `inquiry.all` is set. Nothing is written before the input has come to its end.
 /// With the error `Write` it has, and a part of the text isn't written.
 pub fn tell_verdict<R: Read, W: Write>(

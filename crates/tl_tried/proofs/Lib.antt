@@ -1,4 +1,7 @@
+pub mod CommitsCounted
 pub mod Covered
+pub mod EventCounted
+pub mod EventRows
 pub mod Joined
 pub mod Summed
 pub mod Telling

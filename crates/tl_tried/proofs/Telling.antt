@@ -5,56 +5,56 @@ use Rattle.std.specs.Io.KnownBytes.{Consumes}
 use Rattle.std.specs.Prelude.{Option}
 use Rattle.tl_command.specs.declared.cover.CoverForm.{CoverForm}
 use Rattle.tl_cover.specs.declared.row.Row.{Row}
+use Rattle.tl_commit_lines.specs.statement.JudgedEvents.{JudgedCommits}
 use Rattle.tl_engine.specs.statement.Lines.{lines_of}
 use Rattle.tl_engine.specs.code.Progress.{HasAll}
 use Rattle.tl_engine.specs.statement.Run.{EndsAs}
 use Rattle.tl_engine.specs.declared.status.Status.{Status}
 use Rattle.tl_params.specs.declared.liberties.Liberties.{Liberties}
-use Rattle.tl_tried.proofs.TraceCounted.{counted-at-end}
-use Rattle.tl_tried.specs.code.WideFollowing.{EndsTrace, KnowsCover, found_of_trace}
-use Rattle.tl_tried.specs.declared.cover_trace.CoverTrace.{CoverTrace}
+use Rattle.tl_tried.proofs.CommitsCounted.{counted-at-end}
+use Rattle.tl_tried.specs.code.EventFollowing.{EndsCommits, KnowsCommits, found_of_commits}
+use Rattle.tl_tried.specs.declared.cover_events.CoverEvents.{CoverEvents}
 use Rattle.tl_tried.specs.declared.sum.Sum.{Sum}
 use Rattle.tl_tried.specs.declared.tried.Tried.{Tried}
 use Rattle.tl_tried.specs.statement.Sums.{cells_of, sums_of}
 use Rattle.tl_tried.specs.statement.Told.{Names, shown, told, told_named}
-use Rattle.tl_tried.specs.statement.WideCovered.{TraceCovered}
-use Rattle.tl_wide_lines.specs.statement.JudgedTrace.{JudgedTrace}
+use Rattle.tl_tried.specs.statement.EventCovered.{CommitsCovered}
 use Rattle.tl_tried.specs.statement.Covered.{Found}
 
 -- what was read is judged, and the situations are those of it
-abbrev pub Gathered : Liberties → CoverTrace → Option (List ℕ) → Option (List ℕ) → List ℕ → Status → Type 0
+abbrev pub Gathered : Liberties → CoverEvents → Option (List ℕ) → Option (List ℕ) → List ℕ → Status → Type 0
 Gathered allow h had left verdict status =
-    (read : List ℕ) × Consumes had left read × JudgedTrace false allow (lines_of read) verdict status
-    × EndsAs (JudgedTrace false allow) left read verdict status × TraceCovered allow (lines_of read) (found_of_trace h)
+    (read : List ℕ) × Consumes had left read × JudgedCommits false allow (lines_of read) verdict status
+    × EndsAs (JudgedCommits false allow) left read verdict status × CommitsCovered allow (lines_of read) (found_of_commits h)
 
 -- a handler that was made for this has gathered them
-pub gathered : (h old : CoverTrace) (allow : Liberties) (had left : Option (List ℕ)) (verdict : List ℕ)
+pub gathered : (h old : CoverEvents) (allow : Liberties) (had left : Option (List ℕ)) (verdict : List ℕ)
     (status : Status)
-    → old.narrow.allow ≡ allow → h.narrow.allow ≡ allow
-    → (read : List ℕ) × Consumes had left read × JudgedTrace false old.narrow.allow (lines_of read) verdict status
-    × EndsAs (JudgedTrace false old.narrow.allow) left read verdict status × HasAll KnowsCover EndsTrace h (lines_of read)
+    → old.plain.narrow.allow ≡ allow → h.plain.narrow.allow ≡ allow
+    → (read : List ℕ) × Consumes had left read × JudgedCommits false old.plain.narrow.allow (lines_of read) verdict status
+    × EndsAs (JudgedCommits false old.plain.narrow.allow) left read verdict status × HasAll KnowsCommits EndsCommits h (lines_of read)
     status
     → Gathered allow h had left verdict status
 gathered h old allow had left verdict status was now (read, consumed, judged, ended, has) = (
   read,
   consumed,
-  subst (λ (l : Liberties). JudgedTrace false l (lines_of read) verdict status) was judged,
-  subst (λ (l : Liberties). EndsAs (JudgedTrace false l) left read verdict status) was ended,
-  subst (λ (l : Liberties). TraceCovered l (lines_of read) (found_of_trace h)) now (counted-at-end h (lines_of read) status has),
+  subst (λ (l : Liberties). JudgedCommits false l (lines_of read) verdict status) was judged,
+  subst (λ (l : Liberties). EndsAs (JudgedCommits false l) left read verdict status) was ended,
+  subst (λ (l : Liberties). CommitsCovered l (lines_of read) (found_of_commits h)) now (counted-at-end h (lines_of read) status has),
 )
 
 -- a trace with them is tried
-pub tried : (allow : Liberties) (h : CoverTrace) (had left : Option (List ℕ)) (verdict : List ℕ) (status : Status)
+pub tried : (allow : Liberties) (h : CoverEvents) (had left : Option (List ℕ)) (verdict : List ℕ) (status : Status)
     (said old rows : List Row) (counts : List (Option ℕ)) → Gathered allow h had left verdict status
-    → said ≡ (found_of_trace h).0 → counts ≡ (found_of_trace h).1 → old ≡ [] → rows ≡ old ++ said
-    → (read : List ℕ) × Consumes had left read × JudgedTrace false allow (lines_of read) verdict status
-    × EndsAs (JudgedTrace false allow) left read verdict status × TraceCovered allow (lines_of read) (rows, counts)
+    → said ≡ (found_of_commits h).0 → counts ≡ (found_of_commits h).1 → old ≡ [] → rows ≡ old ++ said
+    → (read : List ℕ) × Consumes had left read × JudgedCommits false allow (lines_of read) verdict status
+    × EndsAs (JudgedCommits false allow) left read verdict status × CommitsCovered allow (lines_of read) (rows, counts)
 tried allow h had left verdict status said old rows counts (read, consumed, judged, ended, covers) are counted empty is = (
   read,
   consumed,
   judged,
   ended,
-  subst (λ (found : Found). TraceCovered allow (lines_of read) found)
+  subst (λ (found : Found). CommitsCovered allow (lines_of read) found)
       (sym (ap₂ (λ (rs : List Row) (cs : List (Option ℕ)). (rs, cs)) (is ∙ rw (empty, are) refl) counted)) covers,
 )
 

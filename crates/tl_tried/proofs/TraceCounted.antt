@@ -7,7 +7,6 @@ use Rattle.tl_beat.specs.declared.fault.LineFault.TheVariants.{F1}
 use Rattle.tl_engine.proofs.Judged.{said_at_end}
 use Rattle.tl_engine.specs.code.Judging.{Ends, EndsHere, Finishes, Judges, Stops}
 use Rattle.tl_engine.specs.statement.Lines.{IsOpen}
-use Rattle.tl_engine.specs.code.Progress.{HasAll}
 use Rattle.tl_engine.specs.code.Watching.{end_by}
 use Rattle.tl_engine.specs.statement.JudgedSo.{said_by}
 use Rattle.tl_engine.specs.declared.fault.Fault.{Fault}
@@ -21,7 +20,7 @@ use Rattle.tl_tried.proofs.Covered.{covered_here}
 use Rattle.tl_tried.proofs.WideCounted.{all-counted, line-counted, open-counted}
 use Rattle.tl_tried.specs.code.Following.{EndsLines, KnowsFollowing, KnowsLines}
 use Rattle.tl_tried.specs.code.WideFollowing.{BeginsHere, BeginsWide, EndsTrace, KnowsBy, KnowsCover, KnowsWideFollowing, TakesLine}
-use Rattle.tl_tried.specs.code.WideFollowing.{found_of_either, found_of_trace, judge_in, wide_found_by}
+use Rattle.tl_tried.specs.code.WideFollowing.{found_of_either, found_of_trace, judge_in, waiting_by, waiting_in, wide_found_by}
 use Rattle.tl_tried.specs.declared.cover_lines.CoverLines.{CoverLines}
 use Rattle.tl_tried.specs.declared.cover_lines.Following.{Following}
 use Rattle.tl_tried.specs.declared.cover_lines.Following.TheVariants as narrow
@@ -272,8 +271,42 @@ counted-by : (h : CoverLines) (wide : Option WideFollowing) (lines : List (List 
 counted-by h None lines text k = links-covered h.allow lines _ k.1 (covered_here h lines text k.0)
 counted-by h (Some f) lines text k = wide-counted h.allow lines text f k
 
--- what a handler has of all lines are their situations
-pub counted-at-end : (h : CoverTrace) (lines : List (List ℕ)) (status : Status)
-    → HasAll KnowsCover EndsTrace h lines status → TraceCovered h.narrow.allow lines (found_of_trace h)
-counted-at-end h lines Clean (text, k) = counted-by h.narrow h.wide lines text k
-counted-at-end h lines Broken has = has
+-- what a handler has of lines without a fault are their situations
+pub counted-so-far : (h : CoverTrace) (lines : List (List ℕ)) (text : List ℕ) → KnowsCover h lines text
+    → TraceCovered h.narrow.allow lines (found_of_trace h)
+counted-so-far h lines text k = counted-by h.narrow h.wide lines text k
+
+-- no line has been read, if a handler waits for the first
+pub waits-first : (h : CoverTrace) (alloc : Global) → Some alloc ≡ waiting_in h → (lines : List (List ℕ))
+    (text : List ℕ) → KnowsCover h lines text → (lines ≡ []) × (text ≡ [])
+waits-first h alloc waits lines text known = go h.wide h.narrow.following waits known
+  where
+    go : (wide : Option WideFollowing) (f : Following) → Some alloc ≡ waiting_by wide f
+        → KnowsBy (record { allow = h.narrow.allow; following = f }) wide lines text → (lines ≡ []) × (text ≡ [])
+    go None (narrow.Waiting a) is k = k.0
+    go None (narrow.Four c) is k = absurd cc
+    go None (narrow.Eight c) is k = absurd cc
+    go None (narrow.Sixteen c) is k = absurd cc
+    go (Some f) (narrow.Waiting a) is k = absurd cc
+    go (Some f) (narrow.Four c) is k = absurd cc
+    go (Some f) (narrow.Eight c) is k = absurd cc
+    go (Some f) (narrow.Sixteen c) is k = absurd cc
+
+-- a line has been read, if it doesn't
+pub waits-not : (h : CoverTrace) → None ≡ waiting_in h → (text : List ℕ) → KnowsCover h [] text → ⊥
+waits-not h reads text known = go h.wide h.narrow.following reads known
+  where
+    wide-read : (f : WideFollowing) → KnowsWideFollowing h.narrow.allow f [] text → ⊥
+    wide-read (Four c) k = let no = k.judged.are_lines in cc
+    wide-read (Eight c) k = let no = k.judged.are_lines in cc
+    wide-read (Sixteen c) k = let no = k.judged.are_lines in cc
+    wide-read (ThirtyTwo c) k = let no = k.judged.are_lines in cc
+    wide-read (SixtyFour c) k = let no = k.judged.are_lines in cc
+
+    go : (wide : Option WideFollowing) (f : Following) → None ≡ waiting_by wide f
+        → KnowsBy (record { allow = h.narrow.allow; following = f }) wide [] text → ⊥
+    go None (narrow.Waiting a) is k = cc
+    go None (narrow.Four c) is k = absurd (omega (arith, k.0.counted))
+    go None (narrow.Eight c) is k = absurd (omega (arith, k.0.counted))
+    go None (narrow.Sixteen c) is k = absurd (omega (arith, k.0.counted))
+    go (Some f) following is k = wide-read f k

@@ -1,3 +1,5 @@
+pub mod EventCover
+pub mod EventFollowing
 pub mod Following
 pub mod WideCover
 pub mod WideFollowing

@@ -1,4 +1,5 @@
 pub mod Covered
+pub mod EventCovered
 pub mod Sums
 pub mod Told
 pub mod Tried

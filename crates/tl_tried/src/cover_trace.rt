@@ -5,7 +5,7 @@ ghost use Rattle.std.specs.Prelude.{◌≡◌, [], false, IfOk, None, Ok, Some};
 ghost use Rattle.tl_engine.specs.code.Judging.{Ends, Judges};
 ghost use Rattle.tl_engine.specs.declared.fault.Fault.{Fault};
 ghost use Rattle.tl_tried.specs.code.WideFollowing.{BeginsHere, BeginsWide, EndsTrace, KnowsCover, TakesLine};
-ghost use Rattle.tl_tried.specs.code.WideFollowing.{found_of_trace, wide_found_by};
+ghost use Rattle.tl_tried.specs.code.WideFollowing.{found_of_trace, waiting_in, wide_found_by};
 ghost use Rattle.tl_wide_lines.specs.statement.JudgedTrace.{JudgedTrace};
 
 use crate::cover_lines::{CoverLines, Following};
@@ -34,7 +34,7 @@ pub enum WideFollowing {
 #[derive(Drop)]
 pub struct CoverTrace {
     /// The handler of a trace with another header than the fifth. It waits for the header.
-    narrow: CoverLines,
+    pub narrow: CoverLines,
     /// The covering of wide beats, after their header.
     wide: Option<WideFollowing>,
 }
@@ -108,6 +108,16 @@ impl CoverTrace {
         CoverTrace {
             narrow: CoverLines::new(alloc, allow),
             wide: None,
+        }
+    }
+
+    /// The allocator, if no line has been read.
+    pub fn waiting(&self) -> Option<Global>
+        ensures { result ≡ waiting_in self.now }
+    {
+        match (&self.wide, &self.narrow.following) {
+            (None, Following::Waiting(alloc)) => Some(*alloc),
+            _ => None,
         }
     }
 

@@ -2,8 +2,10 @@
 #![tactic(auto)]
 
 mod bins_json;
+mod cover_events;
 mod cover_lines;
 mod cover_trace;
+mod event_covering;
 mod json;
 pub mod sum;
 pub mod tell;

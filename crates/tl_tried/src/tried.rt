@@ -2,15 +2,15 @@
 
 ghost use Rattle.std.specs.Prelude.{◌≡◌, ◌≢◌, ◌++◌, [], ℕ, List, OnOk, IfErr, IfOk, false};
 ghost use Rattle.std.specs.Io.KnownBytes.{Consumes};
+ghost use Rattle.tl_commit_lines.specs.statement.JudgedEvents.{JudgedCommits};
 ghost use Rattle.tl_engine.specs.statement.Lines.{lines_of};
 ghost use Rattle.tl_engine.specs.statement.Run.{EndsAs};
 ghost use Rattle.tl_engine.specs.declared.status.ToolFault.{ToolFault};
-ghost use Rattle.tl_tried.specs.code.WideFollowing.{found_of_trace};
+ghost use Rattle.tl_tried.specs.code.EventFollowing.{found_of_commits};
+ghost use Rattle.tl_tried.specs.statement.EventCovered.{CommitsCovered};
 ghost use Rattle.tl_tried.specs.statement.Tried.{IsTried};
-ghost use Rattle.tl_tried.specs.statement.WideCovered.{TraceCovered};
-ghost use Rattle.tl_wide_lines.specs.statement.JudgedTrace.{JudgedTrace};
 
-use crate::cover_trace::CoverTrace;
+use crate::cover_events::CoverEvents;
 use std::alloc::Global;
 use std::io::Read;
 use tl_cover::row::Row;
@@ -39,15 +39,15 @@ fn gather<R: Read>(
     allow: Liberties,
     reader: &mut R,
     verdict: &mut Vec<u8>,
-) -> Result<(CoverTrace, Status), ToolFault>
+) -> Result<(CoverEvents, Status), ToolFault>
     requires { verdict.old.items ≡ [] }
     ensures ok { IfOk result (λ both. (read : List ℕ) × Consumes (R.remaining reader.old) (R.remaining reader.new) read
-        × JudgedTrace false allow (lines_of read) verdict.new.items both.1
-        × EndsAs (JudgedTrace false allow) (R.remaining reader.new) read verdict.new.items both.1
-        × TraceCovered allow (lines_of read) (found_of_trace both.0)) }
+        × JudgedCommits false allow (lines_of read) verdict.new.items both.1
+        × EndsAs (JudgedCommits false allow) (R.remaining reader.new) read verdict.new.items both.1
+        × CommitsCovered allow (lines_of read) (found_of_commits both.0)) }
     ensures fault { IfErr result (λ fault. fault ≢ ToolFault.Write) }
 {
-    let mut lines = Lines::new(CoverTrace::new(alloc, allow));
+    let mut lines = Lines::new(CoverEvents::new(alloc, allow));
     let status = judge_input(alloc, &mut lines, reader, verdict)?;
     Ok((lines.into_handler(), status))
 }

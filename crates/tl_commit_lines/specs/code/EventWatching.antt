@@ -31,12 +31,14 @@ KnowsEvents false (OfLinks monitor) links may e = KnowsUnder monitor (levels_of 
 KnowsEvents true (OfAll judge) links may e = KnowsCommits judge (levels_of links) (complete_of links) may e
 KnowsEvents _ _ links may e = ⊥
 
--- the judge's answer to an event after a trace: it isn't at fault, and the judge knows the longer trace; or it is
+-- the judge's answer to an event after a trace: it isn't at fault, and the judge knows the longer trace; or it is, and
+-- the judge knows the trace as before
 abbrev pub JudgesEvent : {w : ℕ} → Bool → EventJudge w → List MarkedLevel → Liberties → Events w → Link → Event w
     → Option Fault → Type 0
 JudgesEvent {w} together new links may e link x None =
     (fault_by w together links may link x e ≡ None) × KnowsEvents together new links may ((link, x) ∷ e)
-JudgesEvent {w} together new links may e link x (Some found) = fault_by w together links may link x e ≡ Some found
+JudgesEvent {w} together new links may e link x (Some found) =
+    (fault_by w together links may link x e ≡ Some found) × KnowsEvents together new links may e
 
 -- the same of the next line
 abbrev pub WatchesEvent : {w : ℕ} → Bool → EventJudge w → EventJudge w → List ℕ → Option Fault → Type 0

@@ -12,5 +12,5 @@ abbrev pub KnowsNarrow : (w : ℕ) → NarrowLineJudge w → Terms → List (Lin
 KnowsNarrow w judge terms t = KnowsBeats terms.together judge.judge terms.levels terms.may t
 
 -- it takes narrow beats, and knows them after a line at fault too
-abbrev pub narrow_ways : (w : ℕ) → Ways (NarrowLineJudge w) (Link × Beat w)
+abbrev pub narrow_ways : (w : ℕ) → Ways (NarrowLineJudge w) Terms (Link × Beat w)
 narrow_ways w = record { form = narrow w; knows = KnowsNarrow w; goes_on = λ _. true }

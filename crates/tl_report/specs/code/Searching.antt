@@ -8,6 +8,7 @@ use Rattle.tl_engine.specs.declared.fault.Fault.{Fault}
 use Rattle.tl_engine.specs.declared.fault.Fault.TheVariants.{Line}
 use Rattle.tl_engine.specs.declared.status.Status.{Status}
 use Rattle.tl_engine.specs.declared.status.Status.TheVariants.{Clean, Broken}
+use Rattle.tl_report.specs.code.EventJudging.{event_ways}
 use Rattle.tl_report.specs.code.LineJudging.{Ways}
 use Rattle.tl_report.specs.code.NarrowJudging.{narrow_ways}
 use Rattle.tl_report.specs.code.WideJudging.{wide_ways}
@@ -16,7 +17,7 @@ use Rattle.tl_report.specs.declared.findings.Findings.{Findings}
 use Rattle.tl_report.specs.declared.search.Search.{Search}
 use Rattle.tl_report.specs.declared.search_lines.SearchLines.{SearchLines}
 use Rattle.tl_report.specs.declared.search_lines.SearchLines.TheVariants as of
-use Rattle.tl_report.specs.statement.Form.{Form, IsAtFault, Terms}
+use Rattle.tl_report.specs.statement.Form.{Form, IsAtFault}
 use Rattle.tl_report.specs.statement.Found.{FindsAfter, FindsFor, IsHeadless, is_open, no_header}
 use Rattle.tl_report.specs.statement.Taken.{AreCounted}
 
@@ -30,8 +31,8 @@ pub record IsBegun {J : Type 0} (s : Search J) (aim : Aim) (judge : J) : Type 0 
   pub unended : s.over ≡ false
 
 -- These lines were read, and more are looked for: what is found after them is found after what was.
-pub record KnowsSearch {J X : Type 0} (ways : Ways J X) (s : Search J) (lines : List (List ℕ)) : Type 0 where
-  pub terms : Terms
+pub record KnowsSearch {J T X : Type 0} (ways : Ways J T X) (s : Search J) (lines : List (List ℕ)) : Type 0 where
+  pub terms : T
   pub trace : List X
   pub left : ℕ
   pub known : ways.knows s.judge terms trace
@@ -55,7 +56,7 @@ EndsSearch s lines = FindsFor s.aim lines
     (found_with s.over s.findings.faults.items (s.lines + 1)) s.findings.beats s.findings.cells.items
 
 -- a line was read: more are looked for, or it ends the search, whatever follows it
-abbrev pub SearchesLine : {J X : Type 0} → Ways J X → Search J → Search J → List ℕ → Option Fault → Type 0
+abbrev pub SearchesLine : {J T X : Type 0} → Ways J T X → Search J → Search J → List ℕ → Option Fault → Type 0
 SearchesLine ways old new line None =
     (lines : List (List ℕ)) → KnowsSearch ways old lines → KnowsSearch ways new (lines ++ line ∷ [])
 SearchesLine ways old new line (Some fault) =
@@ -66,18 +67,18 @@ abbrev pub Counts : {J X : Type 0} → Form X → Search J → List X → Type 0
 Counts form s t = AreCounted s.findings.beats s.findings.cells.items (map form.cell t)
 
 -- what a line is at fault for after the beats that a search has taken, and what it has taken with the line
-abbrev pub SearchJudges : {J X : Type 0} → Ways J X → Search J → Search J → List ℕ → Option Fault → Type 0
-SearchJudges {J} {X} ways old new line None =
-    (terms : Terms) (t : List X) → ways.knows old.judge terms t → Counts (ways.form terms) old t
+abbrev pub SearchJudges : {J T X : Type 0} → Ways J T X → Search J → Search J → List ℕ → Option Fault → Type 0
+SearchJudges {J} {T} {X} ways old new line None =
+    (terms : T) (t : List X) → ways.knows old.judge terms t → Counts (ways.form terms) old t
     → (x : X) × (ways.form terms).spells line x × (ways.form terms).is_good t x
     × ways.knows new.judge terms (x ∷ t) × Counts (ways.form terms) new (x ∷ t)
-SearchJudges {J} {X} ways old new line (Some fault) =
-    (terms : Terms) (t : List X) → ways.knows old.judge terms t → Counts (ways.form terms) old t
+SearchJudges {J} {T} {X} ways old new line (Some fault) =
+    (terms : T) (t : List X) → ways.knows old.judge terms t → Counts (ways.form terms) old t
     → IsAtFault (ways.form terms) t line fault
     × (ways.goes_on old.judge ≡ true → ways.knows new.judge terms t) × Counts (ways.form terms) new t
 
 -- what a beat doesn't change of a search
-pub record IsElsewhereSame {J X : Type 0} (ways : Ways J X) (old new : Search J) : Type 0 where
+pub record IsElsewhereSame {J T X : Type 0} (ways : Ways J T X) (old new : Search J) : Type 0 where
   pub aim_is : new.aim ≡ old.aim
   pub found_is : new.findings.faults.items ≡ old.findings.faults.items
   pub lines_are : new.lines ≡ old.lines
@@ -116,6 +117,9 @@ aim_of (of.WideEight s) = s.aim
 aim_of (of.WideSixteen s) = s.aim
 aim_of (of.WideThirtyTwo s) = s.aim
 aim_of (of.WideSixtyFour s) = s.aim
+aim_of (of.EventFour s) = s.aim
+aim_of (of.EventEight s) = s.aim
+aim_of (of.EventSixteen s) = s.aim
 
 -- these lines were read, whatever was said of them
 abbrev pub KnowsLines : SearchLines → List (List ℕ) → List ℕ → Type 0
@@ -128,6 +132,9 @@ KnowsLines (of.WideEight s) lines text = KnowsSearch (wide_ways 8 8) s lines
 KnowsLines (of.WideSixteen s) lines text = KnowsSearch (wide_ways 16 16) s lines
 KnowsLines (of.WideThirtyTwo s) lines text = KnowsSearch (wide_ways 32 16) s lines
 KnowsLines (of.WideSixtyFour s) lines text = KnowsSearch (wide_ways 64 16) s lines
+KnowsLines (of.EventFour s) lines text = KnowsSearch (event_ways 4) s lines
+KnowsLines (of.EventEight s) lines text = KnowsSearch (event_ways 8) s lines
+KnowsLines (of.EventSixteen s) lines text = KnowsSearch (event_ways 16) s lines
 
 -- an input without a line has no header
 abbrev pub TellsLines : List (List ℕ) → List ℕ → Status → Type 0
@@ -146,6 +153,9 @@ EndsLines (of.WideEight s) lines = EndsSearch s lines
 EndsLines (of.WideSixteen s) lines = EndsSearch s lines
 EndsLines (of.WideThirtyTwo s) lines = EndsSearch s lines
 EndsLines (of.WideSixtyFour s) lines = EndsSearch s lines
+EndsLines (of.EventFour s) lines = EndsSearch s lines
+EndsLines (of.EventEight s) lines = EndsSearch s lines
+EndsLines (of.EventSixteen s) lines = EndsSearch s lines
 
 -- these are all faults of the input
 abbrev pub HasFound : SearchLines → Status → Findings → Type 0
@@ -159,7 +169,7 @@ Begins IsNone aim line None = IsNone aim line
 Begins IsNone aim line (Some s) = KnowsLines s (line ∷ []) [] × (aim_of s ≡ aim)
 
 -- a search has read the header alone, and its judge has taken no beat under these terms
-pub record StartsSearch {J X : Type 0} (ways : Ways J X) (aim : Aim) (terms : Terms) (s : Search J) : Type 0 where
+pub record StartsSearch {J T X : Type 0} (ways : Ways J T X) (aim : Aim) (terms : T) (s : Search J) : Type 0 where
   pub begun : IsBegun s aim s.judge
   pub known : ways.knows s.judge terms []
   pub goes_on : 0 < aim.behind → ways.goes_on s.judge ≡ true

@@ -33,7 +33,7 @@ abbrev pub KnowsWide : (w p : ℕ) → WideLineJudge w p → Terms → List (Lin
 KnowsWide w p judge terms t = KnowsTrace terms judge.judge t × IsKept judge.kept terms t
 
 -- it takes wide beats, and knows them after a line at fault if it keeps them
-abbrev pub wide_ways : (w p : ℕ) → Ways (WideLineJudge w p) (Link × WideBeat w)
+abbrev pub wide_ways : (w p : ℕ) → Ways (WideLineJudge w p) Terms (Link × WideBeat w)
 wide_ways w p = record { form = wide w; knows = KnowsWide w p; goes_on = λ judge. is_some judge.kept }
 
 -- ---- calls

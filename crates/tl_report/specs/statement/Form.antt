@@ -1,4 +1,5 @@
--- The two forms of beats that a trace may have, narrow and wide, and the fault of a beat of each.
+-- The three forms that a trace may have, and the fault of a beat of each: narrow beats, wide ones, and narrow ones with
+-- commits between them.
 use Rattle.std.specs.Prelude.{◌≡◌, ◌⊎◌, ◌∷◌, ℕ, Bool, List, length, Option, Some, None, reverse}
 use Rattle.tl_beat.specs.declared.beat.Beat.{Beat}
 use Rattle.tl_beat.specs.declared.beat.Link.{Link}
@@ -9,7 +10,11 @@ use Rattle.tl_engine.specs.declared.fault.Fault.TheVariants.{Line}
 use Rattle.tl_engine.specs.statement.JudgedLinks.{faults_by}
 use Rattle.tl_params.specs.declared.level.Level.{Level}
 use Rattle.tl_params.specs.declared.liberties.Liberties.{Liberties}
-use Rattle.tl_report.specs.statement.Taken.{cell_of, wide_cell_of}
+use Rattle.tl_commit_lines.specs.declared.header.MarkedLevel.{MarkedLevel}
+use Rattle.tl_commit_lines.specs.statement.JudgedEvents.{fault_by}
+use Rattle.tl_events.specs.declared.commit.Event.{Event}
+use Rattle.tl_events.specs.statement.EventLine.{SpellsEvent, event_fault}
+use Rattle.tl_report.specs.statement.Taken.{cell_of, event_cell_of, wide_cell_of}
 use Rattle.tl_wide.specs.declared.beat.WideBeat.{WideBeat}
 use Rattle.tl_wide.specs.statement.Line.{WideSpells, wide_line_fault}
 use Rattle.tl_wide_lines.specs.statement.JudgedTrace.{first_fault_of}
@@ -20,7 +25,13 @@ pub record Terms : Type 0 where
   pub may : Liberties
   pub levels : List Level
 
--- A form of beats, each with its link. The newest beat of a trace is first.
+-- the terms of a trace with commits: the same, of links of which some have the mark that all their stores are in it
+pub record EventTerms : Type 0 where
+  pub together : Bool
+  pub may : Liberties
+  pub links : List MarkedLevel
+
+-- A form of beats, or of beats and commits, each with its link. The newest beat of a trace is first.
 pub record Form (X : Type 0) : Type 1 where
   -- the line is that of the beat
   pub spells : List ℕ → X → Type 0
@@ -55,6 +66,16 @@ wide w terms = record {
   is_good = λ t x. first_fault_in terms (x ∷ t) ≡ None;
   is_bad = λ t x fault. first_fault_in terms (x ∷ t) ≡ Some (length t, fault);
   cell = λ x. wide_cell_of x.0 x.1;
+}
+
+-- beats and commits: each is at fault after those of a trace as the rules of both say
+abbrev pub events : (w : ℕ) → EventTerms → Form (Link × Event w)
+events w terms = record {
+  spells = λ line x. SpellsEvent line x.0 x.1;
+  line_fault = event_fault w;
+  is_good = λ e x. fault_by w terms.together terms.links terms.may x.0 x.1 e ≡ None;
+  is_bad = λ e x fault. fault_by w terms.together terms.links terms.may x.0 x.1 e ≡ Some fault;
+  cell = λ x. event_cell_of x.0 x.1;
 }
 
 -- The line is at fault for this after the beats of t. It spells no beat, or one that is at fault for it.

@@ -1,4 +1,4 @@
--- The findings in a trace whose beats at fault aren't taken.
+-- The findings in a trace whose beats and commits at fault aren't taken.
 use Rattle.std.specs.Prelude.{◌≡◌, ◌⊎◌, ◌||◌, ◌+◌, ℕ, suc, zero, Bool, not, List, [], ◌∷◌, length, map, nat_lt}
 use Rattle.std.specs.Prelude.{if◌then◌else◌}
 use Rattle.std.specs.Io.BufRead.{ends_with_byte}
@@ -11,7 +11,9 @@ use Rattle.tl_engine.specs.declared.fault.Fault.TheVariants.{Header}
 use Rattle.tl_engine.specs.statement.LinksHeader.{NamesAllowed}
 use Rattle.tl_engine.specs.statement.Width.{bytes_of}
 use Rattle.tl_report.specs.declared.findings.Finding.{Finding}
-use Rattle.tl_report.specs.statement.Form.{Form, IsAtFault, Terms, narrow, wide}
+use Rattle.tl_commit_lines.specs.declared.header.MarkedLevel.{MarkedLevel}
+use Rattle.tl_commit_lines.specs.statement.MarkedHeader.{NamesMarked}
+use Rattle.tl_report.specs.statement.Form.{EventTerms, Form, IsAtFault, Terms, events, narrow, wide}
 use Rattle.tl_report.specs.statement.Taken.{AreCounted}
 use Rattle.tl_wide.specs.declared.width.WideWidth.{WideWidth}
 use Rattle.tl_wide.specs.statement.Width.{wide_bytes_of}
@@ -48,6 +50,10 @@ FindsAfter {X} form t n (suc most) (line ∷ lines) found beats cells =
 abbrev pub terms_of : Bool → Liberties → List Level → Terms
 terms_of together may levels = record { together = together; may = may; levels = levels }
 
+-- the same of a trace with commits
+abbrev pub event_terms_of : Bool → Liberties → List MarkedLevel → EventTerms
+event_terms_of together may links = record { together = together; may = may; links = links }
+
 -- the line is a header of narrow beats, and these are the findings after it
 abbrev pub FindsNarrow : Aim → List ℕ → List (List ℕ) → List Finding → ℕ → List ℕ → Type 0
 FindsNarrow aim line lines found beats cells =
@@ -61,6 +67,13 @@ FindsWide aim line lines found beats cells =
     × NamesWide aim.allow line width may levels
     × FindsAfter (wide (wide_bytes_of width) (terms_of aim.together may levels)) [] 2 (most_of aim) lines found beats cells
 
+-- the same for a header of a trace with commits
+abbrev pub FindsEvents : Aim → List ℕ → List (List ℕ) → List Finding → ℕ → List ℕ → Type 0
+FindsEvents aim line lines found beats cells =
+    (width : Width) × (may : Liberties) × (links : List MarkedLevel) × NamesMarked aim.allow line width may links
+    × FindsAfter (events (bytes_of width) (event_terms_of aim.together may links)) [] 2 (most_of aim) lines found beats
+    cells
+
 -- the line is no header of narrow beats
 abbrev pub IsNotNarrow : Aim → List ℕ → Type 0
 IsNotNarrow aim line = (width : Width) (may : Liberties) (levels : List Level)
@@ -71,9 +84,14 @@ abbrev pub IsNotWide : Aim → List ℕ → Type 0
 IsNotWide aim line = (width : WideWidth) (may : Liberties) (levels : List Level)
     → ¬ NamesWide aim.allow line width may levels
 
+-- the line is no header of a trace with commits
+abbrev pub IsNotMarked : Aim → List ℕ → Type 0
+IsNotMarked aim line = (width : Width) (may : Liberties) (links : List MarkedLevel)
+    → ¬ NamesMarked aim.allow line width may links
+
 -- the line is no header
 abbrev pub IsHeadless : Aim → List ℕ → Type 0
-IsHeadless aim line = IsNotNarrow aim line × IsNotWide aim line
+IsHeadless aim line = IsNotNarrow aim line × IsNotWide aim line × IsNotMarked aim line
 
 -- the one line at fault of a trace without a header
 abbrev pub no_header : List Finding
@@ -83,11 +101,13 @@ no_header = record { line = 1; fault = Header } ∷ []
 abbrev pub FindsNone : List Finding → ℕ → List ℕ → Type 0
 FindsNone found beats cells = (found ≡ no_header) × AreCounted beats cells []
 
--- The findings in a whole trace for this aim: lines at fault, the number of beats taken, and the counts of the cells.
+-- The findings in a whole trace for this aim: lines at fault, the number of beats and commits taken, and the counts of
+-- the cells.
 -- If there is no first line, or it spells no header, it is the only line at fault.
 unfoldable pub FindsFor : Aim → List (List ℕ) → List Finding → ℕ → List ℕ → Type 0
 FindsFor aim [] found beats cells = FindsNone found beats cells
 FindsFor aim (line ∷ lines) found beats cells =
     FindsWide aim line lines found beats cells
     ⊎ FindsNarrow aim line lines found beats cells
+    ⊎ FindsEvents aim line lines found beats cells
     ⊎ (IsHeadless aim line × FindsNone found beats cells)

@@ -1,9 +1,13 @@
--- The beats that a search has taken, counted by link and message.
+-- The beats and commits that a search has taken, counted by link and message.
 use Rattle.std.specs.Prelude.{◌≡◌, ◌<◌, ◌+◌, ◌*◌, ◌==◌, ℕ, List, length, count_by, slice_index_or}
 use Rattle.tl_beat.specs.declared.beat.Beat.{Beat}
 use Rattle.tl_beat.specs.declared.beat.Beat.TheVariants as beat
 use Rattle.tl_beat.specs.declared.beat.Link.{Link}
 use Rattle.tl_beat.specs.statement.Opcode.{a_code, b_code, c_code, d_code}
+use Rattle.tl_events.specs.declared.commit.Commit.{Commit}
+use Rattle.tl_events.specs.declared.commit.Commit.TheVariants as commit
+use Rattle.tl_events.specs.declared.commit.Event.{Event}
+use Rattle.tl_events.specs.declared.commit.Event.TheVariants as event
 use Rattle.tl_wide.specs.declared.beat.WideBeat.{WideBeat}
 use Rattle.tl_wide.specs.declared.beat.WideBeat.TheVariants as wide
 
@@ -23,9 +27,20 @@ wide_message_of (wide.C x) = 16 + c_code x.opcode
 wide_message_of (wide.D x) = 24 + d_code x.opcode
 wide_message_of (wide.E x) = 32
 
--- the number of the cell in which a beat with this message counts: each link has 33 cells
+-- the same for a commit: stores, loads, and beginnings of loads, after the messages
+abbrev pub commit_message_of : Commit → ℕ
+commit_message_of (commit.Store piece value) = 33
+commit_message_of (commit.Load piece value) = 34
+commit_message_of (commit.Begin piece) = 35
+
+-- the same for an event
+abbrev pub event_message_of : {w : ℕ} → Event w → ℕ
+event_message_of (event.Beat x) = message_of x
+event_message_of (event.Commit x) = commit_message_of x
+
+-- the number of the cell in which a beat with this message counts, or such a commit: each link has 36 cells
 abbrev pub cell_for : Link → ℕ → ℕ
-cell_for link message = 33 * link.0 + message
+cell_for link message = 36 * link.0 + message
 
 -- the number of the cell in which a beat counts
 abbrev pub cell_of : {w : ℕ} → Link → Beat w → ℕ
@@ -35,11 +50,16 @@ cell_of link beat = cell_for link (message_of beat)
 abbrev pub wide_cell_of : {w : ℕ} → Link → WideBeat w → ℕ
 wide_cell_of link beat = cell_for link (wide_message_of beat)
 
+-- the number of the cell in which an event counts
+abbrev pub event_cell_of : {w : ℕ} → Link → Event w → ℕ
+event_cell_of link x = cell_for link (event_message_of x)
+
 -- the number of cells, for 256 links
 abbrev pub most_cells : ℕ
-most_cells = 8448
+most_cells = 9216
 
--- `beats` is the number of beats taken, of which these are the cells, and each of `cells` has the number of beats in it
+-- `beats` is the number of beats and commits taken, of which these are the cells, and each of `cells` has the number of
+-- those in it
 pub record AreCounted (beats : ℕ) (cells taken : List ℕ) : Type 0 where
   pub in_all : beats ≡ length taken
   pub room : length cells ≡ most_cells

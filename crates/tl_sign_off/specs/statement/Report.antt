@@ -13,10 +13,14 @@ use Rattle.tl_beat.specs.statement.Names.{letter_of}
 use Rattle.tl_engine.specs.declared.fault.Fault.{Fault}
 use Rattle.tl_engine.specs.declared.fault.Fault.TheVariants.{Header}
 use Rattle.tl_engine.specs.statement.Fault.{fault_name}
+use Rattle.tl_events.specs.declared.commit.Commit.{Commit}
+use Rattle.tl_events.specs.declared.commit.Event.{Event}
+use Rattle.tl_events.specs.declared.commit.Event.TheVariants as event
 use Rattle.tl_report.specs.declared.findings.Finding.{Finding}
 use Rattle.tl_sign_off.specs.declared.account.Account.{Account}
 use Rattle.tl_sign_off.specs.declared.input.Input.{Input}
-use Rattle.tl_sign_off.specs.statement.Message.{channel_name, message_name, name_of, wide_channel_of, wide_name_of}
+use Rattle.tl_sign_off.specs.statement.Message.{channel_name, commit_letter, commit_name, message_name, name_of}
+use Rattle.tl_sign_off.specs.statement.Message.{wide_channel_of, wide_name_of}
 use Rattle.tl_sign_off.specs.statement.Sentence.{sentence_of}
 use Rattle.tl_wide.specs.declared.beat.WideBeat.{WideBeat}
 
@@ -35,21 +39,25 @@ fault_data x = object
 abbrev pub faults_data : List Finding → Data
 faults_data found = array (items_of (map fault_data found))
 
--- the number of beats in a cell, with the link and message of the cell
+-- the number of beats or commits in a cell, with the link and message of the cell
 abbrev pub count_data : ℕ → ℕ → Data
 count_data cell n = object
     (member (codes "beats") (natural n)
-    (member (codes "channel") (string (channel_name (cell % 33)))
-    (member (codes "link") (natural (cell / 33))
-    (member (codes "message") (string (message_name (cell % 33))) no_members))))
+    (member (codes "channel") (string (channel_name (cell % 36)))
+    (member (codes "link") (natural (cell / 36))
+    (member (codes "message") (string (message_name (cell % 36))) no_members))))
+
+-- the number of lines of this link that have this letter and a message of this name
+abbrev pub count_lettered : Link → List ℕ → List ℕ → ℕ → Data
+count_lettered link letter name n = object
+    (member (codes "beats") (natural n)
+    (member (codes "channel") (string letter)
+    (member (codes "link") (natural link.0)
+    (member (codes "message") (string name) no_members))))
 
 -- the number of beats of this link and channel whose message has this name
 abbrev pub count_named : Link → Channel → List ℕ → ℕ → Data
-count_named link channel name n = object
-    (member (codes "beats") (natural n)
-    (member (codes "channel") (string (letter_of channel ∷ []))
-    (member (codes "link") (natural link.0)
-    (member (codes "message") (string name) no_members))))
+count_named link channel name n = count_lettered link (letter_of channel ∷ []) name n
 
 -- the number of beats with this beat's link and message
 abbrev pub count_of : {w : ℕ} → Link → Beat w → ℕ → Data
@@ -59,7 +67,16 @@ count_of link beat n = count_named link (channel_of beat) (name_of beat) n
 abbrev pub wide_count_of : {w : ℕ} → Link → WideBeat w → ℕ → Data
 wide_count_of link beat n = count_named link (wide_channel_of beat) (wide_name_of beat) n
 
--- the entry for a cell; none for a cell without beats
+-- the number of commits of this commit's link and kind
+abbrev pub commit_count_of : Link → Commit → ℕ → Data
+commit_count_of link x n = count_lettered link (commit_letter x) (commit_name x) n
+
+-- the number of events with this event's link and message
+abbrev pub event_count_of : {w : ℕ} → Link → Event w → ℕ → Data
+event_count_of link (event.Beat x) n = count_of link x n
+event_count_of link (event.Commit x) n = commit_count_of link x n
+
+-- the entry for a cell; none for a cell without beats or commits
 abbrev pub counted_in : ℕ → ℕ → List Data
 counted_in cell n = if n == 0 then [] else count_data cell n ∷ []
 

@@ -9,6 +9,7 @@ use Rattle.tl_params.specs.declared.liberties.Liberties.{Liberties}
 use Rattle.tl_tried.specs.code.Following.{KnowsLines, found_of_lines}
 use Rattle.tl_tried.specs.code.WideCover.{TakesWideLine, wide_found_in}
 use Rattle.tl_tried.specs.declared.cover_lines.CoverLines.{CoverLines}
+use Rattle.tl_tried.specs.declared.cover_lines.Following.{Following}
 use Rattle.tl_tried.specs.declared.cover_lines.Following.TheVariants.{Waiting}
 use Rattle.tl_tried.specs.declared.cover_trace.CoverTrace.{CoverTrace}
 use Rattle.tl_tried.specs.declared.cover_trace.WideFollowing.{WideFollowing}
@@ -83,6 +84,14 @@ found_of_either narrow (Some following) = wide_found_by following
 
 abbrev pub found_of_trace : CoverTrace → Found
 found_of_trace h = found_of_either h.narrow h.wide
+
+-- the allocator, if no line has been read
+abbrev pub waiting_by : Option WideFollowing → Following → Option Global
+waiting_by None (Waiting alloc) = Some alloc
+waiting_by _ _ = None
+
+abbrev pub waiting_in : CoverTrace → Option Global
+waiting_in h = waiting_by h.wide h.narrow.following
 
 -- they are those of these lines
 abbrev pub EndsTrace : CoverTrace → List (List ℕ) → Type 0

@@ -1,13 +1,13 @@
 use Rattle.std.proofs.Common.{◌≡◌, ap, ◌∙◌}
 use Rattle.tl_tried.proofs.Telling.{gathered}
-use Rattle.tl_tried.specs.declared.cover_trace.CoverTrace.{CoverTrace}
+use Rattle.tl_tried.specs.declared.cover_events.CoverEvents.{CoverEvents}
 use Rattle.tl_tried.proofs.tried.gather.Goals as goal
 
 pub returns-clause-ok : goal.returns-clause-ok
 returns-clause-ok g c =
     let (read, consumed, judged, ended, has, stands) = c.in_ok-status.ensures.ok in
-    let was : c.new-lines.result.handler.narrow.allow ≡ c.args.allow =
-    ap (λ (h : CoverTrace). h.narrow.allow) c.new-lines.ensures.handler ∙ c.new.ensures.allowed in
+    let was : c.new-lines.result.handler.plain.narrow.allow ≡ c.args.allow =
+    ap (λ (h : CoverEvents). h.plain.narrow.allow) c.new-lines.ensures.handler ∙ c.new.ensures.allowed in
     rw c.into_handler.ensures
     (gathered c.judge_input.new.lines.handler c.new-lines.result.handler c.args.allow _ _ _ c.in_ok-status.status was
     (c.in_ok-status.ensures.purpose ∙ was) (read, consumed, judged, ended, has))

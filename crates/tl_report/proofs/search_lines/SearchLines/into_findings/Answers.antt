@@ -1,5 +1,6 @@
 use Rattle.tl_report.proofs.Handled.{eight, four, sixteen, wide_eight, wide_four, wide_sixteen, wide_sixty_four, wide_thirty_two}
-use Rattle.tl_report.proofs.Handled.{found_so}
+use Rattle.tl_report.proofs.Handled.{event_eight, event_four, event_sixteen, found_so}
+use Rattle.tl_report.specs.code.EventJudging.{event_ways}
 use Rattle.tl_report.specs.code.NarrowJudging.{narrow_ways}
 use Rattle.tl_report.specs.code.WideJudging.{wide_ways}
 use Rattle.tl_report.specs.declared.search_lines.SearchLines.TheVariants as of
@@ -28,3 +29,12 @@ returns-in-WideThirtyTwo c = rw c.in-WideThirtyTwo.is (found_so (wide_ways 32 16
 
 pub returns-in-WideSixtyFour : goal.returns-in-WideSixtyFour
 returns-in-WideSixtyFour c = rw c.in-WideSixtyFour.is (found_so (wide_ways 64 16) of.WideSixtyFour wide_sixty_four c.in-WideSixtyFour.search c.args.status c.into_findings-in-WideSixtyFour.result c.into_findings-in-WideSixtyFour.ensures)
+
+pub returns-in-EventFour : goal.returns-in-EventFour
+returns-in-EventFour c = rw c.in-EventFour.is (found_so (event_ways 4) of.EventFour event_four c.in-EventFour.search c.args.status c.into_findings-in-EventFour.result c.into_findings-in-EventFour.ensures)
+
+pub returns-in-EventEight : goal.returns-in-EventEight
+returns-in-EventEight c = rw c.in-EventEight.is (found_so (event_ways 8) of.EventEight event_eight c.in-EventEight.search c.args.status c.into_findings-in-EventEight.result c.into_findings-in-EventEight.ensures)
+
+pub returns-in-EventSixteen : goal.returns-in-EventSixteen
+returns-in-EventSixteen c = rw c.in-EventSixteen.is (found_so (event_ways 16) of.EventSixteen event_sixteen c.in-EventSixteen.search c.args.status c.into_findings-in-EventSixteen.result c.into_findings-in-EventSixteen.ensures)

@@ -1,5 +1,7 @@
 use Rattle.tl_report.proofs.Handled.{eight, four, sixteen, wide_eight, wide_four, wide_sixteen, wide_sixty_four, wide_thirty_two}
+use Rattle.tl_report.proofs.Handled.{event_eight, event_four, event_sixteen}
 use Rattle.tl_report.proofs.Handled.{read_ends, read_judged, start_aim, start_ends, started}
+use Rattle.tl_report.specs.code.EventJudging.{event_ways}
 use Rattle.tl_report.specs.code.NarrowJudging.{narrow_ways}
 use Rattle.tl_report.specs.code.WideJudging.{wide_ways}
 use Rattle.tl_report.specs.declared.search_lines.SearchLines.TheVariants as of
@@ -104,3 +106,36 @@ returns-in-WideSixtyFour-clause-ends c = rw c.in-WideSixtyFour.is (read_ends (wi
 
 pub returns-in-WideSixtyFour-clause-purpose : goal.returns-in-WideSixtyFour-clause-purpose
 returns-in-WideSixtyFour-clause-purpose c = rw c.in-WideSixtyFour.is c.read-in-WideSixtyFour.ensures.aim
+
+pub returns-in-EventFour-clause-judges : goal.returns-in-EventFour-clause-judges
+returns-in-EventFour-clause-judges c = rw c.in-EventFour.is (read_judged (event_ways 4) of.EventFour event_four c.in-EventFour.search c.read-in-EventFour.new.self
+    c.args.line.now c.args._out.now.items c.read-in-EventFour.result c.read-in-EventFour.ensures.reads)
+
+pub returns-in-EventFour-clause-ends : goal.returns-in-EventFour-clause-ends
+returns-in-EventFour-clause-ends c = rw c.in-EventFour.is (read_ends (event_ways 4) of.EventFour event_four c.in-EventFour.search c.read-in-EventFour.new.self
+    c.args.line.now c.read-in-EventFour.result c.read-in-EventFour.ensures.reads)
+
+pub returns-in-EventFour-clause-purpose : goal.returns-in-EventFour-clause-purpose
+returns-in-EventFour-clause-purpose c = rw c.in-EventFour.is c.read-in-EventFour.ensures.aim
+
+pub returns-in-EventEight-clause-judges : goal.returns-in-EventEight-clause-judges
+returns-in-EventEight-clause-judges c = rw c.in-EventEight.is (read_judged (event_ways 8) of.EventEight event_eight c.in-EventEight.search c.read-in-EventEight.new.self
+    c.args.line.now c.args._out.now.items c.read-in-EventEight.result c.read-in-EventEight.ensures.reads)
+
+pub returns-in-EventEight-clause-ends : goal.returns-in-EventEight-clause-ends
+returns-in-EventEight-clause-ends c = rw c.in-EventEight.is (read_ends (event_ways 8) of.EventEight event_eight c.in-EventEight.search c.read-in-EventEight.new.self
+    c.args.line.now c.read-in-EventEight.result c.read-in-EventEight.ensures.reads)
+
+pub returns-in-EventEight-clause-purpose : goal.returns-in-EventEight-clause-purpose
+returns-in-EventEight-clause-purpose c = rw c.in-EventEight.is c.read-in-EventEight.ensures.aim
+
+pub returns-in-EventSixteen-clause-judges : goal.returns-in-EventSixteen-clause-judges
+returns-in-EventSixteen-clause-judges c = rw c.in-EventSixteen.is (read_judged (event_ways 16) of.EventSixteen event_sixteen c.in-EventSixteen.search c.read-in-EventSixteen.new.self
+    c.args.line.now c.args._out.now.items c.read-in-EventSixteen.result c.read-in-EventSixteen.ensures.reads)
+
+pub returns-in-EventSixteen-clause-ends : goal.returns-in-EventSixteen-clause-ends
+returns-in-EventSixteen-clause-ends c = rw c.in-EventSixteen.is (read_ends (event_ways 16) of.EventSixteen event_sixteen c.in-EventSixteen.search c.read-in-EventSixteen.new.self
+    c.args.line.now c.read-in-EventSixteen.result c.read-in-EventSixteen.ensures.reads)
+
+pub returns-in-EventSixteen-clause-purpose : goal.returns-in-EventSixteen-clause-purpose
+returns-in-EventSixteen-clause-purpose c = rw c.in-EventSixteen.is c.read-in-EventSixteen.ensures.aim

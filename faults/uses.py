@@ -240,7 +240,7 @@ ROWS = [
     ("tltool explain wide/wrong_report.trace", 1, WIDE_REASONS, ""),
     ("tltool explain --coherent wide/second_part.trace | cut -c1-40", 0, WIDE_MEMORY, ""),
     ("sed '1s/64/32/' wide/wrong_report.trace >narrower.trace; tltool explain narrower.trace", 1, F3.format(2), ""),
-    ("(head -5 wide/wrong_report.trace; tail -1 wide/wrong_report.trace | sed 's/C 4 1/C 4 2/') >right.trace; tltool explain right.trace | head -1", 0, "clean 5\n", ""),
+    ("(head -5 wide/wrong_report.trace; tail -1 wide/wrong_report.trace | sed 's/C 4 1/C 4 2/') >right.trace; tltool explain right.trace | sed -n 1p", 0, "clean 5\n", ""),
     *(
         (f"tltool {words} {way}wide/two_caches.trace", 0, f"{words.split()[0].replace('monitor', 'clean')} 11\n", "")
         for words in ("monitor --all 3", "coherent --all 3", "monitor --report wide.json", "coherent --junit wide.xml") for way in ("", "<")
@@ -348,10 +348,10 @@ ROWS = [
     ("tltool monitor --all 10 </dev/null", 1, "line 1 F7\nfaults 1\n", ""),
     ("tail -n +2 two_caches.trace | tltool monitor --all 10", 1, "line 1 F7\nfaults 1\n", ""),
     # the beat of a line at fault isn't taken: neither is what answers it
-    ("grep -v ' D 5 ' two_caches.trace | tltool monitor --all 9 | head -n 1", 0, "line 3 H8\n", ""),
+    ("grep -v ' D 5 ' two_caches.trace | tltool monitor --all 9 | sed -n 1p", 0, "line 3 H8\n", ""),
     # a line without LF, and one of more than 256 bytes, are the last
     ("head -c -1 three_faults.trace | tltool monitor --all 9", 1, "line 3 H1\nline 5 F4\nline 7 H2\nline 8 F1\nfaults 4\n", ""),
-    ("sed '4s/$/ 1/' three_faults.trace | tltool monitor --all 9 | head -n 2", 0, "line 3 H1\nline 4 F1\n", ""),
+    ("sed '4s/$/ 1/' three_faults.trace | tltool monitor --all 9 | sed -n 1,2p", 0, "line 3 H1\nline 4 F1\n", ""),
     ("sed \"4s/\\$/$(printf '%300s')/\" three_faults.trace | tltool monitor --all 9", 1, "line 3 H1\nline 4 F1\nfaults 2\n", ""),
     ("tltool monitor --all 10 three_faults.trace >/dev/full", 3, "", "tltool: write failed\n"),
     ("tltool monitor --all 10 nowhere.trace", 3, "", "tltool: cannot open nowhere.trace\n"),
@@ -403,11 +403,11 @@ ROWS = [
     ("tltool explain rules/M6.trace", 1, "line 1 F7\n..", f"{COMMITS_UNREAD}\n"),
     ("tltool explain --coherent rules/M6.trace", 1, "line 1 F7\n..", f"{COMMITS_UNREAD}\n"),
     # the situations of the beats, with the lines of the trace
-    *((f"tltool cover rules/{name}.trace | head -1", 0, f"clean {lines}\n", "") for name, lines, _ in COMMITS),
+    *((f"tltool cover rules/{name}.trace | sed -n 1p", 0, f"clean {lines}\n", "") for name, lines, _ in COMMITS),
     ("(cat rules/M6.trace; echo 00 C 7 1 6 00 00000000 0000000000000000 0) | tltool cover | grep release-TtoN", 0, "release-TtoN 1, line 7: ..", ""),
-    ("sed '5s/ 05$//' rules/M6.trace | tltool cover | head -1", 0, "line 5 F1\n", ""),
-    ("(sed '5s/05/07/' rules/M6.trace; printf '00 L 0') | tltool cover | head -1", 0, "line 7 F1\n", ""),
-    ("echo 'tltrace 4 8 none C+' | tltool cover | head -1", 0, "clean 0\n", ""),
+    ("sed '5s/ 05$//' rules/M6.trace | tltool cover | sed -n 1p", 0, "line 5 F1\n", ""),
+    ("(sed '5s/05/07/' rules/M6.trace; printf '00 L 0') | tltool cover | sed -n 1p", 0, "line 7 F1\n", ""),
+    ("echo 'tltrace 4 8 none C+' | tltool cover | sed -n 1p", 0, "clean 0\n", ""),
     # all that are at fault: neither a beat nor a commit at fault leaves anything
     *((f"tltool coherent --all 9 rules/{name}.trace", int("M" in end or "L" in end), f"{end}\n" + "faults 1\n" * ("M" in end or "L" in end), "") for name, _, end in COMMITS),
     *((f"tltool monitor --all 9 <rules/{name}.trace", 0, f"clean {lines}\n", "") for name, lines, _ in COMMITS),
@@ -471,14 +471,14 @@ ROWS = [
     ("tltool chart rules", 3, "", "tltool: read failed\n"),
     ("tltool chart two_caches.trace >/dev/full", 3, "", "tltool: write failed\n"),
     # situations
-    ("tltool cover two_caches.trace | head -9 | tail -3 | cut -d: -f1", 0, "report-TtoB 1, line 14\nresponse-at-once 2, line 3\n7 of 79 situations seen\n", ""),
+    ("tltool cover two_caches.trace | sed -n 1,9p | tail -3 | cut -d: -f1", 0, "report-TtoB 1, line 14\nresponse-at-once 2, line 3\n7 of 79 situations seen\n", ""),
     ("tltool cover <two_caches.trace | wc -l", 0, "81\n", ""),
     ("tltool cover wrong_report.trace", 1, "line 13 H12\n..", ""),
     ("tltool cover --json wrong_report.trace", 1, "{\"verdict\": \"line 13 H12\", \"seen\": ..", ""),
     ("tltool cover </dev/null", 1, "line 1 F7\n0 of 79 situations seen\n", ""),
     ("tltool cover --json </dev/null", 1, "{\"verdict\": \"line 1 F7\", \"seen\": 0, \"of\": 79, \"situations\": [], \"bins\": [{\"name\": \"A-PutFullData-1\", \"counts\": []},\n..", ""),
     ("tltool cover --json two_caches.trace wrong_report.trace | grep AcquireBlock-NtoB", 0, "  {\"name\": \"A-AcquireBlock-NtoB-64\", \"counts\": [1, 1]},\n", ""),
-    ("tltool cover --tables two_caches.trace | head -81 | cmp - <(tltool cover two_caches.trace)", 0, "", ""),
+    ("tltool cover --tables two_caches.trace | sed -n 1,81p | cmp - <(tltool cover two_caches.trace)", 0, "", ""),
     ("tltool cover --tables two_caches.trace | grep -A 8 'permissions on link 0'", 0, PERMISSIONS, ""),
     ("tltool cover --tables two_caches.trace two_caches.trace | grep -c 'report-toB  *0  *0  *2$'", 0, "1\n", ""),
     ("tltool cover --tables two_caches.trace wrong_report.trace | grep A-AcquireBlock-NtoB | tr -s ' '", 0, "A-AcquireBlock-NtoB - - - - - - 1\nA-AcquireBlock-NtoB - - - - - - 1\n", ""),
@@ -494,7 +494,7 @@ ROWS = [
     ("tltool cover --tables nope.trace", 3, "", "tltool: cannot open nope.trace\n"),
     ("tltool cover nope.trace", 3, "", "tltool: cannot open nope.trace\n"),
     # the situations of several traces
-    ("tltool cover two_caches.trace wrong_report.trace | head -2", 0, "two_caches.trace: clean 29\nwrong_report.trace: line 13 H12\n", ""),
+    ("tltool cover two_caches.trace wrong_report.trace | sed -n 1,2p", 0, "two_caches.trace: clean 29\nwrong_report.trace: line 13 H12\n", ""),
     ("tltool cover wrong_report.trace two_caches.trace", 1, "wrong_report.trace: line 13 H12\ntwo_caches.trace: clean 29\n..", ""),
     ("tltool cover two_caches.trace two_caches.trace | grep ^report-TtoB", 0, "report-TtoB 2, two_caches.trace:14: a ProbeAck with this report\n", ""),
     ("tltool cover wrong_report.trace two_caches.trace | grep ^report-TtoB", 0, "report-TtoB 1, two_caches.trace:14: a ProbeAck with this report\n", ""),
@@ -503,7 +503,7 @@ ROWS = [
     ("tltool cover --json wrong_report.trace two_caches.trace | grep -o '\"report-TtoB.*line\": [0-9]*'", 0, "\"report-TtoB\", \"count\": 1, \"trace\": 1, \"line\": 14\n", ""),
     ("tltool cover --json two_caches.trace two_caches.trace | grep -o '\"report-TtoN.*line\": [a-z]*'", 0, "\"report-TtoN\", \"count\": 0, \"trace\": null, \"line\": null\n", ""),
     # wide beats: the lines are theirs, the counts those of their parts
-    ("tltool cover wide/two_caches.trace | head -4 | cut -d: -f1", 0, "clean 11\nacquire-NtoB 1, line 6\nacquire-NtoT 1, line 2\ngrant-NtoB 1, line 10\n", ""),
+    ("tltool cover wide/two_caches.trace | sed -n 1,4p | cut -d: -f1", 0, "clean 11\nacquire-NtoB 1, line 6\nacquire-NtoT 1, line 2\ngrant-NtoB 1, line 10\n", ""),
     ("tltool cover wide/wrong_report.trace", 1, "line 6 H12\n..", ""),
     ("tltool cover two_caches.trace wide/two_caches.trace | grep ^report-TtoB", 0, "report-TtoB 2, two_caches.trace:14: a ProbeAck with this report\n", ""),
     ("tltool cover wide/two_caches.trace two_caches.trace | grep ^report-TtoB", 0, "report-TtoB 2, wide/two_caches.trace:8: a ProbeAck with this report\n", ""),

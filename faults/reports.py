@@ -43,7 +43,7 @@ TRACES = [
     ("rules/M5_begun.trace", "cat"),
     ("rules/M6_right.trace", "sed '1s/C+/UH C C+/; s/^00/02/'"),
     ("rules/M6.trace", "sed '5s/ 05$//'"),
-    ("two_caches.trace", "sed '1s/.*/tltrace 4 8 none C+ C+/; 11a 00 S 0 00000000 5a' | sed '20a 01 I 3 00000008\n00 L 0 00000000 5a'"),
+    ("two_caches.trace", "sed -e '1s/.*/tltrace 4 8 none C+ C+/' -e '11a 00 S 0 00000000 5a' -e '19a 01 I 3 00000008' -e '19a 00 L 0 00000000 5a'"),
 ]
 OPTIONS = [[], ["--all", "1"], ["--all", "2"], ["--all", "100"]]
 

@@ -13,7 +13,8 @@ const WIDE: &str =
     "tltool: the header is of wide beats, which only monitor, coherent, explain and cover read";
 
 /// The line for standard error of a header of a trace with commits.
-const COMMITS: &str = "tltool: the header has a level C+, which only monitor, coherent and cover read";
+const COMMITS: &str =
+    "tltool: the header has a level C+, which only monitor, coherent and cover read";
 
 /// The number of bytes of a first line that are read.
 const LOOKED_AT: usize = 257;

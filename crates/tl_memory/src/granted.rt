@@ -27,6 +27,7 @@ fn some_window(count: WindowCount) -> bool
 }
 
 /// The writes of the accesses that have had a window. The error means that there is no memory left.
+#[inline(always)]
 fn writes_in_windows<const W: usize>(
     alloc: Global,
     accesses: &[PendingAccess<W>],

@@ -1,8 +1,8 @@
 #!/usr/bin/env python3
 """commits.py TOOL [RUNS]: random traces of caches whose cores store and load, by the model bench/commits_trial.py: RUNS runs of
 right caches (60 if none is said), and a tenth as many of each wrong one. `TOOL coherent` must have the model's verdict on each,
-and `TOOL monitor` must find no fault in those of right caches. The command judges M2 and M3 by the beats alone, and the model by
-the stores too, so runs of which the model says M2 or M3 are left out. Ends with 'commits: N passed, M failed'."""
+and `TOOL monitor` must find no fault in those of right caches. The command judges M3 by the beats alone, and the model by the
+stores too, so runs of which the model says M3 are left out. Ends with 'commits: N passed, M failed'."""
 import concurrent.futures
 import os
 import pathlib
@@ -36,7 +36,7 @@ def main():
         subprocess.run([sys.executable, MODEL, "--runs", runs, "--traces", folder], check=True, stdout=subprocess.DEVNULL)
         # where no link says that all its stores are there the command reads no commits
         traces = [it for it in sorted(pathlib.Path(folder).glob("*.trace")) if "C+" in it.open().readline()]
-        traces = [it for it in traces if not it.with_suffix(".verdict").read_text().endswith((" M2\n", " M3\n"))]
+        traces = [it for it in traces if not it.with_suffix(".verdict").read_text().endswith(" M3\n")]
         with concurrent.futures.ThreadPoolExecutor(len(os.sched_getaffinity(0))) as pool:
             found = list(pool.map(lambda it: list(slips(tool, it)), traces))
     for slip in sum(found, []):

@@ -111,6 +111,7 @@ WITHOUT_EARLY = (("M1_early", 4, "H8"), ("M2_early_grant", 6, "H8"), ("M2_early_
 # The traces with stores and loads: their lines after the header, and what `coherent` writes.
 COMMITS = (
     ("L1_commit", 1, "line 2 L1"), ("L1_commit_right", 1, "coherent 1"), ("M5", 4, "line 5 M5"), ("M5_right", 4, "coherent 4"),
+    ("M2_stored", 8, "line 9 M2"), ("M2_stored_right", 8, "coherent 8"),
     ("M5_load", 2, "line 3 M5"), ("M5_load_right", 3, "coherent 3"), ("M5_begun", 7, "line 8 M5"), ("M5_begun_right", 7, "coherent 7"),
     ("M6", 5, "line 6 M6"), ("M6_right", 5, "coherent 5"), ("M6_unmarked_right", 5, "coherent 5"), ("M7", 5, "line 6 M7"),
     ("M7_right", 5, "coherent 5"), ("M7_dropped", 8, "line 9 M7"), ("M7_dropped_right", 8, "coherent 8"), ("M7_asked_right", 9, "coherent 9"),

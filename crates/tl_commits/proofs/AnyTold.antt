@@ -1,6 +1,6 @@
 -- Whether one of the possible values of a place passes a test.
-use Rattle.std.proofs.Common.{◌≡◌, ◌<◌, ◌≤◌, ◌+◌, ℕ, Bool, true, false, List, ◌∷◌, length, drop, get_or, refl, ◌∙◌}
-use Rattle.std.specs.Prelude.{◌==◌, find, if◌then◌else◌, is_some}
+use Rattle.std.proofs.Common.{◌≡◌, ◌<◌, ◌≤◌, ◌+◌, ℕ, zero, suc, Bool, true, false, List, [], ◌∷◌, length, drop, get_or, refl, ◌∙◌}
+use Rattle.std.specs.Prelude.{◌==◌, find, if◌then◌else◌, is_some, slice_get, Some}
 use Rattle.std.proofs.Math.ListN.{drop_of_length-le}
 use Rattle.std.proofs.lemmas.Bool.{eq-eqb, ne_eqb}
 use Rattle.std.proofs.lemmas.List.{at_drop_more}
@@ -42,3 +42,27 @@ module _ (test : Telling → Bool) where
   pub any-none : (p : ℕ) (items : List Told) (i : ℕ) → length items ≤ i → any p (drop i items) ≡ false
   unfolding tellings_at
   any-none p items i le = rw (drop_of_length-le items le) refl
+
+  -- one of them that stands at a place does
+  pub any-there : (p : ℕ) (items : List Told) (i : ℕ) (x : Told) → slice_get items i ≡ Some x → x.place ≡ p
+      → test x.telling ≡ true → any p items ≡ true
+  unfolding tellings_at
+  any-there p [] i x at same passes = absurd cc
+  any-there p (y ∷ items) zero x at same passes =
+      let here : y ≡ x = some-is at in
+      rw here (rw (eq-eqb x.place p same, passes) refl)
+    where
+      some-is : {X : Type 0} {a b : X} → Some a ≡ Some b → a ≡ b
+      some-is e = cc
+  any-there p (y ∷ items) (suc i) x at same passes =
+      more (y.place == p) y.telling (tellings_at p items) (any-there p items i x at same passes)
+    where
+      either : (c : Bool) (e : Telling) (l : List Telling) → is_some (find test l) ≡ true
+          → is_some (if c then Some e else find test l) ≡ true
+      either true e l passes = refl
+      either false e l passes = passes
+
+      more : (b : Bool) (e : Telling) (l : List Telling) → is_some (find test l) ≡ true
+          → is_some (find test (if b then e ∷ l else l)) ≡ true
+      more true e l passes = either (test e) e l passes
+      more false e l passes = passes

@@ -13,6 +13,8 @@ pub mod BeatsAlone
 pub mod JudgedAlone
 pub mod Filling
 pub mod Giving
+pub mod GrantsKept
+pub mod Granted
 pub mod ByteSets
 pub mod AtOnce
 pub mod Loads

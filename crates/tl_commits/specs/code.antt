@@ -3,6 +3,7 @@ pub mod ByteSet
 pub mod Giving
 pub mod GivingBack
 pub mod GivingUp
+pub mod Granting
 pub mod Loading
 pub mod Judging
 pub mod Tellings

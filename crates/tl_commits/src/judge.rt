@@ -25,6 +25,7 @@ use crate::copies::is_complete;
 use crate::fault::CommitFault;
 use crate::giving_back::{carrier, gives_truly};
 use crate::giving_up::{holds_trunk, keeps_stores};
+use crate::granting::{GrantBytes, any_grants, grants_truly, meet_grant};
 use crate::loading::{Loading, begin, forget, has_begun, load_of};
 use crate::next_values::next_values;
 use crate::piece_values::{loaded_values, stored_values};
@@ -39,14 +40,16 @@ use tl_memory::message::{both, either};
 use tl_rules::key::block_at;
 use tl_rules::level::Level;
 use tl_rules::liberties::Liberties;
+use tl_rules::memory_rule::MemoryRule;
 use tl_rules::rule::Rule;
 use tl_together::breach::Breach;
 use tl_together::fault::JudgeFault;
 use tl_together::judge::Judge;
 
-/// Judges beats and commits of up to 16 links of one manager, in the order in which they were seen: beats by the rules of
-/// beats alone and by M7, commits by L1, M5 and M6. It keeps the possible values of the bytes of blocks, the loads that
-/// have begun with the bytes that each could bring since, and no event.
+/// Judges beats and commits of up to 16 links of one manager, in the order in which they were seen: beats by all rules, but
+/// by M3 as if there were no commits; commits by L1, M5 and M6. It keeps the possible values of the bytes of blocks, the
+/// bytes that each unfinished Grant may bring, the loads that have begun with the bytes that each could bring since, and
+/// no event.
 #[derive(Drop)]
 pub struct CommitJudge<const W: usize> {
     alloc: Global,
@@ -56,6 +59,8 @@ pub struct CommitJudge<const W: usize> {
     complete: Vec<bool>,
     loads: Vec<Loading>,
     values: ValueTable,
+    /// For each link the bytes that its unfinished Grant may bring.
+    grants: Vec<GrantBytes>,
 }
 
 /// The fault of a judge whose judge of beats refuses a beat.
@@ -127,6 +132,9 @@ impl<const W: usize> CommitJudge<W> {
         let Ok(complete) = Vec::from_slice(alloc, complete) else {
             return Err(CommitFault::Memory);
         };
+        let Ok(grants) = any_grants(alloc, levels.len()) else {
+            return Err(CommitFault::Memory);
+        };
         Ok(CommitJudge {
             alloc,
             judge,
@@ -134,6 +142,7 @@ impl<const W: usize> CommitJudge<W> {
             complete,
             loads: Vec::new(alloc),
             values: ValueTable::new(alloc),
+            grants,
         })
     }
 
@@ -151,18 +160,19 @@ impl<const W: usize> CommitJudge<W> {
         unless_kept(keeps_stores(&self.judge, &self.values, complete, link, beat))
     }
 
-    /// The fault of a beat that breaks this rule of commits, unless it breaks one of beats. All that is known stays true.
-    fn refused(&mut self, rule: CommitRule, link: Link, beat: &Beat<W>) -> CommitFault
+    /// The fault of a beat by the rule of beats alone that it breaks, or by this one if it breaks none. All that is known
+    /// stays true.
+    fn refused(&mut self, other: CommitBreach, link: Link, beat: &Beat<W>) -> CommitFault
         requires { IsWidth W }
         ensures answer { (levels : List Level) (complete : List Bool) (l : Liberties) (e : Events W) →
             KnowsCommits self.old levels complete l e →
-            Answers (breach_of (broken_together levels l (link, beat.now) (beats_of e)) (Some rule)) (Err result) }
+            Answers (code.breach_or (broken_together levels l (link, beat.now) (beats_of e)) other) (Err result) }
         ensures knows { (levels : List Level) (complete : List Bool) (l : Liberties) (e : Events W) →
             KnowsCommits self.old levels complete l e → KnowsCommits self.new levels complete l e }
     {
         match self.judge.broken(link, beat) {
             Ok(Some(breach)) => CommitFault::Broken(CommitBreach::OfBeats(breach)),
-            Ok(None) => of_rule(rule),
+            Ok(None) => CommitFault::Broken(other),
             Err(_) => CommitFault::Memory,
         }
     }
@@ -189,12 +199,20 @@ impl<const W: usize> CommitJudge<W> {
             KnowsCommits self.new levels complete l (recorded_after result (link, event.Beat beat.now) e) }
     {
         if let Some(rule) = self.broken_report(link, beat) {
-            return Err(self.refused(rule, link, beat));
+            return Err(self.refused(CommitBreach::OfCommits(rule), link, beat));
+        }
+        let (judge, values) = (&self.judge, &self.values);
+        let Ok(()) = meet_grant(self.alloc, judge, values, &mut self.grants, link, beat) else {
+            return Err(CommitFault::Memory);
+        };
+        if !grants_truly(&self.judge, &self.grants, link, beat) {
+            let breach = Breach::OfMemory(MemoryRule::M2);
+            return Err(self.refused(CommitBreach::OfBeats(breach), link, beat));
         }
         let Ok(next) = next_values(self.alloc, &self.judge, &mut self.values, link, beat) else {
             return Err(CommitFault::Memory);
         };
-        match self.judge.try_push(link, beat) {
+        match self.judge.try_push_but_grants(link, beat) {
             Ok(()) => {}
             Err(fault) => return Err(of_judge(fault)),
         }

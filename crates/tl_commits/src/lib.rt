@@ -10,6 +10,7 @@ mod copies;
 pub mod fault;
 mod giving_back;
 mod giving_up;
+mod granting;
 pub mod judge;
 pub mod law;
 mod loading;

@@ -3,6 +3,7 @@
 ghost use Rattle.std.specs.Prelude.{ℕ, [], ◌∷◌, ◌++◌, ◌*◌, ◌+◌, ◌<◌, ◌≡◌, ◌==◌, ◌&&◌, ◌||◌, if◌then◌else◌, filter};
 ghost use Rattle.std.specs.Prelude.{IfOk, OnOk, slice_index_or, false};
 ghost use Rattle.tl_bytes.specs.code.Tellings.{is_written, value_at, with_write};
+ghost use Rattle.tl_bytes.specs.statement.Bytes.{told_as};
 ghost use Rattle.tl_bytes.specs.statement.Known.{tellings_at};
 ghost use Rattle.tl_bytes.specs.statement.KnownBytes.{known_at};
 ghost use Rattle.tl_commits.specs.code.Tellings as code;
@@ -11,8 +12,8 @@ ghost use Rattle.tl_commits.specs.code.Tellings.{is_in};
 use std::alloc::{AllocError, Global};
 use tl_bytes::known_bytes::{BLOCK_BYTES, KnownBytes};
 use tl_bytes::standing::Standing;
-use tl_bytes::telling::{Telling, Told};
-use tl_bytes::tellings::keep;
+use tl_bytes::telling::{Telling, Told, could_be};
+use tl_bytes::tellings::{is_told_as, keep};
 use tl_bytes::write::Write;
 
 /// Some of the places of a block.
@@ -80,6 +81,17 @@ fn append_at(
         }
     }
     Ok(())
+}
+
+/// Whether this byte is a possible value of a place, or any is. A message says the places in their order, so the value that
+/// has the place's number is looked at first.
+pub(crate) fn allows(told: &[Told], place: u8, byte: u8) -> bool
+    ensures { result ≡ told_as byte (tellings_at place told.now) }
+{
+    match told.get(usize::from(place)) {
+        Some(there) if there.place == place && could_be(byte, there.telling.value) => true,
+        _ => is_told_as(told, place, byte),
+    }
 }
 
 /// The values after a message that sets the bytes to these. The error means that there is no memory left.

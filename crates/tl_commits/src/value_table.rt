@@ -9,10 +9,10 @@ ghost use Rattle.tl_commits.specs.statement.Events.{Events};
 
 use crate::block_values::BlockValues;
 use crate::byte_set::ByteSet;
+use crate::tellings::allows;
 use std::alloc::{AllocError, Global};
 use std::collections::BTreeMap;
 use std::marker::Model;
-use tl_bytes::tellings::is_told_as;
 
 /// The possible values of the bytes of blocks. A block without values is as before the trace.
 #[derive(Drop)]
@@ -93,7 +93,7 @@ impl ValueTable {
         }
         match self.get(block) {
             None => true,
-            Some(values) => is_told_as(values.seen.as_slice(), place as u8, byte),
+            Some(values) => allows(values.seen.as_slice(), place as u8, byte),
         }
     }
 

@@ -233,13 +233,13 @@ pub before-none : {w : ℕ} (c : ℕ) (t : Trace w) → before_last c 0 t ≡ t
 unfolding before_last
 before-none c t = refl
 
-off_channel : {w : ℕ} (ch : Beat w) (h : History w) → on Channel.D ch ≡ false
+pub off_channel : {w : ℕ} (ch : Beat w) (h : History w) → on Channel.D ch ≡ false
     → unfinished Channel.D (ch ∷ h) ≡ unfinished Channel.D h
 unfolding unfinished
 off_channel x h off = rw off refl
 
 -- a beat of channel D isn't off it
-not_answer : {w : ℕ} (s : ℕ) (x : Beat w) (t : History w) → on Channel.D x ≡ false → completes_answer s x t ≡ false
+pub not_answer : {w : ℕ} (s : ℕ) (x : Beat w) (t : History w) → on Channel.D x ≡ false → completes_answer s x t ≡ false
 not_answer s (Beat.D y) t off = absurd cc
 not_answer s v t off = refl
 
@@ -274,7 +274,7 @@ module _ {w : ℕ} (levels : List Level) (is-width : IsWidth w) (c n : ℕ) (x :
 
 -- ---- its own beats
 
-same_tail : {X : Type 0} (x y : X) (xs ys : List X) → x ∷ xs ≡ y ∷ ys → xs ≡ ys
+pub same_tail : {X : Type 0} (x y : X) (xs ys : List X) → x ∷ xs ≡ y ∷ ys → xs ≡ ys
 same_tail x y xs ys e = cc
 
 module _ {w : ℕ} (levels : List Level) (link : Link) (n : ℕ) (z : BeatD w) (t : Trace w)

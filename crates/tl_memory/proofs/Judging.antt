@@ -51,7 +51,7 @@ module _ {w : ℕ} (levels : List Level) (n : ℕ) (link : Link) (x : BeatD w) (
       (legal-on _ levels link.0 f.level t f.has_level legal) f.fine other
 
   -- the request of a Grant is complete
-  granted-of : is_grant x.opcode ≡ true → (asked : Request) × (open_request x.source (on_link link.0 t) ≡ Some asked)
+  pub granted-of : is_grant x.opcode ≡ true → (asked : Request) × (open_request x.source (on_link link.0 t) ≡ Some asked)
       × (asks_for asked.block (request_of x.source (on_link link.0 t)) ≡ true)
   granted-of grant =
       let one = response-legal levels link t is legal x fine (not_release_ack x.opcode grant) in
@@ -62,7 +62,7 @@ module _ {w : ℕ} (levels : List Level) (n : ℕ) (link : Link) (x : BeatD w) (
       )
 
   -- whether its bytes are in doubt is kept
-  doubt-of : (o : Option Granting) → KnowsGranting o (on_link link.0 t) → (block : ℕ) → is_grant x.opcode ≡ true
+  pub doubt-of : (o : Option Granting) → KnowsGranting o (on_link link.0 t) → (block : ℕ) → is_grant x.opcode ≡ true
       → asks_for block (request_of x.source (on_link link.0 t)) ≡ true
       → is_overtaken block x (on_link link.0 t) ≡ is_in_doubt o
   doubt-of o known block grant own = doubt-is all_liberties o x block (on_link link.0 t)

@@ -24,7 +24,7 @@ use crate::boxed::{BoxedList, boxed};
 use crate::early::OutrunAccess;
 use crate::expected::Expected;
 use crate::free::Freedom;
-use crate::granted::granted;
+use crate::granted::{grant_writes, granted};
 use crate::message::CarriedMessage;
 use crate::next_state::{NextAccesses, NextState};
 use crate::pending::PendingAccess;
@@ -36,6 +36,7 @@ use tl_bytes::block_bytes::BlockBytes;
 use tl_bytes::known_bytes::KnownBytes;
 use tl_bytes::read_bytes::ReadBytes;
 use tl_bytes::windows::WritingWindows;
+use tl_bytes::write::Write;
 
 /// The state of a block: the possible values of its bytes, the pending accesses to it, the newest first, and whether it
 /// is free. Before that changes, each access gets the bytes that it may find.
@@ -69,6 +70,7 @@ impl<const W: usize> BlockState<W> {
     ghost use Rattle.tl_bytes.specs.statement.Early.{outrun_accesses};
     ghost use Rattle.tl_memory.specs.code.Elsewhere.{LeavesOutrun};
     ghost use Rattle.tl_memory.specs.statement.Known.{KnowsOutrun, is_to};
+    ghost use Rattle.tl_bytes.specs.statement.Known.{MayWrite, windowed};
 
     /// A block before the trace: its bytes may have any value, no access to it is pending, and it is free.
     pub fn new(alloc: Global) -> Self
@@ -113,6 +115,14 @@ impl<const W: usize> BlockState<W> {
             self.accesses.as_slice(),
             self.outrun.as_slice(),
         )
+    }
+
+    /// The writes of accesses that may be in the bytes of a Grant. The error means that there is no memory left.
+    pub fn grant_writes(&self, alloc: Global) -> Result<Vec<Write>, AllocError>
+        ensures { IfOk result (λ writes. (n block : ℕ) (t : Trace W) → KnowsState self.now n block t →
+            MayWrite writes.items block (windowed n block t) (outrun_accesses t)) }
+    {
+        grant_writes(alloc, self.accesses.as_slice(), self.outrun.as_slice())
     }
 
     /// The bytes that the answer to the pending access with this source on a link, which is no Put, may bring now. The

@@ -3,7 +3,7 @@
 ghost use Rattle.std.specs.Prelude.{ℕ, Bool, ◌≡◌, IfOk};
 ghost use Rattle.tl_params.specs.declared.perm.Perm.{Perm};
 ghost use Rattle.tl_rules.specs.statement.Conformance.{Trace};
-ghost use Rattle.tl_bytes.specs.statement.Known.{KnowsBlock, KnowsGrant};
+ghost use Rattle.tl_bytes.specs.statement.Known.{KnowsBlock, KnowsGrant, MayWrite, windowed};
 ghost use Rattle.tl_memory.specs.code.Writers.{some_window, writes_windowed};
 ghost use Rattle.tl_bytes.specs.statement.Early.{outrun_accesses};
 ghost use Rattle.tl_memory.specs.statement.Known.{KnowsAccesses, KnowsOutrun};
@@ -27,6 +27,7 @@ fn some_window(count: WindowCount) -> bool
 }
 
 /// The writes of the accesses that have had a window. The error means that there is no memory left.
+#[inline(always)]
 fn writes_in_windows<const W: usize>(
     alloc: Global,
     accesses: &[PendingAccess<W>],
@@ -42,9 +43,25 @@ fn writes_in_windows<const W: usize>(
     Ok(writes)
 }
 
+/// The writes that may be in the bytes of a Grant of a block with these pending accesses: those of accesses that have had a
+/// window, and of `outrun`, the accesses whose answers outran their requests. The error means that there is no memory left.
+#[inline(always)]
+pub fn grant_writes<const W: usize>(
+    alloc: Global,
+    accesses: &[PendingAccess<W>],
+    outrun: &[OutrunAccess],
+) -> Result<Vec<Write>, AllocError>
+    ensures { IfOk result (λ writes. (n block : ℕ) (admits : Perm → Bool) (t : Trace W) →
+        KnowsAccesses accesses.now admits n block t t → KnowsOutrun outrun.now block (outrun_accesses t) →
+        MayWrite writes.items block (windowed n block t) (outrun_accesses t)) }
+{
+    let mut writes = writes_in_windows(alloc, accesses)?;
+    append_outrun(&mut writes, outrun)?;
+    Ok(writes)
+}
+
 /// The bytes that may be granted of a block with these bytes and these pending accesses; `outrun` are those whose answers
-/// outran their requests. The error means that there is
-/// no memory left.
+/// outran their requests. The error means that there is no memory left.
 pub fn granted<const W: usize>(
     alloc: Global,
     bytes: &BlockBytes,
@@ -55,8 +72,7 @@ pub fn granted<const W: usize>(
         KnowsAccesses accesses.now admits n block t t → KnowsOutrun outrun.now block (outrun_accesses t) →
         KnowsGrant read n block t) }
 {
-    let mut writes = writes_in_windows(alloc, accesses)?;
-    append_outrun(&mut writes, outrun)?;
+    let writes = grant_writes(alloc, accesses, outrun)?;
     let read = ReadBytes::granted(alloc, bytes, writes.as_slice())?;
     Ok(read)
 }

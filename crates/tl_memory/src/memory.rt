@@ -36,6 +36,7 @@ use crate::passing::changes_held;
 use crate::typed::prove_typed;
 use std::alloc::{AllocError, Global};
 use tl_beat::beat::{Beat, BeatD, Link};
+use tl_bytes::write::Write;
 use tl_rules::key::block_at;
 use tl_rules::kind::is_release_ack;
 use tl_rules::past::Request;
@@ -188,6 +189,8 @@ impl<const W: usize> Memory<W> {
     ghost use Rattle.tl_memory.specs.statement.Known.{freedom};
     ghost use Rattle.tl_memory.specs.statement.Links.{AreLegal, IsLegal};
     ghost use Rattle.tl_memory.specs.statement.Memory.{KnowsMemory};
+    ghost use Rattle.tl_bytes.specs.statement.Early.{outrun_accesses};
+    ghost use Rattle.tl_bytes.specs.statement.Known.{MayWrite, windowed};
 
     /// The state of this many links, which have carried nothing. The error means that there is no memory left.
     pub fn new(alloc: Global, count: u8) -> Result<Self, AllocError>
@@ -392,6 +395,19 @@ impl<const W: usize> Memory<W> {
         };
         let change = self.change_in(block, link, x, asked, &known.messages);
         Some((block, change))
+    }
+
+    /// The writes of accesses to a block that may be in the bytes of a Grant which begins now: those of pending accesses
+    /// that have had a window, and of accesses whose answers outran their requests. The error means that there is no memory
+    /// left.
+    pub fn grant_writes(&self, block: u32) -> Result<Vec<Write>, AllocError>
+        ensures { IfOk result (λ writes. (n : ℕ) (t : Trace W) → KnowsMemory self.now n t →
+            MayWrite writes.items block (windowed n block t) (outrun_accesses t)) }
+    {
+        match self.blocks.get(block) {
+            Some(state) => state.grant_writes(self.alloc),
+            None => BlockState::<W>::new(self.alloc).grant_writes(self.alloc),
+        }
     }
 
     /// The number of beats that have come of the unfinished message on channel D of a link.

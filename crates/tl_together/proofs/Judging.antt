@@ -30,6 +30,8 @@ use Rattle.tl_together.specs.statement.Knows.{Knows, KnowsTrace, Answers, fault_
 use Rattle.tl_together.specs.code.Windows.{NotesRequest, NotesWindow, KnowsAsked, KnowsWindows}
 use Rattle.tl_together.specs.code.Windows.{fault_of_monitor, window_at, IsSaid, IsShown, LeavesOthers}
 use Rattle.tl_together.specs.code.Following.{Follows}
+use Rattle.tl_together.specs.code.Judged.{fault_but, judged}
+use Rattle.tl_together.specs.declared.breach.Unjudged.{Unjudged}
 
 pub open_still : {w : ℕ} (j : Judge w) (levels : List Level) (may : Liberties) (t : Trace w) (closed : Bool)
     → Knows j levels may t closed → j.closed ≡ false → KnowsTrace j levels may t
@@ -140,11 +142,11 @@ pub fine_on_link : {w : ℕ} (levels : List Level) (may : Liberties) (t : Trace 
     → of_link.fault_under levels may t false x ≡ None → KeepsRules may levels x t
 fine_on_link levels may t x e = link_fine (broken_on_link_under may levels x t) e
 
-pub judged_fault : {w : ℕ} (j : Judge w) (levels : List Level) (may : Liberties) (t : Trace w) (closed : Bool) (link : Link)
-    (x : Beat w) (o : Option MemoryRule) → Knows j levels may t closed
+pub judged_fault : {w : ℕ} (j : Judge w) (left : Unjudged) (levels : List Level) (may : Liberties) (t : Trace w)
+    (closed : Bool) (link : Link) (x : Beat w) (o : Option MemoryRule) → Knows j levels may t closed
     → j.closed ≡ false → KeepsRules may levels (link, x) t → o ≡ broken_memory (length levels) link.0 x t
-    → fault_of levels may t closed (link, x) ≡ broken (first_broken None o)
-judged_fault j levels may t closed link x o k e fine here = rw (sym k.closed_is ∙ e, fine, here) refl
+    → fault_but left levels may t closed (link, x) ≡ broken (first_broken None (judged left o))
+judged_fault j left levels may t closed link x o k e fine here = rw (sym k.closed_is ∙ e, fine, here) refl
 
 of_link_rule : (o : Option Rule) (m : Option MemoryRule) (fault : MonitorFault)
     → of_link.Answers (of_link.broken o) (Err fault)
@@ -160,15 +162,17 @@ of_link_rule (Some s) m (monitor.Broken r) a = ap (λ v. Some (judge.Broken (OfL
     own : Some (monitor.Broken s) ≡ Some (monitor.Broken r) → s ≡ r
     own e = cc
 
-pub refused : {w : ℕ} (j : Judge w) (levels : List Level) (may : Liberties) (t : Trace w) (closed : Bool) (link : Link)
-    (x : Beat w) (fault : MonitorFault) (f : JudgeFault) → Knows j levels may t closed
+pub refused : {w : ℕ} (j : Judge w) (left : Unjudged) (levels : List Level) (may : Liberties) (t : Trace w)
+    (closed : Bool) (link : Link) (x : Beat w) (fault : MonitorFault) (f : JudgeFault) → Knows j levels may t closed
     → j.closed ≡ false → of_link.Answers (of_link.fault_under levels may t false (link, x)) (Err fault)
     → f ≡ fault_of_monitor fault
-    → Answers (fault_of levels may t closed (link, x)) (Err f)
-refused j levels may t closed link x fault f k e a f_is =
-    subst (λ g. Answers (fault_of levels may t closed (link, x)) (Err g)) (sym f_is)
-    (subst (λ c. Answers (fault_of levels may t c (link, x)) (Err (fault_of_monitor fault))) (sym (sym k.closed_is ∙ e))
-    (of_link_rule (broken_on_link_under may levels (link, x) t) (broken_memory (length levels) link.0 x t) fault a))
+    → Answers (fault_but left levels may t closed (link, x)) (Err f)
+refused j left levels may t closed link x fault f k e a f_is =
+    subst (λ g. Answers (fault_but left levels may t closed (link, x)) (Err g)) (sym f_is)
+    (subst (λ c. Answers (fault_but left levels may t c (link, x)) (Err (fault_of_monitor fault)))
+    (sym (sym k.closed_is ∙ e))
+    (of_link_rule (broken_on_link_under may levels (link, x) t) (judged left (broken_memory (length levels) link.0 x t))
+    fault a))
 
 -- what breaks this rule of memory breaks it, where it breaks no rule of its link
 breach_is : (o : Option Rule) (m : Option MemoryRule) (rule : MemoryRule) (breach : Breach)
@@ -176,15 +180,17 @@ breach_is : (o : Option Rule) (m : Option MemoryRule) (rule : MemoryRule) (breac
 breach_is None m rule breach is here = rw (here refl) (sym is)
 breach_is (Some r) m rule breach is here = sym is
 
-pub broken_so : {w : ℕ} (j : Judge w) (levels : List Level) (may : Liberties) (t : Trace w) (closed : Bool) (link : Link)
-    (x : Beat w) (rule : MemoryRule) (breach : Breach) → Knows j levels may t closed → j.closed ≡ false
+pub broken_so : {w : ℕ} (j : Judge w) (left : Unjudged) (levels : List Level) (may : Liberties) (t : Trace w)
+    (closed : Bool) (link : Link) (x : Beat w) (rule : MemoryRule) (breach : Breach) → Knows j levels may t closed
+    → j.closed ≡ false
     → Some breach ≡ first_broken (broken_on_link_under may levels (link, x) t) (Some rule)
-    → (KeepsRules may levels (link, x) t → broken_memory (length levels) link.0 x t ≡ Some rule)
-    → fault_of levels may t closed (link, x) ≡ Some (judge.Broken breach)
-broken_so j levels may t closed link x rule breach k e is here =
+    → (KeepsRules may levels (link, x) t → judged left (broken_memory (length levels) link.0 x t) ≡ Some rule)
+    → fault_but left levels may t closed (link, x) ≡ Some (judge.Broken breach)
+broken_so j left levels may t closed link x rule breach k e is here =
     rw (
       sym k.closed_is ∙ e,
-      breach_is (broken_on_link_under may levels (link, x) t) (broken_memory (length levels) link.0 x t) rule breach is here,
+      breach_is (broken_on_link_under may levels (link, x) t) (judged left (broken_memory (length levels) link.0 x t)) rule
+          breach is here,
     ) refl
 
 -- ---- whether the judge is closed

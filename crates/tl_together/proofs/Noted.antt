@@ -210,7 +210,7 @@ drop_last true true a b = refl
 drop_last true false a b = refl
 drop_last false q a b = refl
 
-on_levels : {w : ℕ} (levels : List Level) (link : Link) (s : ℕ) (t : Trace w) → link.0 < length levels
+pub on_levels : {w : ℕ} (levels : List Level) (link : Link) (s : ℕ) (t : Trace w) → link.0 < length levels
     → request_on levels link s t ≡ open_request s (on_link link.0 t)
 on_levels levels link s t lt = rw (lt-ltb link.0 (length levels) lt) refl
 

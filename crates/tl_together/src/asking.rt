@@ -29,8 +29,10 @@ ghost use Rattle.tl_together.specs.statement.Coherence.{broken_together};
 use crate::breach::Breach;
 use crate::fault::JudgeFault;
 use crate::judge::{Judge, answered, asked_in};
+use std::alloc::AllocError;
 use tl_beat::beat::{Beat, Link};
 use tl_beat::control::ControlC;
+use tl_bytes::write::Write;
 use tl_memory::byte_change::ByteChange;
 use tl_memory::expected::Expected;
 use tl_memory::link::LinkMessages;
@@ -39,6 +41,8 @@ use tl_rules::past::{Probe, Request};
 use tl_rules::perm::Perm;
 
 impl<const W: usize> Judge<W> {
+    ghost use Rattle.tl_bytes.specs.statement.Early.{outrun_accesses};
+    ghost use Rattle.tl_bytes.specs.statement.Known.{MayWrite, windowed};
     ghost use Rattle.tl_together.specs.statement.Knows.{Knows};
 
     /// The request with this source that is pending and complete on a link. None on a link without a level.
@@ -159,6 +163,17 @@ impl<const W: usize> Judge<W> {
     {
         let asked = answered(&self.monitor, link, beat);
         self.memory.byte_change(link, beat, asked)
+    }
+
+    /// The writes of accesses to a block that may be in the bytes of a Grant which begins now: those of pending accesses
+    /// that have had a window, and of accesses whose answers outran their requests. The error means that there is no memory
+    /// left.
+    pub fn grant_writes(&self, block: u32) -> Result<Vec<Write>, AllocError>
+        ensures { IfOk result (λ writes. (levels : List Level) (l : Liberties) (t : Trace W) →
+            Knows self.now levels l t false →
+            MayWrite writes.items block (windowed (length levels) block t) (outrun_accesses t)) }
+    {
+        self.memory.grant_writes(block)
     }
 
     /// The bytes that the response whose beat is next on a link may bring, if the beat makes this change.

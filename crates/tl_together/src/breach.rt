@@ -1,6 +1,7 @@
 //! The rules that a beat of a manager's links may break.
 
 ghost use Rattle.std.specs.Prelude.{◌≡◌};
+ghost use Rattle.tl_together.specs.code.Judged.{judged};
 ghost use Rattle.tl_together.specs.statement.Coherence;
 
 use tl_beat::opcode::OpD;
@@ -12,6 +13,25 @@ use tl_rules::rule::Rule;
 pub enum Breach {
     OfLink(Rule),
     OfMemory(MemoryRule),
+}
+
+/// The rule that a judge leaves to its caller, if it leaves one.
+#[derive(Clone, Copy, Debug, PartialEq, Eq)]
+pub(crate) enum Unjudged {
+    Nothing,
+    /// M2: a GrantData may bring any bytes.
+    Grants,
+}
+
+/// The rule of memory that a beat breaks, unless it is left to the caller.
+#[inline(always)]
+pub(crate) fn judged(rule: Option<MemoryRule>, left: Unjudged) -> Option<MemoryRule>
+    ensures { result ≡ judged left rule }
+{
+    match (left, rule) {
+        (Unjudged::Grants, Some(MemoryRule::M2)) => None,
+        _ => rule,
+    }
 }
 
 /// Whether the opcode is of an answer to an access.

@@ -1,6 +1,11 @@
 //! Reasons why a judge refuses a beat or a trace.
 
+ghost use Rattle.std.specs.Prelude.{Bool, Err, ◌≡◌};
+ghost use Rattle.tl_together.specs.code.Windows.{fault_of_monitor};
+ghost use Rattle.tl_together.specs.statement.Knows.{closed_after};
+
 use crate::breach::Breach;
+use tl_monitor::fault::MonitorFault;
 
 /// The reason why a judge can't be made or refuses a beat.
 #[derive(Clone, Copy, Debug, PartialEq, Eq)]
@@ -24,4 +29,26 @@ pub enum TraceFault {
     Levels,
     /// There is no memory left.
     Memory,
+}
+
+/// The fault of a judge whose monitor refuses a beat.
+pub(crate) fn of_monitor(fault: MonitorFault) -> JudgeFault
+    ensures { result ≡ fault_of_monitor fault }
+{
+    match fault {
+        MonitorFault::Levels => JudgeFault::Levels,
+        MonitorFault::Broken(rule) => JudgeFault::Broken(Breach::OfLink(rule)),
+        MonitorFault::Memory => JudgeFault::Memory,
+        MonitorFault::Closed => JudgeFault::Closed,
+    }
+}
+
+/// Whether a judge is closed after this refusal by `push`. `closed` says whether it was before.
+pub(crate) fn is_closed_after(closed: bool, fault: JudgeFault) -> bool
+    ensures { result ≡ closed_after closed (Err fault) }
+{
+    match fault {
+        JudgeFault::Memory => closed,
+        _ => true,
+    }
 }

@@ -19,10 +19,10 @@ ghost use Rattle.tl_params.specs.statement.Liberties.{liberties_of};
 ghost use Rattle.tl_together.specs.statement.Coherence;
 ghost use Rattle.tl_together.specs.statement.Knows.{closed_after};
 ghost use Rattle.tl_together.specs.code.Following.{Follows};
-ghost use Rattle.tl_together.specs.code.Windows.{asked_in, last_in, fault_of_monitor};
+ghost use Rattle.tl_together.specs.code.Windows.{asked_in, last_in};
 
-use crate::breach::{Breach, is_access_ack, rule_of_bytes};
-use crate::fault::JudgeFault;
+use crate::breach::{Breach, Unjudged, is_access_ack, judged, rule_of_bytes};
+use crate::fault::{JudgeFault, is_closed_after, of_monitor};
 use crate::free::{is_free, is_grantable, left_by_others};
 use crate::notes::{note_request, note_shown, note_window};
 use crate::shown::{freed, shown_by};
@@ -104,31 +104,10 @@ fn empty_tables(alloc: Global, count: u8) -> Result<Vec<ByteTable<u64>>, AllocEr
     Ok(tables)
 }
 
-/// The fault of a judge whose monitor refuses a beat.
-fn of_monitor(fault: MonitorFault) -> JudgeFault
-    ensures { result ≡ fault_of_monitor fault }
-{
-    match fault {
-        MonitorFault::Levels => JudgeFault::Levels,
-        MonitorFault::Broken(rule) => JudgeFault::Broken(Breach::OfLink(rule)),
-        MonitorFault::Memory => JudgeFault::Memory,
-        MonitorFault::Closed => JudgeFault::Closed,
-    }
-}
-
-/// Whether a judge is closed after this refusal by `push`. `closed` says whether it was before.
-fn is_closed_after(closed: bool, fault: JudgeFault) -> bool
-    ensures { result ≡ closed_after closed (Err fault) }
-{
-    match fault {
-        JudgeFault::Memory => closed,
-        _ => true,
-    }
-}
-
 impl<const W: usize> Judge<W> {
     ghost use Rattle.tl_together.specs.statement.Knows.{KnowsTrace, Knows, IsNew};
-    ghost use Rattle.tl_together.specs.statement.Knows.{Answers, fault_of, recorded_after};
+    ghost use Rattle.tl_together.specs.statement.Knows.{Answers, fault_but_grants, fault_of, recorded_after};
+    ghost use Rattle.tl_together.specs.code.Judged.{fault_but};
 
     /// A judge of links of these levels, which has seen no beat. The error is `Levels` unless there are 1 to 16 levels,
     /// or `Memory`.
@@ -313,14 +292,14 @@ impl<const W: usize> Judge<W> {
         }
     }
 
-    /// Judges a beat of a link, and takes it if it breaks no rule. After a refusal the judge is as before, and goes on.
-    /// The error is `Closed` if `push` refused an earlier beat for a broken rule.
-    #[inline(never)]
-    pub fn try_push(&mut self, link: Link, beat: &Beat<W>) -> Result<(), JudgeFault>
+    /// Judges a beat of a link by all rules but the one that is left, and takes it if it breaks none. After a refusal the
+    /// judge is as before, and goes on. The error is `Closed` if `push` refused an earlier beat for a broken rule.
+    #[inline(always)]
+    fn push_but(&mut self, left: Unjudged, link: Link, beat: &Beat<W>) -> Result<(), JudgeFault>
         requires { IsWidth W }
         ensures answer { (levels : List Level) (l : Liberties) (t : Trace W) (closed : Bool) →
             Knows self.old levels l t closed →
-            Answers (fault_of levels l t closed (link, beat.now)) result }
+            Answers (fault_but left levels l t closed (link, beat.now)) result }
         ensures knows { (levels : List Level) (l : Liberties) (t : Trace W) (closed : Bool) →
             Knows self.old levels l t closed →
             Knows self.new levels l (recorded_after result (link, beat.now) t) closed }
@@ -335,7 +314,7 @@ impl<const W: usize> Judge<W> {
         let Ok(change) = self.memory.change(link, beat, asked, next) else {
             return Err(JudgeFault::Memory);
         };
-        if let Some(rule) = self.broken_memory(&change, link, beat) {
+        if let Some(rule) = judged(self.broken_memory(&change, link, beat), left) {
             return Err(JudgeFault::Broken(self.breach(rule, link, beat)));
         }
         let shown = shown_by(&self.monitor, link, beat);
@@ -364,6 +343,35 @@ impl<const W: usize> Judge<W> {
         self.memory.take(change, link, beat, free, next);
         self.moment = next;
         Ok(())
+    }
+
+    /// Judges a beat of a link, and takes it if it breaks no rule. After a refusal the judge is as before, and goes on.
+    /// The error is `Closed` if `push` refused an earlier beat for a broken rule.
+    #[inline(never)]
+    pub fn try_push(&mut self, link: Link, beat: &Beat<W>) -> Result<(), JudgeFault>
+        requires { IsWidth W }
+        ensures answer { (levels : List Level) (l : Liberties) (t : Trace W) (closed : Bool) →
+            Knows self.old levels l t closed →
+            Answers (fault_of levels l t closed (link, beat.now)) result }
+        ensures knows { (levels : List Level) (l : Liberties) (t : Trace W) (closed : Bool) →
+            Knows self.old levels l t closed →
+            Knows self.new levels l (recorded_after result (link, beat.now) t) closed }
+    {
+        self.push_but(Unjudged::Nothing, link, beat)
+    }
+
+    /// The same but for M2, which the caller judges: a GrantData may bring any bytes.
+    #[inline(never)]
+    pub fn try_push_but_grants(&mut self, link: Link, beat: &Beat<W>) -> Result<(), JudgeFault>
+        requires { IsWidth W }
+        ensures answer { (levels : List Level) (l : Liberties) (t : Trace W) (closed : Bool) →
+            Knows self.old levels l t closed →
+            Answers (fault_but_grants levels l t closed (link, beat.now)) result }
+        ensures knows { (levels : List Level) (l : Liberties) (t : Trace W) (closed : Bool) →
+            Knows self.old levels l t closed →
+            Knows self.new levels l (recorded_after result (link, beat.now) t) closed }
+    {
+        self.push_but(Unjudged::Grants, link, beat)
     }
 
     /// Judges a beat of a link, and takes it if it breaks no rule. After a broken rule it answers every call with

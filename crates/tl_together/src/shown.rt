@@ -55,6 +55,7 @@ fn shows_bytes<const W: usize>(monitor: &Monitor<W>, link: Link, x: &BeatC<W>) -
 }
 
 /// The block whose bytes a beat shows, if it completes its message.
+#[inline(always)]
 pub fn shown_by<const W: usize>(monitor: &Monitor<W>, link: Link, beat: &Beat<W>) -> Option<u32>
     ensures shown { (levels : List Level) (l : Liberties) (t : Trace W) →
         Follows monitor.now levels l t → link.0 < length levels →

@@ -3,7 +3,9 @@ use Rattle.tl_together.specs.declared.fault.JudgeFault.{JudgeFault}
 use Rattle.tl_together.specs.declared.fault.JudgeFault.TheVariants as judge
 use Rattle.tl_commits.specs.declared.fault.CommitFault.{CommitFault}
 use Rattle.tl_commits.specs.declared.fault.CommitFault.TheVariants as fault
+use Rattle.tl_commits.specs.declared.rule.CommitBreach.{CommitBreach}
 use Rattle.tl_commits.specs.declared.rule.CommitBreach.TheVariants.{OfBeats, OfCommits}
+use Rattle.tl_together.specs.declared.breach.Breach.{Breach}
 use Rattle.tl_events.specs.declared.rule.CommitRule.{CommitRule}
 use Rattle.std.specs.Prelude.{ℕ, true, ◌≡◌, ◌==◌, if◌then◌else◌, List, Option, Some, None, is_some}
 use Rattle.tl_commits.specs.code.Loading.{AreRenewed}
@@ -20,12 +22,18 @@ of_judge judge.Closed = fault.Memory
 abbrev pub of_rule : CommitRule → CommitFault
 of_rule rule = fault.Broken (OfCommits rule)
 
+-- the breach of this rule of beats, or the other one if there is none
+abbrev pub breach_or : Option Breach → CommitBreach → Option CommitBreach
+breach_or None other = Some other
+breach_or (Some breach) other = Some (OfBeats breach)
+
 -- the judges are the same but for the values of blocks
 pub record IsSameBut {w : ℕ} (old new : CommitJudge w) : Type 0 where
   pub judge_is : new.judge ≡ old.judge
   pub levels_are : new.levels ≡ old.levels
   pub complete_are : new.complete ≡ old.complete
   pub loads_are : new.loads ≡ old.loads
+  pub grants_are : new.grants ≡ old.grants
 
 -- the table with the values of one block, if there are some
 abbrev pub HasPut : List (ℕ × BlockValues) → List (ℕ × BlockValues) → Option (ℕ × BlockValues) → Type 0
@@ -39,4 +47,5 @@ pub record IsRecorded {w : ℕ} (old new : CommitJudge w) (next : Option (ℕ ×
   pub levels_are : new.levels ≡ old.levels
   pub complete_are : new.complete ≡ old.complete
   pub values_are : HasPut old.values new.values next
+  pub grants_are : new.grants ≡ old.grants
   pub loads_are : AreRenewed old.judge new.values old.complete.items old.loads.items new.loads.items

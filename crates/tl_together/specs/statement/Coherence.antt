@@ -97,6 +97,16 @@ first_broken None None = None
 abbrev pub broken_together : {w : ℕ} → List Level → Liberties → Link × Beat w → Trace w → Option Breach
 broken_together levels l x t = first_broken (broken_on_link_under l levels x t) (broken_memory (length levels) x.0.0 x.1 t)
 
+-- the rule of memory, unless it is M2
+abbrev pub but_grants : Option MemoryRule → Option MemoryRule
+but_grants (Some M2) = None
+but_grants rule = rule
+
+-- the first rule that a beat breaks apart from M2: a GrantData may bring any bytes
+abbrev pub broken_but_grants : {w : ℕ} → List Level → Liberties → Link × Beat w → Trace w → Option Breach
+broken_but_grants levels l x t =
+    first_broken (broken_on_link_under l levels x t) (but_grants (broken_memory (length levels) x.0.0 x.1 t))
+
 -- a breach at place i, or the first one of the rest if there is none
 abbrev pub breach_or : Option Breach → ℕ → Option (ℕ × Breach) → Option (ℕ × Breach)
 breach_or None i rest = rest

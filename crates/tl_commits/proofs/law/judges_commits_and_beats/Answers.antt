@@ -1,4 +1,4 @@
-use Rattle.tl_commits.proofs.BeatsJudged.{no-bytes}
+use Rattle.tl_commits.proofs.BeatsJudged.{no-reads}
 use Rattle.tl_commits.proofs.CommitsJudged.{commits-judged}
 use Rattle.tl_commits.proofs.law.judges_commits_and_beats.Goals as goal
 
@@ -6,4 +6,4 @@ pub returns-clause-commits : goal.returns-clause-commits
 returns-clause-commits g c = commits-judged g.row.W
 
 pub returns-clause-beats : goal.returns-clause-beats
-returns-clause-beats g c = no-bytes g.row.W
+returns-clause-beats g c = no-reads g.row.W

@@ -8,6 +8,7 @@ use Rattle.tl_events.specs.declared.commit.Commit.TheVariants as commit
 use Rattle.tl_events.specs.declared.commit.Event.{Event}
 use Rattle.tl_events.specs.declared.commit.Event.TheVariants as event
 use Rattle.tl_commits.specs.statement.Events.{beats_of}
+use Rattle.tl_commits.proofs.GrantsKept.{grants-commit}
 use Rattle.tl_commits.proofs.Loads.{all-renewed}
 use Rattle.tl_commits.proofs.LoadsNext.{loads-begun, pieces-begun}
 use Rattle.tl_commits.proofs.TableJudged.{table-begun}
@@ -35,4 +36,6 @@ returns-clause-knows g c = λ levels complete l e k lt is.
           (pieces-begun n c.args.link c.args.piece (find (is_of c.args.link.0 c.args.piece) old) old mid begun lt is
           k.loads_are.pieces));
       values_are = table;
+      grants_are = rw r.grants_are (grants-commit c.args.self.now.grants.items complete n c.args.link (commit.Begin c.args.piece) e
+          k.grants_are);
     }

@@ -9,6 +9,7 @@ use Rattle.tl_events.specs.declared.commit.Event.TheVariants as event
 use Rattle.tl_commits.specs.statement.Events.{beats_of}
 use Rattle.tl_commits.specs.statement.Breaches.{breach_of}
 use Rattle.tl_commits.proofs.CommitsJudged.{commit-refused}
+use Rattle.tl_commits.proofs.GrantsKept.{grants-commit}
 use Rattle.tl_commits.proofs.Loads.{all-renewed, pieces-filter}
 use Rattle.tl_commits.proofs.LoadsNext.{loads-load}
 use Rattle.tl_commits.proofs.TableJudged.{table-recorded}
@@ -48,4 +49,6 @@ returns-clause-knows g c = λ levels complete l e k lt is.
           (rw forgot (pieces-filter n (λ y. not (is_of c.args.link.0 c.args.piece y)) old.loads.items
           k.loads_are.pieces)));
       values_are = table;
+      grants_are = rw (r.grants_are ∙ s.grants_are) (grants-commit c.args.self.now.grants.items complete n c.args.link (commit.Load c.args.piece c.args.value) e
+          k.grants_are);
     }

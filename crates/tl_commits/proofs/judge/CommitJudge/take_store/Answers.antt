@@ -6,6 +6,7 @@ use Rattle.tl_events.specs.declared.commit.Event.{Event}
 use Rattle.tl_events.specs.declared.commit.Event.TheVariants as event
 use Rattle.tl_commits.specs.statement.Events.{beats_of}
 use Rattle.tl_commits.proofs.CommitsJudged.{commit-refused}
+use Rattle.tl_commits.proofs.GrantsKept.{grants-commit}
 use Rattle.tl_commits.proofs.Loads.{all-renewed}
 use Rattle.tl_commits.proofs.LoadsNext.{loads-other}
 use Rattle.tl_commits.proofs.TableJudged.{table-recorded}
@@ -38,4 +39,6 @@ returns-clause-knows g c = λ levels complete l e k lt is.
           c.record.new.self.loads.items (rw k.complete_are at r.loads_are) k.judge_is table k.loads_are.pieces)
           (λ link piece. refl) (λ link piece. refl);
       values_are = table;
+      grants_are = rw r.grants_are (grants-commit c.args.self.now.grants.items complete n c.args.link (commit.Store c.args.piece c.args.value) e
+          k.grants_are);
     }

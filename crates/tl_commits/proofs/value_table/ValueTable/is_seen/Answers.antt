@@ -11,4 +11,4 @@ returns-in-None c = λ w complete n e k lt. untouched-seen complete n c.args.blo
 pub returns-in-Some : goal.returns-in-Some
 returns-in-Some c = λ w complete n e k lt.
     let known = kept-known c.args.self.now complete n c.args.block c.in-Some.values.now e k c.in-Some.ensures in
-    (rw c.as_slice.ensures.value at c.is_told_as.ensures) ∙ ap (told_as c.args.byte) (known.seen_is c.args.place lt)
+    (rw c.as_slice.ensures.value at c.allows.ensures) ∙ ap (told_as c.args.byte) (known.seen_is c.args.place lt)

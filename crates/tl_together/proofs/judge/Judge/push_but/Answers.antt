@@ -2,6 +2,7 @@ use Rattle.std.proofs.Common.{◌≡◌, refl, sym, ap, ◌∙◌, ◌+◌, leng
 use Rattle.std.specs.Prelude.{None}
 use Rattle.tl_together.specs.statement.Coherence.{first_broken}
 use Rattle.tl_together.specs.statement.Knows.{broken}
+use Rattle.tl_together.specs.code.Judged.{judged}
 use Rattle.tl_together.proofs.Judging.{broken_so, fine_on_link, judged_fault, next_moment, open_still, refused}
 use Rattle.tl_together.proofs.Judging.{remembered, still, taken, unnoted}
 use Rattle.tl_memory.proofs.LinkTables.{link-there}
@@ -9,7 +10,7 @@ use Rattle.tl_together.proofs.Following.{followed, grown, one_more, same}
 use Rattle.tl_together.proofs.Noted.{held_others, said_before}
 use Rattle.tl_together.proofs.Showing.{either_leaves, first_noted}
 use Rattle.tl_rules.specs.statement.Conformance.{on_link}
-use Rattle.tl_together.proofs.judge.Judge.try_push.Goals as goal
+use Rattle.tl_together.proofs.judge.Judge.push_but.Goals as goal
 
 pub returns-in_default-change-clause-knows : goal.returns-in_default-change-clause-knows
 returns-in_default-change-clause-knows g c = λ levels may t closed k.
@@ -20,29 +21,29 @@ returns-in_default-noted-clause-knows g c = λ levels may t closed k.
     let same : c.note_window-noted.new.windows ≡ c.args.self.now.windows = search rules in
     unnoted c.args.self.now _ levels may t closed k refl refl refl refl refl same c.change.ensures.known
 
-pub returns-in-Some-broken_memory-clause-answer : goal.returns-in-Some-broken_memory-clause-answer
-returns-in-Some-broken_memory-clause-answer g c = λ levels may t closed k.
+pub returns-in-Some-judged-clause-answer : goal.returns-in-Some-judged-clause-answer
+returns-in-Some-judged-clause-answer g c = λ levels may t closed k.
     let o = open_still c.args.self.now levels may t closed k c.if-self.false in
     let next_is : c.in-Some.next ≡ c.args.self.now.moment + 1 = search rules in
     let now = next_moment c.in-Some.next c.args.self.now.moment t next_is o.moment_is in
     let known = remembered c.args.self.now _ levels may t o refl refl refl refl refl c.change.ensures.known in
-    broken_so c.args.self.now levels may t closed c.args.link c.args.beat.now c.in-Some-broken_memory.rule c.breach.result k
+    broken_so c.args.self.now c.args.left levels may t closed c.args.link c.args.beat.now c.in-Some-judged.rule c.breach.result k
     c.if-self.false (c.breach.ensures levels may t known) (λ fine.
     let lt = link-there _ levels (c.args.link, c.args.beat.now) t fine in
     let change = c.in-Ok.ensures.change levels t o.memory_is (followed _ levels may t o.monitor_is)
     (one_more _ levels may (c.args.link, c.args.beat.now) t o.monitor_is fine)
     (c.answered-asked.ensures levels may t o.monitor_is lt) now in
-    sym (c.broken_memory.ensures levels may t known (c.in-Ok.ensures.free (length levels) t o.memory_is) fine
-    change) ∙ c.in-Some-broken_memory.is)
+    ap (judged c.args.left) (sym (c.broken_memory.ensures levels may t known (c.in-Ok.ensures.free (length levels) t o.memory_is)
+    fine change)) ∙ sym c.judged.ensures ∙ c.in-Some-judged.is)
 
-pub returns-in-Some-broken_memory-clause-knows : goal.returns-in-Some-broken_memory-clause-knows
-returns-in-Some-broken_memory-clause-knows g c = λ levels may t closed k.
+pub returns-in-Some-judged-clause-knows : goal.returns-in-Some-judged-clause-knows
+returns-in-Some-judged-clause-knows g c = λ levels may t closed k.
     unnoted c.args.self.now _ levels may t closed k refl refl refl refl refl refl c.change.ensures.known
 
 pub returns-in-Err-clause-answer : goal.returns-in-Err-clause-answer
 returns-in-Err-clause-answer g c = λ levels may t closed k.
     let o = open_still c.args.self.now levels may t closed k c.if-self.false in
-    refused c.args.self.now levels may t closed c.args.link c.args.beat.now c.in-Err.fault c.of_monitor.result k
+    refused c.args.self.now c.args.left levels may t closed c.args.link c.args.beat.now c.in-Err.fault c.of_monitor.result k
     c.if-self.false
     (c.in-Err.ensures.answer_under levels may t _ o.monitor_is.knows) c.of_monitor.ensures
 
@@ -68,10 +69,10 @@ returns-clause-answer g c = λ levels may t closed k.
     (one_more _ levels may (c.args.link, c.args.beat.now) t o.monitor_is fine)
     (c.answered-asked.ensures levels may t o.monitor_is lt) now in
     let known = remembered c.args.self.now _ levels may t o refl refl refl refl refl c.change.ensures.known in
-    judged_fault c.args.self.now levels may t closed c.args.link c.args.beat.now c.broken_memory.result k
+    judged_fault c.args.self.now c.args.left levels may t closed c.args.link c.args.beat.now c.broken_memory.result k
     c.if-self.false fine
     (c.broken_memory.ensures levels may t known (c.in-Ok.ensures.free (length levels) t o.memory_is) fine change)
-    ∙ ap (λ r. broken (first_broken None r)) c.in_default-broken_memory.is
+    ∙ ap (λ r. broken (first_broken None r)) (sym c.judged.ensures ∙ c.in_default-judged.is)
 
 pub returns-clause-knows : goal.returns-clause-knows
 returns-clause-knows g c = λ levels may t closed k.

@@ -58,3 +58,11 @@ asked-writes form stores client operation answer was is (Ok x) none says = λ lo
   says ∙ ap (λ (t : List ℕ). was ++ t) (sym (written form log client operation answer)),
   kept form stores log client operation answer none keeps,
 )
+
+-- in a trace nothing is written of it
+pub asked-traced : {w : ℕ} (stores : WholeStores) (client : ℕ) (operation : Op w) (answer : Option Reply) (was : List ℕ)
+    → Writes Trace stores stores (Ask client operation) (answered answer) was was
+asked-traced stores client operation answer was = λ log keeps. (
+  sym (append-nil was) ∙ ap (λ (t : List ℕ). was ++ t) (sym (written Trace log client operation answer)),
+  tt,
+)

@@ -141,19 +141,27 @@ drains-all form config log player was is n given d (inr enough) =
     (ended-at-load config n log given d.count enough, d.says, d.reached)
 
 -- what was written of an event is what comes of it
-pub happened : {w : ℕ} {E : Type 0} (form : RunForm) (old new : Player w) (event : Event w) (o : Outcome w)
-    (was is : List ℕ) (r : Result (Unit {0}) E) → OnOk r (Writes form old.stores new.stores event o was is)
+pub happens : {w : ℕ} (form : RunForm) (old new : Player w) (event : Event w) (o : Outcome w) (was is : List ℕ)
+    → Writes form old.stores new.stores event o was is
     → ((config : Config) (log : Log w) → HasHappened config old.world log → o ≡ outcome_after config log event)
     → ((config : Config) (log : Log w) → HasHappened config old.world log
-    → HasHappened config new.world ((event, o) ∷ log)) → OnOk r (Happens form old new event was is)
-happened {w} form old new event o was is (Err e) writes comes reached = tt
-happened {w} form old new event o was is (Ok x) writes comes reached = λ config log played.
+    → HasHappened config new.world ((event, o) ∷ log)) → Happens form old new event was is
+happens {w} form old new event o was is writes comes reached = λ config log played.
     let out = comes config log played.0 in
     let written = writes log played.1 in (
       written.0 ∙ ap (λ (p : Outcome w). was ++ event_text form log event p) out,
       subst (λ (p : Outcome w). HasPlayed form config new ((event, p) ∷ log)) out
           (reached config log played.0, written.1),
     )
+
+pub happened : {w : ℕ} {E : Type 0} (form : RunForm) (old new : Player w) (event : Event w) (o : Outcome w)
+    (was is : List ℕ) (r : Result (Unit {0}) E) → OnOk r (Writes form old.stores new.stores event o was is)
+    → ((config : Config) (log : Log w) → HasHappened config old.world log → o ≡ outcome_after config log event)
+    → ((config : Config) (log : Log w) → HasHappened config old.world log
+    → HasHappened config new.world ((event, o) ∷ log)) → OnOk r (Happens form old new event was is)
+happened form old new event o was is (Err e) writes comes reached = tt
+happened form old new event o was is (Ok x) writes comes reached =
+    happens form old new event o was is writes comes reached
 
 -- ---- what a line says
 

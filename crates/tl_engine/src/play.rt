@@ -10,10 +10,10 @@ ghost use Rattle.tl_command.specs.declared.command.RunForm.{RunForm};
 ghost use Rattle.tl_schedule.specs.code.Storing.{Remembers};
 ghost use Rattle.tl_schedule.specs.statement.Commits.{HasPiece, asked_commit, at_most_one, commits_text};
 ghost use Rattle.tl_schedule.specs.statement.CommonLine.{common_event};
-ghost use Rattle.tl_schedule.specs.statement.OutcomeLine.{HasLine, link_of, load_size};
+ghost use Rattle.tl_schedule.specs.statement.OutcomeLine.{HasLine, link_of};
 ghost use Rattle.tl_world.specs.statement.Answered.{answered};
 ghost use Rattle.tl_engine.specs.statement.Played.{number_text};
-ghost use Rattle.tl_engine.specs.code.Playing.{Drains, Happens, HasPlayed, PlaysLine, PlaysOn, Writes, asked_text};
+ghost use Rattle.tl_engine.specs.code.Playing.{Drains, Happens, HasPlayed, PlaysLine, PlaysOn, Writes};
 
 use crate::fault::Fault;
 use crate::trace_header::world_of;
@@ -54,6 +54,7 @@ pub fn player_of<const W: usize>(alloc: Global, config: Config) -> Result<Player
 }
 
 /// Appends the beat that moved in an event and the lines of its commits, and notes the event.
+#[inline(never)]
 fn append_with_commits<const W: usize>(
     stores: &mut WholeStores,
     event: &Event<W>,
@@ -218,29 +219,6 @@ fn append_stored<const W: usize>(
     }
 }
 
-/// Appends the text of the answer to a Load of this size, or with size 0 to a Store.
-#[inline(always)]
-fn append_asked<const W: usize>(
-    form: RunForm,
-    client: u8,
-    operation: &Op<W>,
-    size: u8,
-    answer: Option<Reply>,
-    out: &mut Vec<u8>,
-) -> Result<(), AllocError>
-    requires width { IsWidth W }
-    requires size { size ≡ load_size operation.now }
-    requires piece { HasPiece (Ask client operation.now) (answered answer) }
-    ensures { OnOk result (out.new.items
-        ≡ out.old.items ++ asked_text form (Ask client operation.now) answer) }
-{
-    match form {
-        RunForm::Outcomes => append_answer(size, answer, out),
-        RunForm::Trace => Ok(()),
-        RunForm::TraceWithCommits => append_stored(client, operation, answer, out),
-    }
-}
-
 /// Plays a Load, and appends its outcome.
 #[inline(always)]
 fn play_load<const W: usize>(
@@ -256,8 +234,13 @@ fn play_load<const W: usize>(
         out.new.items) }
 {
     let answer = player.world.ask_load(client, address, size);
-    let operation = Op::<W>::Load { address, size };
-    append_asked(form, client, &operation, size, answer, out)
+    match form {
+        RunForm::Outcomes => append_answer(size, answer, out),
+        RunForm::Trace => Ok(()),
+        RunForm::TraceWithCommits => {
+            append_stored(client, &Op::<W>::Load { address, size }, answer, out)
+        }
+    }
 }
 
 /// Plays a Store, and appends its outcome.
@@ -276,12 +259,18 @@ fn play_store<const W: usize>(
         out.new.items) }
 {
     let answer = player.world.ask_store(client, address, size, value);
-    let operation = Op::<W>::Store {
-        address,
-        size,
-        value,
-    };
-    append_asked(form, client, &operation, 0, answer, out)
+    match form {
+        RunForm::Outcomes => append_answer(0, answer, out),
+        RunForm::Trace => Ok(()),
+        RunForm::TraceWithCommits => {
+            let operation = Op::<W>::Store {
+                address,
+                size,
+                value,
+            };
+            append_stored(client, &operation, answer, out)
+        }
+    }
 }
 
 /// Plays a common line.

@@ -1,44 +1,127 @@
 #!/usr/bin/env python3
-"""commits.py TOOL [RUNS]: random traces of caches whose cores store and load, by the model bench/commits_trial.py: RUNS runs of
-right caches (60 if none is said), and a tenth as many of each wrong one. `TOOL coherent` must have the model's verdict on each,
-and `TOOL monitor` must find no fault in those of right caches. The command judges M3 by the beats alone, and the model by the
-stores too, so runs of which the model says M3 are left out. Ends with 'commits: N passed, M failed'."""
+"""commits.py TOOL [RUNS]: stores and loads in traces.
+
+Random traces of caches whose cores store and load, by the model bench/commits_trial.py: RUNS runs of right caches (60 if none
+is said), and a tenth as many of each wrong one. `TOOL coherent` must have the model's verdict on each, and `TOOL monitor` must
+find no fault in those of right caches. The command judges M3 by the beats alone, and the model by the stores too, so runs of which
+the model says M3 are left out.
+
+Traces of worlds: the schedules of the examples and twenty of `TOOL random`. What `TOOL run --trace --commits` writes of each must
+be what this script makes of the outcomes that `TOOL run` writes; without stores, loads and marks it must be what `TOOL run --trace`
+writes; and `TOOL coherent` must find no fault in it. Ends with 'commits: N passed, M failed'."""
 import concurrent.futures
 import os
 import pathlib
+import re
 import subprocess
 import sys
 import tempfile
 
-MODEL = pathlib.Path(__file__).resolve().parent.parent / "bench/commits_trial.py"
+ROOT = pathlib.Path(__file__).resolve().parent.parent
+MODEL = ROOT / "bench/commits_trial.py"
+SCHEDULES = ROOT / "crates/tl_examples/data/schedules"
+# The options of `random` for each of twenty worlds: widths, profiles and numbers of caches.
+WORLDS = [
+    ["--seed", str(seed), "--width", width, "--profile", profile, "--clients", clients, "--blocks", blocks]
+    for seed, (width, profile, clients, blocks) in enumerate(
+        (width, profile, clients, blocks)
+        for width, profile in (("4", "1"), ("8", "1"), ("8", "2"), ("16", "1"), ("16", "2"))
+        for clients, blocks in (("C:1", "1"), ("C:2,C:2,C:2,UH:1", "2"), ("UL:2,C:8,UH:1,C:3", "5"), (",".join(["C:2"] * 16), "3"))
+    )
+]
 
 
-def verdict(tool, command, trace):
-    return subprocess.run([tool, command, trace], capture_output=True, text=True, timeout=60).stdout
+def of(tool, *words, text=None):
+    """What a command writes, and its exit status."""
+    told = subprocess.run([tool, *words], input=text, capture_output=True, text=True, timeout=60)
+    return told.stdout, told.returncode
 
 
 def slips(tool, trace):
     """What is wrong with the verdicts on a trace."""
     wanted = trace.with_suffix(".verdict").read_text()
-    told = verdict(tool, "coherent", trace)
+    told, _ = of(tool, "coherent", str(trace))
     if told != wanted:
         yield f"{trace.name}: coherent says {told.strip()}, the model {wanted.strip()}"
-    told = verdict(tool, "monitor", trace)
+    told, _ = of(tool, "monitor", str(trace))
     if trace.name.startswith("right_") and told != wanted.replace("coherent", "clean"):
         yield f"{trace.name}: monitor says {told.strip()}"
+
+
+def header_of(schedule):
+    """The header of the trace of a schedule with stores and loads."""
+    _, version, *fields = schedule.split("\n")[0].split()
+    width = fields.pop(0) if version in "23" else "8"
+    profile = fields.pop(0) if version == "3" else "1"
+    levels = [it.split(":")[0].replace("C", "C+") for it in fields[2:]]
+    return " ".join(["tltrace 4", width, "none" if profile == "1" else "writer", *levels])
+
+
+def commits_of(said, outcome, begun):
+    """The lines of the stores and loads of an outcome. `begun` has the bytes that each client's last request with a source
+    stores, if it is a store of a whole block."""
+    words, ended = said.split(), re.fullmatch(r"(..) D .* done (..) granted .", outcome)
+    if ended and begun.get(ended.groups()):
+        block, data = begun[ended.groups()]
+        for i in range(8):
+            yield f"{ended[1]} S 3 {64 * int(block, 16) + 8 * i:08x} {data[112 - 16 * i :][:16]}"
+    elif outcome.startswith("started ") and words[1] != "release":
+        begun[words[0], outcome[-2:]] = words[2:4] if words[1] == "whole" else None
+    elif outcome.startswith("value ") and words[1] == "load":
+        yield f"{words[0]} L {words[2]} {words[3]} {outcome[6:]}"
+    elif outcome == "stored":
+        yield f"{words[0]} S {words[2]} {words[3]} {words[4]}"
+
+
+def trace_of(schedule, outcomes):
+    """The trace of a schedule with stores and loads, by the outcomes of its events."""
+    lines, begun = iter(outcomes.splitlines()), {}
+    yield header_of(schedule)
+    for said in schedule.splitlines()[1:]:
+        for outcome in lines:
+            if outcome.startswith("line "):
+                yield outcome
+                return
+            if re.match(r".. [A-E] ", outcome):
+                yield outcome.split(" done ")[0]
+            yield from commits_of(said, outcome, begun)
+            if said != "drain" or outcome.startswith("drained "):
+                break
+
+
+def world_slips(tool, name, schedule):
+    """What is wrong with the trace of a schedule with stores and loads."""
+    (outcomes, _), (beats, status), (told, too) = (of(tool, "run", *it, text=schedule) for it in ([], ["--trace"], ["--trace", "--commits"]))
+    if outcomes.startswith("line 1 "):
+        wanted = outcomes
+    else:
+        wanted = "".join(line + "\n" for line in trace_of(schedule, outcomes))
+    if told != wanted:
+        yield f"{name}: the trace isn't that of the outcomes"
+    if too != status:
+        yield f"{name}: the exit status is {too} with stores and loads, {status} without"
+    lines = [line for line in told.splitlines()[1:] if not re.match(r".. [SL] ", line)]
+    if lines != beats.splitlines()[1:]:
+        yield f"{name}: the beats aren't those of the trace without stores and loads"
+    trace = "".join(line for line in told.splitlines(keepends=True) if not line.startswith("line "))
+    verdict, _ = of(tool, "coherent", text=trace)
+    if trace and verdict != f"coherent {trace.count(chr(10)) - 1}\n":
+        yield f"{name}: coherent says {verdict.strip()}"
 
 
 def main():
     tool, *rest = sys.argv[1:]
     tool = os.path.abspath(tool)
-    with tempfile.TemporaryDirectory() as folder:
+    with tempfile.TemporaryDirectory() as folder, concurrent.futures.ThreadPoolExecutor(len(os.sched_getaffinity(0))) as pool:
         runs = rest[0] if rest else "60"
         subprocess.run([sys.executable, MODEL, "--runs", runs, "--traces", folder], check=True, stdout=subprocess.DEVNULL)
         # where no link says that all its stores are there the command reads no commits
         traces = [it for it in sorted(pathlib.Path(folder).glob("*.trace")) if "C+" in it.open().readline()]
         traces = [it for it in traces if not it.with_suffix(".verdict").read_text().endswith(" M3\n")]
-        with concurrent.futures.ThreadPoolExecutor(len(os.sched_getaffinity(0))) as pool:
-            found = list(pool.map(lambda it: list(slips(tool, it)), traces))
+        found = list(pool.map(lambda it: list(slips(tool, it)), traces))
+        schedules = [(it.name, it.read_text()) for it in sorted(SCHEDULES.glob("*.schedule"))]
+        schedules += [(f"random {' '.join(it)}", of(tool, "random", *it)[0]) for it in WORLDS]
+        found += pool.map(lambda it: list(world_slips(tool, *it)), schedules)
     for slip in sum(found, []):
         print(slip)
     failed = sum(map(bool, found))

@@ -30,6 +30,7 @@ COMMANDS = [
     "chart wrong_report.trace",
     "run schedules/a_writer_becomes_a_reader.schedule",
     "run --trace schedules/sixteen_readers_and_a_put.schedule",
+    "run --trace --commits schedules/a_whole_block_beside_an_upgrade.schedule",
     "random --seed 1 --events 40",
 ]
 # What fails, the library that makes it fail, and what the command says of it.

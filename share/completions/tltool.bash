@@ -29,7 +29,7 @@ _tltool() {
     explain) options='--coherent --allow --help -h' ;;
     chart) options='--lines --block --allow --help -h' ;;
     cover) options='--tables --json --help -h' ;;
-    run) options='--trace --help -h' ;;
+    run) options='--trace --commits --help -h' ;;
     random) options='--seed --events --contend --clients --blocks --trackers --width --profile --help -h' ;;
     help) COMPREPLY=($(compgen -W 'decode monitor coherent explain chart cover run random' -- "$current")); return ;;
     esac

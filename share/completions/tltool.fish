@@ -28,6 +28,7 @@ complete -c tltool -n '__fish_seen_subcommand_from explain' -l allow -x -a 'none
 complete -c tltool -n '__fish_seen_subcommand_from cover' -l tables -d 'write the tables of each link too'
 complete -c tltool -n '__fish_seen_subcommand_from cover' -l json -d 'write one JSON object'
 complete -c tltool -n '__fish_seen_subcommand_from run' -l trace -d 'write the beats as a trace'
+complete -c tltool -n '__fish_seen_subcommand_from run' -l commits -d 'write stores and loads too'
 complete -c tltool -n '__fish_seen_subcommand_from random' -l seed -x -d 'the seed'
 complete -c tltool -n '__fish_seen_subcommand_from random' -l events -x -d 'number of lines'
 complete -c tltool -n '__fish_seen_subcommand_from random' -l contend -x -d 'number of blocks that most operations use'

@@ -2,6 +2,17 @@
 
 pub use tl_params::width::Width;
 
+/// The form of the output of `run`.
+#[derive(Clone, Copy, Debug, PartialEq, Eq)]
+pub enum RunForm {
+    /// The outcome of each event.
+    Outcomes,
+    /// The trace: its header, and the beats that move.
+    Trace,
+    /// The trace with the stores and loads of the clients in their copies.
+    TraceWithCommits,
+}
+
 /// A command of the program over its input.
 #[derive(Clone, Copy, Debug, PartialEq, Eq)]
 pub enum Command {
@@ -13,6 +24,6 @@ pub enum Command {
     Coherent,
     /// Judges a recorded trace, each link by itself or all together, and explains its first line at fault.
     Explain { coherent: bool },
-    /// Plays a schedule: writes the outcome of each event, or the trace of all.
-    Run { trace: bool },
+    /// Plays a schedule, and writes its outcomes or its trace.
+    Run { form: RunForm },
 }

@@ -14,6 +14,7 @@ pub mod Runs
 pub mod BeatJudging
 pub mod Decoded
 pub mod Answered
+pub mod Committed
 pub mod Headers
 pub mod Judged
 pub mod JudgedTraces

@@ -1,7 +1,8 @@
 -- A schedule is played to one text.
-use Rattle.std.proofs.Common.{◌≡◌, ℕ, ◌+◌, Bool, List, [], ◌∷◌, ◌++◌, refl, sym, ◌∙◌, ap, subst, inl, inr}
+use Rattle.std.proofs.Common.{◌≡◌, ℕ, ◌+◌, List, [], ◌∷◌, ◌++◌, refl, sym, ◌∙◌, ap, subst, inl, inr}
 use Rattle.std.specs.Prelude.{Option, Some, None}
 use Rattle.tl_beat.specs.statement.Width.{IsWidth}
+use Rattle.tl_command.specs.declared.command.RunForm.{RunForm}
 use Rattle.tl_params.specs.declared.config.Config.{Config}
 use Rattle.tl_params.specs.declared.header.Version.{Version}
 use Rattle.tl_schedule.specs.declared.line.Line.{Line}
@@ -32,34 +33,34 @@ said-once line said other width s t =
 abbrev pair : {w : ℕ} → List ℕ → Log w → List ℕ × Log w
 pair text log = (text, log)
 
-plays-once : {w : ℕ} (trace : Bool) (config : Config) (log : Log w) (said : Line w) (text other : List ℕ)
+plays-once : {w : ℕ} (form : RunForm) (config : Config) (log : Log w) (said : Line w) (text other : List ℕ)
     (grown another : Log w)
-    → Plays trace config log said text grown → Plays trace config log said other another
+    → Plays form config log said text grown → Plays form config log said other another
     → pair text grown ≡ pair other another
-plays-once trace config log (line_of.Event event) text other grown another (says, is) (so, are) =
+plays-once form config log (line_of.Event event) text other grown another (says, is) (so, are) =
     rw (says, is, so, are) refl
-plays-once trace config log line_of.Drain text other grown another (n, d, says, is) (m, e, so, are) =
+plays-once form config log line_of.Drain text other grown another (n, d, says, is) (m, e, so, are) =
     rw (says, is, so, are, drained-once config n m log d e) refl
 
-played-after-once : {w : ℕ} (trace : Bool) (config : Config) (n : ℕ) (log : Log w) (lines : List (List ℕ))
+played-after-once : {w : ℕ} (form : RunForm) (config : Config) (n : ℕ) (log : Log w) (lines : List (List ℕ))
     (text other : List ℕ) (status another : Status) → IsWidth w
-    → PlayedAfter trace config n log lines text status → PlayedAfter trace config n log lines other another
+    → PlayedAfter form config n log lines text status → PlayedAfter form config n log lines other another
     → AreOne text other status another
 unfolding PlayedAfter
-played-after-once trace config n log [] text other status another width d e = (d.0 ∙ sym e.0, d.1 ∙ sym e.1)
-played-after-once {w} trace config n log (line ∷ lines) text other status another width
+played-after-once form config n log [] text other status another width d e = (d.0 ∙ sym e.0, d.1 ∙ sym e.1)
+played-after-once {w} form config n log (line ∷ lines) text other status another width
     (inl (said, first, rest, grown, s, plays, is, d)) (inl (word, front, more, after, t, played, so, e)) =
     let says : word ≡ said = said-once line word said width t s in
-    let one : pair front after ≡ pair first grown = plays-once trace config log said front first after grown
-    (subst (λ (x : Line w). Plays trace config log x front after) says played) plays in
-    let same = played-after-once trace config (n + 1) grown lines rest more status another width d
-    (subst (λ (x : List ℕ × Log w). PlayedAfter trace config (n + 1) x.1 lines more another) one e) in
+    let one : pair front after ≡ pair first grown = plays-once form config log said front first after grown
+    (subst (λ (x : Line w). Plays form config log x front after) says played) plays in
+    let same = played-after-once form config (n + 1) grown lines rest more status another width d
+    (subst (λ (x : List ℕ × Log w). PlayedAfter form config (n + 1) x.1 lines more another) one e) in
     (is ∙ ap (λ (t : List ℕ). first ++ t) same.0 ∙ sym (so ∙ ap (λ (x : List ℕ × Log w). x.0 ++ more) one), same.1)
-played-after-once trace config n log (line ∷ lines) text other status another width
+played-after-once form config n log (line ∷ lines) text other status another width
     (inl (said, first, rest, grown, s, plays, is, d)) (inr (none, so, ends)) = absurd (none said s)
-played-after-once trace config n log (line ∷ lines) text other status another width (inr (none, is, ends))
+played-after-once form config n log (line ∷ lines) text other status another width (inr (none, is, ends))
     (inl (said, first, rest, grown, s, plays, so, e)) = absurd (none said s)
-played-after-once trace config n log (line ∷ lines) text other status another width (inr (none, is, ends))
+played-after-once form config n log (line ∷ lines) text other status another width (inr (none, is, ends))
     (inr (none_so, so, ends_so)) = (is ∙ sym so, ends ∙ sym ends_so)
 
 -- a header names one configuration
@@ -86,25 +87,25 @@ heads-once line version other config another h k = go (header_at line) refl
     go None e = absurd (spelled_read None line e version config.blocks config.trackers config.clients.items h.spelled)
     go (Some x) e = heads-as line x version config e h ∙ sym (heads-as line x other another e k)
 
-pub played-once : (trace : Bool) (lines : List (List ℕ)) (text other : List ℕ) (status another : Status)
-    → Played trace lines text status
-    → Played trace lines other another → AreOne text other status another
+pub played-once : (form : RunForm) (lines : List (List ℕ)) (text other : List ℕ) (status another : Status)
+    → Played form lines text status
+    → Played form lines other another → AreOne text other status another
 unfolding Played headed
-played-once trace [] text other status another d e = (d.0 ∙ sym e.0, d.1 ∙ sym e.1)
-played-once trace (line ∷ lines) text other status another (inl (version, config, rest, heads, is, d))
+played-once form [] text other status another d e = (d.0 ∙ sym e.0, d.1 ∙ sym e.1)
+played-once form (line ∷ lines) text other status another (inl (version, config, rest, heads, is, d))
     (inl (v, c, more, heads_so, so, e)) =
     let one : headed v c ≡ headed version config = heads-once line v version c config heads_so heads in
     let wide = width_of version in
-    let same = played-after-once {w = bytes_of wide} trace config 2 [] lines rest more status another (is_width_of wide)
+    let same = played-after-once {w = bytes_of wide} form config 2 [] lines rest more status another (is_width_of wide)
     d
-    (subst (λ (x : Headed). PlayedAfter {w = bytes_of (width_of x.0)} trace x.1 2 [] lines more another) one e) in (
-      is ∙ ap (λ (t : List ℕ). header_text trace version config.clients.items ++ t) same.0 ∙ sym
-          (so ∙ ap (λ (x : Headed). header_text trace x.0 x.1.clients.items ++ more) one),
+    (subst (λ (x : Headed). PlayedAfter {w = bytes_of (width_of x.0)} form x.1 2 [] lines more another) one e) in (
+      is ∙ ap (λ (t : List ℕ). header_text form version config.clients.items ++ t) same.0 ∙ sym
+          (so ∙ ap (λ (x : Headed). header_text form x.0 x.1.clients.items ++ more) one),
       same.1,
     )
-played-once trace (line ∷ lines) text other status another (inl (version, config, rest, heads, is, d))
+played-once form (line ∷ lines) text other status another (inl (version, config, rest, heads, is, d))
     (inr (none, so, ends)) = absurd (none version config heads)
-played-once trace (line ∷ lines) text other status another (inr (none, is, ends))
+played-once form (line ∷ lines) text other status another (inr (none, is, ends))
     (inl (version, config, rest, heads, so, e)) = absurd (none version config heads)
-played-once trace (line ∷ lines) text other status another (inr (none, is, ends)) (inr (none_so, so, ends_so)) =
+played-once form (line ∷ lines) text other status another (inr (none, is, ends)) (inr (none_so, so, ends_so)) =
     (is ∙ sym so, ends ∙ sym ends_so)

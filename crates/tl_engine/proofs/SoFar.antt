@@ -7,11 +7,11 @@ use Rattle.std.specs.Prelude.{Bool, ◌⊎◌, ◌++◌}
 use Rattle.tl_engine.specs.declared.beat_judge.BeatJudge.{BeatJudge}
 use Rattle.tl_engine.specs.declared.monitor_lines.MonitorLines.{MonitorLines}
 use Rattle.tl_engine.specs.declared.monitor_lines.MonitorLines.TheVariants as watching
+use Rattle.tl_engine.specs.declared.play.Player.{Player}
 use Rattle.tl_engine.specs.declared.run_lines.RunLines.{RunLines}
 use Rattle.tl_engine.specs.declared.run_lines.RunLines.TheVariants as playing
 use Rattle.tl_engine.specs.declared.status.Status.TheVariants.{Clean}
-use Rattle.tl_engine.specs.statement.PlayableWorld.{Contained}
-use Rattle.tl_engine.specs.code.Playing.{KnowsPlay, KnowsSchedule, is_trace}
+use Rattle.tl_engine.specs.code.Playing.{KnowsPlay, KnowsSchedule, form_of}
 use Rattle.tl_engine.specs.code.Watching.{KnowsLines, KnowsTrace, is_together}
 use Rattle.tl_engine.specs.statement.JudgedSo.{JudgedSo, said_by}
 use Rattle.tl_engine.specs.statement.Decoded.{Decodes, DecodesBefore}
@@ -46,15 +46,15 @@ judged_so_far n (watching.Four judge) lines text known = watched_so_far n judge 
 judged_so_far n (watching.Eight judge) lines text known = watched_so_far n judge lines text known
 judged_so_far n (watching.Sixteen judge) lines text known = watched_so_far n judge lines text known
 
-world_so_far : {w : ℕ} (n : ℕ) (world : Contained w) (lines : List (List ℕ)) (text : List ℕ)
-    → KnowsPlay (is_trace n) world lines text
-    → text_so_far (Run (is_trace n)) lines text
+player_so_far : {w : ℕ} (n : ℕ) (player : Player w) (lines : List (List ℕ)) (text : List ℕ)
+    → KnowsPlay (form_of n) player lines text
+    → text_so_far (Run (form_of n)) lines text
 unfolding PlayedAfter
-world_so_far n world lines text k = inr (rw (append-nil lines) at (k.before [] [] Clean (refl, refl)))
+player_so_far n player lines text k = inr (rw (append-nil lines) at (k.before [] [] Clean (refl, refl)))
 
 pub played_so_far : (n : ℕ) (h : RunLines n) (lines : List (List ℕ)) (text : List ℕ) → KnowsSchedule h lines text
-    → text_so_far (Run (is_trace n)) lines text
+    → text_so_far (Run (form_of n)) lines text
 played_so_far n (playing.Waiting alloc) lines text known = inl known
-played_so_far n (playing.Four world) lines text known = world_so_far n world lines text known
-played_so_far n (playing.Eight world) lines text known = world_so_far n world lines text known
-played_so_far n (playing.Sixteen world) lines text known = world_so_far n world lines text known
+played_so_far n (playing.Four player) lines text known = player_so_far n player lines text known
+played_so_far n (playing.Eight player) lines text known = player_so_far n player lines text known
+played_so_far n (playing.Sixteen player) lines text known = player_so_far n player lines text known

@@ -24,7 +24,7 @@ told-once (Decode width) = decodes_once (bytes_of width) 1 (is_width_of width)
 told-once Monitor = judged_once faults_of_links clean_text
 told-once (Explain together) = judged_once (faults_by together) (said_by together)
 told-once Coherent = judged_once faults_together coherent_text
-told-once (Run trace) = played-once trace
+told-once (Run form) = played-once form
 
 pub always-told : (command : Command) (lines : List (List ℕ)) → (text : List ℕ) × (status : Status)
     × text_told command lines text status
@@ -34,4 +34,4 @@ always-told (Decode Sixteen) = decodes 16 1 (judged_line 16 refl)
 always-told Monitor = judged_whole SpellsHeader faults_of_links clean_text header_or_none
 always-told (Explain together) = judged_whole SpellsHeader (faults_by together) (said_by together) header_or_none
 always-told Coherent = judged_whole SpellsHeader faults_together coherent_text header_or_none
-always-told (Run trace) = played-whole trace
+always-told (Run form) = played-whole form

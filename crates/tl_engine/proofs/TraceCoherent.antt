@@ -1,5 +1,5 @@
 -- A judge of all links together finds no fault in the trace of a schedule.
-use Rattle.std.proofs.Common.{◌≡◌, ℕ, true, List, [], ◌∷◌, ◌++◌, ap, append_assoc, length, subst, ◌∙◌, refl}
+use Rattle.std.proofs.Common.{◌≡◌, ℕ, List, [], ◌∷◌, ◌++◌, ap, append_assoc, length, subst, ◌∙◌, refl}
 use Rattle.std.specs.Prelude.{Option, Some, None, option_map, reverse}
 use Rattle.std.proofs.lemmas.List.{append-nil, reverse-append, reverse-reverse}
 use Rattle.tl_beat.specs.declared.beat.Beat.{Beat}
@@ -14,6 +14,7 @@ use Rattle.tl_coherence.specs.statement.Flow.{trace_of}
 use Rattle.tl_together.specs.declared.breach.Breach.{Breach}
 use Rattle.tl_together.specs.statement.Coherence.{breach_from, breach_or, broken_together, first_breach}
 use Rattle.tl_true_bytes.proofs.Together.{concord}
+use Rattle.tl_command.specs.declared.command.RunForm.TheVariants as form
 use Rattle.tl_engine.specs.declared.status.Status.{Status}
 use Rattle.tl_engine.specs.laws.Clean.{IsCoherent, IsUpTo}
 use Rattle.tl_engine.specs.statement.Coherent.{coherent_text, fault_of_breach, faults_together}
@@ -54,6 +55,6 @@ all-quiet w config log link ch o x given moving flowing tracing =
     (subst (λ (t : Trace w). first_breach (levels_of config) (liberties_of config.profile) (reverse t) ≡ None) tracing
     (concord config (liberties_of config.profile) ((Deliver link ch, o) ∷ log) given (λ x e. e))))
 
-pub trace-coherent : (lines : List (List ℕ)) (text : List ℕ) (status : Status) → Played true lines text status
+pub trace-coherent : (lines : List (List ℕ)) (text : List ℕ) (status : Status) → Played form.Trace lines text status
     → IsUpTo IsCoherent text status
 trace-coherent = trace-quiet faults_together coherent_text all-quiet

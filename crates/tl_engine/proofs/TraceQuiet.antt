@@ -10,6 +10,7 @@ use Rattle.tl_beat.specs.declared.beat.Link.{Link}
 use Rattle.tl_beat.specs.declared.beat.Beat.{Beat}
 use Rattle.tl_beat.specs.declared.channel.Channel.{Channel}
 use Rattle.tl_beat.specs.statement.Line.{IsInRange, Spells, fields_of, line_of as beat_line, spaced}
+use Rattle.tl_command.specs.declared.command.RunForm.TheVariants as form
 use Rattle.tl_params.specs.declared.config.Config.{Config}
 use Rattle.tl_params.specs.declared.level.Level.{Level}
 use Rattle.tl_params.specs.declared.profile.Profile.{Profile}
@@ -212,30 +213,30 @@ module _ (faults : Faults) (said : ℕ → List ℕ) (quiet : AreQuiet faults) w
 
   delivery-extends : {w : ℕ} (config : Config) (log : Log w) (o : Option (Link × Channel)) → IsGiven config log
       → AreRanged log
-      → Extends config log (delivery_text true config log o) (with_delivery config o log)
+      → Extends config log (delivery_text form.Trace config log o) (with_delivery config o log)
   delivery-extends config log None given ranged = nothing-more config log given ranged
   delivery-extends config log (Some d) given ranged = event-extends config log (Deliver d.0 d.1) given ranged tt tt
 
   deliveries-extend : {w : ℕ} (config : Config) (n : ℕ) (log : Log w) → IsGiven config log → AreRanged log
-      → Extends config log (deliveries_text true config n log) (drained config n log)
+      → Extends config log (deliveries_text form.Trace config n log) (drained config n log)
   unfolding deliveries_text drained
   deliveries-extend config zero log given ranged = nothing-more config log given ranged
   deliveries-extend config (suc n) log given ranged =
       let next = next_delivery config (system_after config log) in
       let one = delivery-extends config log next given ranged in
       and-then config log (with_delivery config next log) (drained config n (with_delivery config next log))
-      (delivery_text true config log next)
-      (deliveries_text true config n (with_delivery config next log)) one
+      (delivery_text form.Trace config log next)
+      (deliveries_text form.Trace config n (with_delivery config next log)) one
       (deliveries-extend config n (with_delivery config next log) one.given one.ranged)
 
   said-extends : {w : ℕ} (config : Config) (log : Log w) (line : List ℕ) (said : Line w) (text : List ℕ) (grown : Log w)
       → IsGiven config log → AreRanged log
-      → SpellsLine line said → Plays true config log said text grown → Extends config log text grown
+      → SpellsLine line said → Plays form.Trace config log said text grown → Extends config log text grown
   said-extends config log line (line_of.Event event) text grown given ranged spells (says, is) =
       rw (says, is) (event-extends config log event given ranged (typed-spelled line event given.width spells)
       (ranged-spelled line event spells))
   said-extends config log line line_of.Drain text grown given ranged spells (n, all, says, is) =
-      rw (says, is, append-nil (deliveries_text true config n log)) (deliveries-extend config n log given ranged)
+      rw (says, is, append-nil (deliveries_text form.Trace config n log)) (deliveries-extend config n log given ranged)
 
   -- the text is the trace, or the trace and the fault of an event behind it
   abbrev Ends : List ℕ → List ℕ → Status → Type 0
@@ -258,7 +259,7 @@ module _ (faults : Faults) (said : ℕ → List ℕ) (quiet : AreQuiet faults) w
   shows-trace : {w : ℕ} (config : Config) (n : ℕ) (log : Log w) (lines : List (List ℕ)) (text : List ℕ)
       (status : Status)
       → IsGiven config log → AreRanged log
-      → PlayedAfter true config n log lines text status → ShowsTrace config log text status
+      → PlayedAfter form.Trace config n log lines text status → ShowsTrace config log text status
   unfolding PlayedAfter JudgedAfter lines_of
   shows-trace config n log [] text status given ranged (is, ends) =
       rw ends (record { trace = []; verdict = said (length (trace_of log)); ends = is; judged = (refl, refl) })
@@ -356,7 +357,7 @@ module _ (faults : Faults) (said : ℕ → List ℕ) (quiet : AreQuiet faults) w
       )
 
   -- What `run --trace` writes is a trace without fault, up to the fault that ends it.
-  pub trace-quiet : (lines : List (List ℕ)) (text : List ℕ) (status : Status) → Played true lines text status
+  pub trace-quiet : (lines : List (List ℕ)) (text : List ℕ) (status : Status) → Played form.Trace lines text status
       → IsUpTo IsQuiet text status
   unfolding Played AreRanged
   trace-quiet [] text status (is, ends) = rw ends (inl is)

@@ -1,6 +1,7 @@
 pub mod Charted
 pub mod Coherent
 pub mod CommitSentences
+pub mod CommitsHeader
 pub mod Decoded
 pub mod Exit
 pub mod Explained

@@ -4,47 +4,57 @@ ghost use Rattle.std.specs.Prelude.{◌≡◌, IfOk, ⊤};
 ghost use Rattle.tl_engine.specs.declared.run_lines.RunLines.{RunLines};
 ghost use Rattle.tl_engine.specs.statement.Played.{Played};
 ghost use Rattle.tl_engine.specs.code.Judging.{Judges};
-ghost use Rattle.tl_engine.specs.code.Playing.{KnowsSchedule, Opens, is_trace};
+ghost use Rattle.tl_engine.specs.code.Playing.{KnowsSchedule, Opens, form_of};
 
 use crate::fault::Fault;
 use crate::line_handler::LineHandler;
-use crate::play::play;
-use crate::trace_header::{append_header, world_of};
+use crate::play::{Player, play, player_of};
+use crate::trace_header::append_header;
 use std::alloc::{AllocError, Global};
-use tl_client::any::AnyClient;
-use tl_manager::bits::BitDirectory;
+use tl_command::command::RunForm;
 use tl_params::width::Width;
 use tl_schedule::header::read_schedule;
 use tl_schedule::line::EventFault;
-use tl_world::world::World;
 
 /// Plays the lines of a schedule: the header, and then the events of a world of the clients that it names. Writes the
-/// outcomes, or the trace if `TRACES` is 1.
+/// outcomes if `FORM` is 0, the trace if it is 1, and the trace with commits if it is more.
 #[derive(Drop)]
-pub enum RunLines<const TRACES: usize> {
+pub enum RunLines<const FORM: usize> {
     /// The header hasn't been read.
     Waiting(Global),
-    Four(World<4, AnyClient<4>, BitDirectory>),
-    Eight(World<8, AnyClient<8>, BitDirectory>),
-    Sixteen(World<16, AnyClient<16>, BitDirectory>),
+    Four(Player<4>),
+    Eight(Player<8>),
+    Sixteen(Player<16>),
 }
 
-/// A world of the clients that a header names. None if the line is no header.
-fn open<const TRACES: usize>(
+/// The form that a number stands for.
+#[inline(always)]
+fn form_of(number: usize) -> RunForm
+    ensures { result ≡ form_of number }
+{
+    match number {
+        0 => RunForm::Outcomes,
+        1 => RunForm::Trace,
+        _ => RunForm::TraceWithCommits,
+    }
+}
+
+/// A player of a world of the clients that a header names. None if the line is no header.
+fn open<const FORM: usize>(
     alloc: Global,
     line: &[u8],
     out: &mut Vec<u8>,
-) -> Result<Option<RunLines<TRACES>>, AllocError>
+) -> Result<Option<RunLines<FORM>>, AllocError>
     ensures { IfOk result (Opens line.now out.old.items out.new.items) }
 {
     let Some(schedule) = read_schedule(line) else {
         return Ok(None);
     };
-    append_header(TRACES == 1, schedule.version, &schedule.config, out)?;
+    append_header(form_of(FORM), schedule.version, &schedule.config, out)?;
     let run_lines = match schedule.version.width() {
-        Width::Four => RunLines::Four(world_of(alloc, schedule.config)?),
-        Width::Eight => RunLines::Eight(world_of(alloc, schedule.config)?),
-        Width::Sixteen => RunLines::Sixteen(world_of(alloc, schedule.config)?),
+        Width::Four => RunLines::Four(player_of(alloc, schedule.config)?),
+        Width::Eight => RunLines::Eight(player_of(alloc, schedule.config)?),
+        Width::Sixteen => RunLines::Sixteen(player_of(alloc, schedule.config)?),
     };
     Ok(Some(run_lines))
 }
@@ -52,14 +62,14 @@ fn open<const TRACES: usize>(
 /// Continues with the world that the header names. A line that is no header is at fault.
 #[cold]
 #[inline(never)]
-fn start<const TRACES: usize>(
-    run_lines: &mut RunLines<TRACES>,
+fn start<const FORM: usize>(
+    run_lines: &mut RunLines<FORM>,
     alloc: Global,
     line: &[u8],
     out: &mut Vec<u8>,
 ) -> Result<Option<Fault>, AllocError>
     requires { run_lines.old ≡ RunLines.Waiting alloc }
-    ensures { IfOk result (Judges KnowsSchedule (Played (is_trace TRACES)) run_lines.old run_lines.new line.now
+    ensures { IfOk result (Judges KnowsSchedule (Played (form_of FORM)) run_lines.old run_lines.new line.now
         out.old.items out.new.items) }
 {
     match open(alloc, line, out)? {
@@ -71,25 +81,26 @@ fn start<const TRACES: usize>(
     }
 }
 
-impl<const TRACES: usize> LineHandler for RunLines<TRACES> {
+impl<const FORM: usize> LineHandler for RunLines<FORM> {
     ghost knows = { KnowsSchedule };
 
     ghost purpose = { λ _. tt };
 
-    ghost tells = { λ _. Played (is_trace TRACES) };
+    ghost tells = { λ _. Played (form_of FORM) };
 
     ghost ends = { λ _ _. ⊤ };
 
     #[inline(always)]
     fn handle_line(&mut self, line: &[u8], out: &mut Vec<u8>) -> Result<Option<Fault>, AllocError> {
+        let form = form_of(FORM);
         match self {
             RunLines::Waiting(alloc) => {
                 let alloc = *alloc;
                 start(self, alloc, line, out)
             }
-            RunLines::Four(world) => play(TRACES == 1, world, line, out),
-            RunLines::Eight(world) => play(TRACES == 1, world, line, out),
-            RunLines::Sixteen(world) => play(TRACES == 1, world, line, out),
+            RunLines::Four(player) => play(form, player, line, out),
+            RunLines::Eight(player) => play(form, player, line, out),
+            RunLines::Sixteen(player) => play(form, player, line, out),
         }
     }
 

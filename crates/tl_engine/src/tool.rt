@@ -11,13 +11,14 @@ use crate::run_lines::RunLines;
 use crate::status::{Status, ToolFault};
 use std::alloc::Global;
 use std::io::{Read, Write};
-use tl_command::command::{Command, Width};
+use tl_command::command::{Command, RunForm, Width};
 
 /// Runs a command: reads the input to its end or to the first line at fault, and writes the command's text of it. For
 /// `explain` that is only the verdict, since its reasons need a second reading. The memory of `decode` doesn't grow
 /// with the input. `monitor` keeps the unfinished bursts, the pending messages and the held blocks of each link.
 /// `coherent` also keeps, for each block that it has seen, when it was last free and the possible values of its bytes.
-/// `run` keeps the world that the schedule's header names.
+/// `run` keeps the world that the schedule's header names, and for a trace with commits the last request of each client
+/// with each source.
 ///
 /// `Broken` means that a `line N X` was written. It holds for every continuation of the input, unless line N is the
 /// rest after the last LF at the end of the input: fewer than 256 bytes, or nothing. `Clean` comes only at the end of
@@ -57,11 +58,14 @@ pub fn run_tool<R: Read, W: Write>(
         Command::Coherent => {
             handle_input(alloc, MonitorLines::<1>::Waiting(alloc), reader, writer)
         }
-        Command::Run { trace: false } => {
-            handle_input(alloc, RunLines::<0>::Waiting(alloc), reader, writer)
-        }
-        Command::Run { trace: true } => {
-            handle_input(alloc, RunLines::<1>::Waiting(alloc), reader, writer)
-        }
+        Command::Run {
+            form: RunForm::Outcomes,
+        } => handle_input(alloc, RunLines::<0>::Waiting(alloc), reader, writer),
+        Command::Run {
+            form: RunForm::Trace,
+        } => handle_input(alloc, RunLines::<1>::Waiting(alloc), reader, writer),
+        Command::Run {
+            form: RunForm::TraceWithCommits,
+        } => handle_input(alloc, RunLines::<2>::Waiting(alloc), reader, writer),
     }
 }

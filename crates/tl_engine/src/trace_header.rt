@@ -1,15 +1,17 @@
 //! Begins to play a schedule: its header.
 
-ghost use Rattle.std.specs.Prelude.{◌≡◌, ◌++◌, [], map, IfOk, OnOk, None};
+ghost use Rattle.std.specs.Prelude.{◌≡◌, ◌++◌, [], map, false, true, IfOk, OnOk, None};
 ghost use Rattle.tl_beat.specs.statement.Width.{IsWidth};
 ghost use Rattle.tl_params.specs.statement.Config.{config_fault};
 ghost use Rattle.tl_params.specs.statement.Header.{level_text, profile_text, version_text, width_text};
+ghost use Rattle.tl_engine.specs.statement.CommitsHeader.{commits_header_line, level_shown, levels_shown, liberties_text};
 ghost use Rattle.tl_engine.specs.statement.Played.{header_text};
 ghost use Rattle.tl_engine.specs.statement.PlayableWorld.{HasHappened};
-ghost use Rattle.tl_engine.specs.statement.Trace.{header_line, levels_text};
+ghost use Rattle.tl_engine.specs.statement.Trace.{header_line};
 
 use std::alloc::{AllocError, Global};
 use tl_client::any::AnyClient;
+use tl_command::command::RunForm;
 use tl_manager::bits::BitDirectory;
 use tl_params::header::Version;
 use tl_params::width::Width;
@@ -68,13 +70,28 @@ pub fn level_word(level: Level) -> &'static str
     }
 }
 
-/// Appends the levels of clients, each after a space.
-fn append_levels(clients: &[ClientConfig], out: &mut Vec<u8>) -> Result<(), AllocError>
-    ensures { OnOk result (out.new.items ≡ out.old.items ++ levels_text (map (λ client. client.level) clients.now)) }
+/// The name of a level in a header, with the mark if all stores of the clients of level C are in the trace.
+fn shown_word(marked: bool, level: Level) -> &'static str
+    ensures { result.now ≡ level_shown marked level }
+{
+    match level {
+        Level::C if marked => "C+",
+        level => level_word(level),
+    }
+}
+
+/// Appends the levels of clients, each after a space, with their marks.
+fn append_levels(
+    marked: bool,
+    clients: &[ClientConfig],
+    out: &mut Vec<u8>,
+) -> Result<(), AllocError>
+    ensures { OnOk result (out.new.items
+        ≡ out.old.items ++ levels_shown marked (map (λ client. client.level) clients.now)) }
 {
     for client in clients {
         out.push(b' ')?;
-        out.extend_from_slice(level_word(client.level).as_bytes())?;
+        out.extend_from_slice(shown_word(marked, client.level).as_bytes())?;
     }
     Ok(())
 }
@@ -90,24 +107,54 @@ fn append_trace_header(
 {
     out.extend_from_slice(b"tltrace ")?;
     append_version(version, out)?;
-    append_levels(clients, out)?;
+    append_levels(false, clients, out)?;
+    out.push(b'\n')?;
+    Ok(())
+}
+
+/// The word for the liberties of a profile.
+fn liberties_word(profile: Profile) -> &'static str
+    ensures { result.now ≡ liberties_text profile }
+{
+    match profile {
+        Profile::One => "none",
+        Profile::Two => "writer",
+    }
+}
+
+/// Appends the header of a trace of these clients with their stores and loads.
+fn append_commits_header(
+    version: Version,
+    clients: &[ClientConfig],
+    out: &mut Vec<u8>,
+) -> Result<(), AllocError>
+    ensures { OnOk result (out.new.items
+        ≡ out.old.items ++ commits_header_line version (map (λ client. client.level) clients.now)) }
+{
+    out.extend_from_slice(b"tltrace 4 ")?;
+    out.extend_from_slice(width_word(version.width()).as_bytes())?;
+    out.push(b' ')?;
+    out.extend_from_slice(liberties_word(version.profile()).as_bytes())?;
+    append_levels(true, clients, out)?;
     out.push(b'\n')?;
     Ok(())
 }
 
 /// Appends the header of the trace, if one is to be written.
 pub fn append_header(
-    trace: bool,
+    form: RunForm,
     version: Version,
     config: &Config,
     out: &mut Vec<u8>,
 ) -> Result<(), AllocError>
-    ensures { OnOk result (out.new.items ≡ out.old.items ++ header_text trace version config.now.clients.items) }
+    ensures { OnOk result (out.new.items ≡ out.old.items ++ header_text form version config.now.clients.items) }
 {
-    if trace {
-        append_trace_header(version, config.clients.as_slice(), out)
-    } else {
-        Ok(())
+    match form {
+        RunForm::Outcomes => Ok(()),
+        RunForm::Trace => append_trace_header(version, config.clients.as_slice(), out),
+        RunForm::TraceWithCommits => {
+            append_commits_header(version, config.clients.as_slice(), out)
+        }
     }
 }
 

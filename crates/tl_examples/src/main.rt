@@ -10,7 +10,7 @@ use std::io::{Read, Write};
 use std::process::ExitCode;
 use std::{fs, io};
 use tl_commit_lines::run::run_events;
-use tl_engine::command::Command;
+use tl_engine::command::{Command, RunForm};
 use tl_engine::explain::explain_input;
 use tl_engine::explain_fault::ExplainFault;
 use tl_engine::named::tell_named;
@@ -387,8 +387,15 @@ fn tell_names(rt: &HostRuntime, names: &[&str]) -> bool {
 }
 
 fn main(rt: HostRuntime) -> ExitCode {
-    let run = Command::Run { trace: false };
-    let trace = Command::Run { trace: true };
+    let run = Command::Run {
+        form: RunForm::Outcomes,
+    };
+    let trace = Command::Run {
+        form: RunForm::Trace,
+    };
+    let commits = Command::Run {
+        form: RunForm::TraceWithCommits,
+    };
     if tell_all(&rt, Command::Monitor, &TRACES, b": ")
         && tell_all(&rt, Command::Coherent, &TOGETHER, b" coherent: ")
         && judge_all(&rt, false, &WIDE, b": ")
@@ -398,6 +405,7 @@ fn main(rt: HostRuntime) -> ExitCode {
         && judge_all(&rt, true, &COMMITS, b" coherent: ")
         && tell_all(&rt, run, &SCHEDULES, b":\n")
         && tell_all(&rt, trace, &TRACED, b" --trace:\n")
+        && tell_all(&rt, commits, &TRACED, b" --trace --commits:\n")
         && explain_all(&rt, false, &TRACES)
         && explain_all(&rt, false, &FAULTS)
         && explain_all(&rt, false, &PENDING)

@@ -27,9 +27,9 @@ use Rattle.tl_words.specs.Tool.{together_named, tool_of, words_in}
 use Rattle.tl_params.specs.declared.liberties.Liberties.{Liberties}
 
 -- the same words name the same command
-pub named_alike : (name : Text) {a b c d w x y z : Option Text} → a ≡ w → b ≡ x → c ≡ y → d ≡ z
-    → command_named name w x y z ≡ command_named name a b c d
-named_alike name p q r s = cc
+pub named_alike : (name : Text) {a b c d e v w x y z : Option Text} → a ≡ v → b ≡ w → c ≡ x → d ≡ y → e ≡ z
+    → command_named name v w x y z ≡ command_named name a b c d e
+named_alike name p q r s t = cc
 
 -- the words of options, one by one
 abbrev pub words : Option Text → Option Text → Option Text → Option Text → Option Text → Option Text → Option Text

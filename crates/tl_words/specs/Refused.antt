@@ -32,8 +32,8 @@ AsksNothing None = ⊤
 AsksNothing (Some (name, rows)) = (task : Task) → ¬ IsTaskOf name rows task
 
 -- `clap` doesn't take the words (it shows help or the version, or says what is wrong); or they ask for
--- nothing that the program can do, since a word has no meaning or `explain` has no FILE, and the
--- error says so
+-- nothing that the program can do, since a word has no meaning, `explain` has no FILE or
+-- `--commits` has no `--trace`, and the error says so
 abbrev pub AreRefused : List Text → Error → Type 0
 AreRefused words error = (takes tool_of words ≡ false)
     ⊎ (AsksNothing (subcommand_of tool_of words) × (status_of_usage error ≡ 2))

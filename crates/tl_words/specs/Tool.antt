@@ -8,6 +8,8 @@ use Rattle.clap.specs.declared.builder.action.ArgAction.TheVariants.{Append, Set
 use Rattle.clap.specs.Words.{App, Row, Rule, Text, all_of, first_of, new_app, new_rule, with_rule, with_subcommand}
 use Rattle.tl_command.specs.declared.command.Command.{Command}
 use Rattle.tl_command.specs.declared.command.Command.TheVariants.{Coherent, Decode, Explain, Monitor, Run}
+use Rattle.tl_command.specs.declared.command.RunForm.{RunForm}
+use Rattle.tl_command.specs.declared.command.RunForm.TheVariants as run
 use Rattle.tl_command.specs.declared.cover.CoverForm.{CoverForm}
 use Rattle.tl_command.specs.declared.cover.CoverForm.TheVariants as form
 use Rattle.tl_command.specs.declared.search.Aim.{Aim}
@@ -78,9 +80,10 @@ abbrev pub cover_of : App
 cover_of = with_rule (with_rule (with_rule (new_app (codes "cover")) (flag_rule (codes "tables")))
     (flag_rule (codes "json"))) (several_rule (codes "FILE"))
 
--- `run [--trace] [FILE]`
+-- `run [--trace] [--commits] [FILE]`
 abbrev pub run_of : App
-run_of = with_rule (with_rule (new_app (codes "run")) (flag_rule (codes "trace"))) (new_rule (codes "FILE"))
+run_of = with_rule (with_rule (with_rule (new_app (codes "run")) (flag_rule (codes "trace")))
+    (flag_rule (codes "commits"))) (new_rule (codes "FILE"))
 
 -- `--seed N`, which has to be given
 abbrev pub seed_rule : Rule
@@ -140,19 +143,27 @@ abbrev pub flag_named : Option Text → Bool
 flag_named None = false
 flag_named (Some word) = bytes_eq word (codes "true")
 
--- the command of this name, with the words of its width, of its flag and of its file, which `explain` must have
-abbrev pub command_named : Text → Option Text → Option Text → Option Text → Option Text → Option Command
-command_named name width trace coherent file =
+-- the form of the output of `run`, by whether `--trace` and `--commits` are given; none for commits without a trace
+abbrev pub run_form : Bool → Bool → Option RunForm
+run_form false false = Some run.Outcomes
+run_form true false = Some run.Trace
+run_form true true = Some run.TraceWithCommits
+run_form false true = None
+
+-- the command of this name, with the words of its width, of its flags and of its file, which `explain` must have
+abbrev pub command_named : Text → Option Text → Option Text → Option Text → Option Text → Option Text → Option Command
+command_named name width trace commits coherent file =
     if bytes_eq name (codes "decode") then option_map Decode (width_named width) else
     if bytes_eq name (codes "monitor") then Some Monitor else
     if bytes_eq name (codes "coherent") then Some Coherent else
     if bytes_eq name (codes "explain") then option_map (λ _. Explain (flag_named coherent)) file else
-    if bytes_eq name (codes "run") then Some (Run (flag_named trace)) else None
+    if bytes_eq name (codes "run") then option_map Run (run_form (flag_named trace) (flag_named commits)) else
+    None
 
 -- the command and the FILE that a subcommand's name and entries give
 abbrev pub command_in : Text → List Row → Option Command
 command_in name rows = command_named name (first_of (codes "width") rows) (first_of (codes "trace") rows)
-    (first_of (codes "coherent") rows) (first_of (codes "FILE") rows)
+    (first_of (codes "commits") rows) (first_of (codes "coherent") rows) (first_of (codes "FILE") rows)
 
 abbrev pub file_in : List Row → Option Text
 file_in rows = first_of (codes "FILE") rows

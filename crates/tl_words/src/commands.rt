@@ -201,7 +201,8 @@ pub fn cover<'a>(alloc: Global) -> Result<clap::Command<'a>, AllocError>
     with_argument(cover, files(alloc, FILES_HELP))
 }
 
-fn run<'a>(alloc: Global) -> Result<clap::Command<'a>, AllocError>
+/// `tltool run`.
+pub fn run<'a>(alloc: Global) -> Result<clap::Command<'a>, AllocError>
     ensures app { IfOk result (λ c. app_of c ≡ run_of) }
     ensures local { IfOk result (λ c. (out-Command c).has_globals ≡ false) }
 {
@@ -210,13 +211,15 @@ fn run<'a>(alloc: Global) -> Result<clap::Command<'a>, AllocError>
         "trace",
         "Write the beats that move as a trace, with its header",
     );
+    let commits = flag(alloc, "commits", help::COMMITS);
     let run = named(
         alloc,
         "run",
         "Runs a schedule on a manager and its clients: writes the outcome of each event",
         help::RUN,
     );
-    with_argument(with_argument(run, trace)?, file(alloc, FILE_HELP))
+    let run = with_argument(with_argument(run, trace)?, commits)?;
+    with_argument(run, file(alloc, FILE_HELP))
 }
 
 /// The program with its commands that read traces.

@@ -263,6 +263,10 @@ pub const COVER: &str = outcomes_of_a_trace!(
     "\n  tltool random --seed 1 | tltool run --trace | tltool cover --json",
 );
 
+/// The help on `--commits`.
+pub const COMMITS: &str =
+    "With --trace: write the stores and loads of the clients of level C too, which `coherent` checks";
+
 /// The help after the options of `run`.
 pub const RUN: &str = outcomes!(
     "`tltool explain X` says what X means.\n",
@@ -273,6 +277,7 @@ pub const RUN: &str = outcomes!(
     ;
     "\n  tltool run schedules/a_part_of_a_word.schedule",
     "\n  tltool run --trace schedules/a_writer_becomes_a_reader.schedule | tltool monitor",
+    "\n  tltool run --trace --commits schedules/a_writer_becomes_a_reader.schedule | tltool coherent",
 );
 
 /// The help after the options of `random`.

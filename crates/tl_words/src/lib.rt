@@ -6,5 +6,6 @@ mod commands;
 mod cover_words;
 mod help;
 mod report;
+mod run_words;
 mod wide_words;
 pub mod words;

@@ -1,8 +1,8 @@
 //! Reads the program's words: `tltool decode [--wide] [--width BYTES] [FILE]`, `tltool monitor [--allow LIBERTIES] [--all N]
 //! [--report FILE] [--junit FILE] [FILE]`, `tltool coherent` with the same options, `tltool explain [--coherent]
 //! [--allow LIBERTIES] FILE`, `tltool chart [--lines A-B] [--block BBB] [--allow LIBERTIES]
-//! [FILE]`, `tltool cover [--tables] [--json] [FILE..]`, `tltool run [--trace] [FILE]`, `tltool random --seed N` with its options,
-//! and those that ask for help or the version.
+//! [FILE]`, `tltool cover [--tables] [--json] [FILE..]`, `tltool run [--trace] [--commits] [FILE]`, `tltool random --seed N`
+//! with its options, and those that ask for help or the version.
 
 ghost use Rattle.std.specs.Prelude.{◌≡◌, IfOk, IfErr, true, false};
 ghost use Rattle.std.specs.Prelude.{List, Some, bytes_eq, codes, map, option_map};
@@ -19,6 +19,7 @@ use crate::commands::{chart, coherent, decode, explain, monitor, random, tool};
 use crate::cover_words::tell_covered;
 use crate::help;
 use crate::report::{is_reported, report};
+use crate::run_words::{commits_alone, run_form};
 use crate::wide_words::{decode_wide, is_wide};
 use clap::ArgMatches;
 use clap::error::ErrorKind;
@@ -85,12 +86,13 @@ fn command_named(
     name: &str,
     width: Option<&str>,
     trace: Option<&str>,
+    commits: Option<&str>,
     coherent: Option<&str>,
     file: Option<&str>,
 ) -> Option<Command>
     ensures { result ≡ command_named name.now (option_map (λ s. s.now) width.entry)
-        (option_map (λ s. s.now) trace.entry) (option_map (λ s. s.now) coherent.entry)
-        (option_map (λ s. s.now) file.entry) }
+        (option_map (λ s. s.now) trace.entry) (option_map (λ s. s.now) commits.entry)
+        (option_map (λ s. s.now) coherent.entry) (option_map (λ s. s.now) file.entry) }
 {
     match name {
         "decode" => {
@@ -105,9 +107,10 @@ fn command_named(
                 coherent: flag_named(coherent),
             }),
         },
-        "run" => Some(Command::Run {
-            trace: flag_named(trace),
-        }),
+        "run" => {
+            let form = run_form(flag_named(trace), flag_named(commits))?;
+            Some(Command::Run { form })
+        }
         _ => None,
     }
 }
@@ -145,7 +148,7 @@ fn missing_file(alloc: Global) -> Result<clap::Error, AllocError>
     )
 }
 
-/// The error of words that name no width, or no file to explain.
+/// The error of words that name no width, no file to explain, or no trace for commits.
 pub(crate) fn wrong_words(
     alloc: Global,
     name: &str,
@@ -153,10 +156,10 @@ pub(crate) fn wrong_words(
 ) -> Result<clap::Error, AllocError>
     ensures { IfOk result (λ error. status_of_usage error ≡ 2) }
 {
-    if name == "explain" {
-        missing_file(alloc)
-    } else {
-        wrong_width(alloc, width)
+    match name {
+        "explain" => missing_file(alloc),
+        "run" => commits_alone(alloc),
+        _ => wrong_width(alloc, width),
     }
 }
 
@@ -315,12 +318,13 @@ fn read(alloc: Global, name: &str, allow: Liberties, found: &ArgMatches) -> Resu
 {
     let width = found.get_str("width");
     let trace = found.get_str("trace");
+    let commits = found.get_str("commits");
     let coherent = found.get_str("coherent");
     let name_of_file = found.get_str("FILE");
     if let Some(word) = found.get_str("all") {
         return search(alloc, name, allow, word, name_of_file);
     }
-    let Some(command) = command_named(name, width, trace, coherent, name_of_file) else {
+    let Some(command) = command_named(name, width, trace, commits, coherent, name_of_file) else {
         return Err(WordsFault::Usage(wrong_words(alloc, name, width)?));
     };
     let file = copied(alloc, name_of_file)?;

@@ -17,7 +17,7 @@ text_told (Decode width) = DecodesTo (bytes_of width)
 text_told Monitor = Judged
 text_told (Explain together) = JudgedSo together
 text_told Coherent = JudgedTogether
-text_told (Run trace) = Played trace
+text_told (Run form) = Played form
 
 -- the text that the end of an input of n lines adds, none of which is at fault
 abbrev pub end_text : Command → ℕ → List ℕ
@@ -25,7 +25,7 @@ end_text (Decode width) n = []
 end_text Monitor n = clean_text (n - 1)
 end_text (Explain together) n = said_by together (n - 1)
 end_text Coherent n = coherent_text (n - 1)
-end_text (Run trace) n = []
+end_text (Run form) n = []
 
 -- the text of these lines, none of which is at fault, before the end of the input
 abbrev pub text_so_far : Command → List (List ℕ) → List ℕ → Type 0

@@ -3,7 +3,7 @@
 use crate::text::device::{Narrow, Slow};
 use std::fmt::Write as _;
 use std::test::Fail;
-use tl_engine::command::{Command, Width};
+use tl_engine::command::{Command, RunForm, Width};
 use tl_engine::output::write_open_fault;
 use tl_engine::status::{Status, ToolFault, exit_of};
 use tl_engine::tool::run_tool;
@@ -11,6 +11,16 @@ use tl_engine::tool::run_tool;
 /// The command that reads beats of eight bytes.
 pub const DECODE: Command = Command::Decode {
     width: Width::Eight,
+};
+
+/// The command that writes the outcomes of a schedule.
+const RUN: Command = Command::Run {
+    form: RunForm::Outcomes,
+};
+
+/// The command that writes the trace of a schedule.
+const TRACED: Command = Command::Run {
+    form: RunForm::Trace,
 };
 
 /// The line of a Get.
@@ -42,12 +52,12 @@ fn a_fault_of_the_reader(rt: HostRuntime) -> Result<(), Fail> {
         (DECODE, GET, GET_TEXT),
         (Command::Monitor, TRACE, b""),
         (
-            Command::Run { trace: false },
+            RUN,
             SCHEDULE,
             b"started 00\n00 A 4 0 3 00 00000000 ff - 0\n00 D 1 0 3 00 00 0 0000000000000000 0 done 00 data 0000000000000000\ndrained 2\n",
         ),
         (
-            Command::Run { trace: true },
+            TRACED,
             SCHEDULE,
             b"tltrace 1 UL\n00 A 4 0 3 00 00000000 ff - 0\n00 D 1 0 3 00 00 0 0000000000000000 0\n",
         ),
@@ -68,8 +78,8 @@ fn a_fault_of_the_writer(rt: HostRuntime) {
     let rows: [(Command, &[u8], &[u8]); 4] = [
         (DECODE, GET, b"00 A Get 0"),
         (Command::Monitor, TRACE, b"clean 1"),
-        (Command::Run { trace: false }, SCHEDULE, b"started"),
-        (Command::Run { trace: true }, SCHEDULE, b"tltrace 1 U"),
+        (RUN, SCHEDULE, b"started"),
+        (TRACED, SCHEDULE, b"tltrace 1 U"),
     ];
     for (command, input, taken) in rows {
         for fails in [false, true] {
@@ -92,25 +102,23 @@ fn asks_for_nothing_after_the_fault(rt: HostRuntime) {
     trace[..12].copy_from_slice(b"tltrace 1 C\n");
     let mut schedule = [b' '; 275];
     schedule[..19].copy_from_slice(b"tlsched 1 1 1 UL:1\n");
-    let run = Command::Run { trace: false };
-    let traced = Command::Run { trace: true };
     let rows: [(Command, &[u8], &[u8]); 12] = [
         (DECODE, b"x\n", b"line 1 F1\n"),
         (DECODE, &long, b"line 1 F1\n"),
         (Command::Monitor, b"x\n", b"line 1 F7\n"),
         (Command::Monitor, &blank, b"line 1 F7\n"),
         (Command::Monitor, &trace, b"line 2 F1\n"),
-        (run, b"x\n", b"line 1 F7\n"),
-        (run, &blank, b"line 1 F7\n"),
-        (run, b"tlsched 1 1 1 UL:1\nx\n", b"line 2 F8\n"),
-        (run, &schedule, b"line 2 F1\n"),
-        (traced, b"x\n", b"line 1 F7\n"),
+        (RUN, b"x\n", b"line 1 F7\n"),
+        (RUN, &blank, b"line 1 F7\n"),
+        (RUN, b"tlsched 1 1 1 UL:1\nx\n", b"line 2 F8\n"),
+        (RUN, &schedule, b"line 2 F1\n"),
+        (TRACED, b"x\n", b"line 1 F7\n"),
         (
-            traced,
+            TRACED,
             b"tlsched 1 1 1 UL:1\nx\n",
             b"tltrace 1 UL\nline 2 F8\n",
         ),
-        (traced, &schedule, b"tltrace 1 UL\nline 2 F1\n"),
+        (TRACED, &schedule, b"tltrace 1 UL\nline 2 F1\n"),
     ];
     for (command, input, text) in rows {
         let mut reader = Slow::new(input, true);

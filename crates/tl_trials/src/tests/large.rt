@@ -9,7 +9,7 @@ use std::cell::Cell;
 use std::io::{self, Read, Write};
 use std::process::Abort;
 use std::test::Fail;
-use tl_engine::command::Command;
+use tl_engine::command::{Command, RunForm};
 use tl_engine::status::Status;
 use tl_engine::tool::run_tool;
 
@@ -140,7 +140,7 @@ fn append_blocks(schedule: &mut Vec<u8>) -> io::Result<()> {
 
 /// The text of the large schedule, of 259 lines and one at fault after them, whose reader fails if it is asked for
 /// more. The text is the same if the schedule comes in one piece, and all of the text waits.
-fn played(rt: &impl Abort, alloc: Global, trace: bool) -> Result<Vec<u8>, Fail> {
+fn played(rt: &impl Abort, alloc: Global, form: RunForm) -> Result<Vec<u8>, Fail> {
     let mut schedule = Vec::new(alloc);
     writeln!(&mut schedule, "tlsched 1 1024 8 {CLIENTS}")?;
     append_accesses(&mut schedule)?;
@@ -148,10 +148,10 @@ fn played(rt: &impl Abort, alloc: Global, trace: bool) -> Result<Vec<u8>, Fail> 
     writeln!(&mut schedule, "10 drain")?;
     let mut reader = Slow::new(schedule.as_slice(), true);
     let mut text = Vec::new(alloc);
-    let _ = run_tool(alloc, Command::Run { trace }, &mut reader, &mut text)?;
+    let _ = run_tool(alloc, Command::Run { form }, &mut reader, &mut text)?;
     let mut reader = schedule.as_slice();
     let mut at_once = Vec::new(alloc);
-    let _ = run_tool(alloc, Command::Run { trace }, &mut reader, &mut at_once)?;
+    let _ = run_tool(alloc, Command::Run { form }, &mut reader, &mut at_once)?;
     assert!(rt; at_once.as_slice() == text.as_slice());
     Ok(text)
 }
@@ -168,7 +168,7 @@ fn lines_that_end(text: &[u8], end: &[u8]) -> usize {
 /// GrantAck.
 #[test]
 fn plays_a_large_schedule(rt: HostRuntime) -> Result<(), Fail> {
-    let text = played(&rt, rt.alloc(), false)?;
+    let text = played(&rt, rt.alloc(), RunForm::Outcomes)?;
     let text = text.as_slice();
     assert!(rt; text.ends_with(b"\ndrained 1088\nline 260 F8\n"));
     assert_eq!(rt;
@@ -194,7 +194,7 @@ fn plays_a_large_schedule(rt: HostRuntime) -> Result<(), Fail> {
 /// The monitor finds no fault in its trace.
 #[test]
 fn traces_a_large_schedule(rt: HostRuntime) -> Result<(), Fail> {
-    let text = played(&rt, rt.alloc(), true)?;
+    let text = played(&rt, rt.alloc(), RunForm::Trace)?;
     assert!(rt; text.ends_with(b"\nline 260 F8\n"));
     let end = text.len().saturating_sub(12);
     let mut reader = &text.as_slice()[..end];

@@ -1,6 +1,6 @@
 //! The kinds of sections, by the names in their first lines.
 
-use tl_engine::command::Command;
+use tl_engine::command::{Command, RunForm};
 use tl_params::level::Level;
 use tl_params::width::Width;
 
@@ -62,8 +62,15 @@ fn command_of(name: &str) -> Option<Command> {
         }),
         "monitor" => Some(Command::Monitor),
         "coherent" => Some(Command::Coherent),
-        "run" => Some(Command::Run { trace: false }),
-        "run --trace" => Some(Command::Run { trace: true }),
+        "run" => Some(Command::Run {
+            form: RunForm::Outcomes,
+        }),
+        "run --trace" => Some(Command::Run {
+            form: RunForm::Trace,
+        }),
+        "run --trace --commits" => Some(Command::Run {
+            form: RunForm::TraceWithCommits,
+        }),
         _ => None,
     }
 }

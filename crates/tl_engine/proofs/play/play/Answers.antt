@@ -4,5 +4,5 @@ use Rattle.tl_engine.proofs.play.play.Goals as goal
 
 pub returns-in_ok-play_common-in-Some : goal.returns-in_ok-play_common-in-Some
 returns-in_ok-play_common-in-Some g c =
-    line-said c.args.trace c.args.world.now c.play_common.new.world c.args.line.now (common_event c.in-Some.common) c.args.out.now.items
+    line-said c.args.form c.args.player.now c.play_common.new.player c.args.line.now (common_event c.in-Some.common) c.args.out.now.items
     c.play_common.new.out.items (c.in-Some.ensures g.row.W) c.in_ok-play_common-in-Some.ensures

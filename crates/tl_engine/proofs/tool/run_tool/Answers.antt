@@ -3,6 +3,7 @@ use Rattle.tl_engine.proofs.Decoded.{decodes_more, judged_line}
 use Rattle.tl_engine.proofs.Judged.{judged_total}
 use Rattle.tl_engine.proofs.Playing.{played-total}
 use Rattle.tl_command.specs.declared.command.Command.TheVariants.{Coherent, Decode, Explain, Monitor, Run}
+use Rattle.tl_command.specs.declared.command.RunForm.TheVariants.{Outcomes, Trace, TraceWithCommits}
 use Rattle.tl_params.specs.declared.width.Width.TheVariants.{Four, Eight, Sixteen}
 use Rattle.tl_engine.specs.declared.decoder.Decoder.{Decoder}
 use Rattle.tl_engine.specs.statement.Coherent.{JudgedTogether}
@@ -37,11 +38,14 @@ handle_input-requires-in-Explain-true-clause-total g c = judged_total 1
 pub handle_input-requires-in-Coherent-clause-total : goal.handle_input-requires-in-Coherent-clause-total
 handle_input-requires-in-Coherent-clause-total g c = judged_total 1
 
-pub handle_input-requires-in-Run-false-clause-total : goal.handle_input-requires-in-Run-false-clause-total
-handle_input-requires-in-Run-false-clause-total g c = played-total 0
+pub handle_input-requires-in-Run-Outcomes-clause-total : goal.handle_input-requires-in-Run-Outcomes-clause-total
+handle_input-requires-in-Run-Outcomes-clause-total g c = played-total 0
 
-pub handle_input-requires-in-Run-true-clause-total : goal.handle_input-requires-in-Run-true-clause-total
-handle_input-requires-in-Run-true-clause-total g c = played-total 1
+pub handle_input-requires-in-Run-Trace-clause-total : goal.handle_input-requires-in-Run-Trace-clause-total
+handle_input-requires-in-Run-Trace-clause-total g c = played-total 1
+
+pub handle_input-requires-in-Run-TraceWithCommits-clause-total : goal.handle_input-requires-in-Run-TraceWithCommits-clause-total
+handle_input-requires-in-Run-TraceWithCommits-clause-total g c = played-total 2
 
 pub returns-in-Four-clause-fault : goal.returns-in-Four-clause-fault
 returns-in-Four-clause-fault g c =
@@ -87,16 +91,23 @@ returns-in-Coherent-clause-fault g c =
     (λ lines text known. judged_so_far 1 known.0 lines text known.1)
     _ _ _ _ _ c.handle_input-in-Coherent.ensures.fault)
 
-pub returns-in-Run-false-clause-fault : goal.returns-in-Run-false-clause-fault
-returns-in-Run-false-clause-fault g c =
-    let shown : c.in-Run-false.trace ≡ false = search rules in
-    rw (c.in-Run-false.is, shown) (told_without_purpose (KnowsSchedule {n = 0}) (Played false) (text_so_far (Run false))
+pub returns-in-Run-Outcomes-clause-fault : goal.returns-in-Run-Outcomes-clause-fault
+returns-in-Run-Outcomes-clause-fault g c =
+    let shown : c.in-Run-Outcomes.form ≡ Outcomes = search rules in
+    rw (c.in-Run-Outcomes.is, shown) (told_without_purpose (KnowsSchedule {n = 0}) (Played Outcomes) (text_so_far (Run Outcomes))
     (λ lines text known. played_so_far 0 known.0 lines text known.1)
-    _ _ _ _ _ c.handle_input-in-Run-false.ensures.fault)
+    _ _ _ _ _ c.handle_input-in-Run-Outcomes.ensures.fault)
 
-pub returns-in-Run-true-clause-fault : goal.returns-in-Run-true-clause-fault
-returns-in-Run-true-clause-fault g c =
-    let shown : c.in-Run-true.trace ≡ true = search rules in
-    rw (c.in-Run-true.is, shown) (told_without_purpose (KnowsSchedule {n = 1}) (Played true) (text_so_far (Run true))
+pub returns-in-Run-Trace-clause-fault : goal.returns-in-Run-Trace-clause-fault
+returns-in-Run-Trace-clause-fault g c =
+    let shown : c.in-Run-Trace.form ≡ Trace = search rules in
+    rw (c.in-Run-Trace.is, shown) (told_without_purpose (KnowsSchedule {n = 1}) (Played Trace) (text_so_far (Run Trace))
     (λ lines text known. played_so_far 1 known.0 lines text known.1)
-    _ _ _ _ _ c.handle_input-in-Run-true.ensures.fault)
+    _ _ _ _ _ c.handle_input-in-Run-Trace.ensures.fault)
+
+pub returns-in-Run-TraceWithCommits-clause-fault : goal.returns-in-Run-TraceWithCommits-clause-fault
+returns-in-Run-TraceWithCommits-clause-fault g c =
+    let shown : c.in-Run-TraceWithCommits.form ≡ TraceWithCommits = search rules in
+    rw (c.in-Run-TraceWithCommits.is, shown) (told_without_purpose (KnowsSchedule {n = 2}) (Played TraceWithCommits) (text_so_far (Run TraceWithCommits))
+    (λ lines text known. played_so_far 2 known.0 lines text known.1)
+    _ _ _ _ _ c.handle_input-in-Run-TraceWithCommits.ensures.fault)

@@ -23,6 +23,7 @@ returns-in_default-command_named-clause-wrong c = (
       (named_alike c.args.name.now
       (c.get_str-width.ensures ∙ first_value-rows (found_of c.args.found.now) (codes "width"))
       (c.get_str-trace.ensures ∙ first_value-rows (found_of c.args.found.now) (codes "trace"))
+      (c.get_str-commits.ensures ∙ first_value-rows (found_of c.args.found.now) (codes "commits"))
       (c.get_str-coherent.ensures ∙ first_value-rows (found_of c.args.found.now) (codes "coherent"))
       (c.get_str-name_of_file.ensures ∙ first_value-rows (found_of c.args.found.now) (codes "FILE")) ∙ sym
       c.in_default-command_named.ensures)
@@ -40,6 +41,7 @@ returns-clause-read c = (
   named_alike c.args.name.now
       (c.get_str-width.ensures ∙ first_value-rows (found_of c.args.found.now) (codes "width"))
       (c.get_str-trace.ensures ∙ first_value-rows (found_of c.args.found.now) (codes "trace"))
+      (c.get_str-commits.ensures ∙ first_value-rows (found_of c.args.found.now) (codes "commits"))
       (c.get_str-coherent.ensures ∙ first_value-rows (found_of c.args.found.now) (codes "coherent"))
       (c.get_str-name_of_file.ensures ∙ first_value-rows (found_of c.args.found.now) (codes "FILE")) ∙ sym
       c.in-Some-command_named.ensures,

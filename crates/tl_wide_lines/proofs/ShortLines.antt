@@ -1,7 +1,7 @@
 -- A line without the higher digits of its names spells the lower halves of a wide beat.
-use Rattle.std.proofs.Common.{◌≡◌, ◌≤◌, ◌<◌, ℕ, zero, suc, ◌+◌, ◌-◌, ◌*◌, ◌/◌, ◌%◌, ◌^◌, Bool, true, List, [], ◌∷◌, ◌++◌, length}
-use Rattle.std.proofs.Common.{take, drop, refl, sym, ap, ap₂, ◌∙◌, arith, append-nil, length-append}
-use Rattle.std.proofs.lemmas.List.{take-append-drop, drop_all, drop-drop}
+use Rattle.std.proofs.Common.{◌≡◌, ◌≤◌, ◌<◌, ℕ, zero, suc, ◌+◌, ◌-◌, ◌*◌, ◌/◌, ◌%◌, ◌^◌, true, List, [], ◌∷◌, ◌++◌, length}
+use Rattle.std.proofs.Common.{take, drop, refl, sym, ap, ap₂, ◌∙◌, arith, append-nil}
+use Rattle.std.proofs.lemmas.List.{take-append-drop, drop-drop}
 use Rattle.std.proofs.lemmas.Bool.{and_parts, ltb-true}
 use Rattle.std.proofs.lemmas.Nat.{le_bytes_8}
 use Rattle.std.specs.Int.{from_le_bytes, to_le_bytes}
@@ -29,10 +29,10 @@ use Rattle.tl_beat.specs.statement.Line.{Spells, letter, line_of, spaced}
 use Rattle.tl_beat.specs.statement.Opcode.{a_code, b_code, c_code, d_code}
 use Rattle.tl_wide.proofs.Digits.{high-digits}
 use Rattle.tl_wide_lines.specs.code.ShortLine.{SpellsWidened, shortened, whole_address}
-use Rattle.tl_wide_lines.specs.code.ShortLine.{whole_id, widened, widened_a, widened_b, widened_c, widened_d}
+use Rattle.tl_wide_lines.specs.code.ShortLine.{whole_id, widened_a, widened_b, widened_c, widened_d}
 use Rattle.tl_wide.specs.declared.beat.WideBeat.TheVariants as wide
 use Rattle.tl_wide_lines.specs.declared.short.High.{High}
-use Rattle.tl_wide.specs.statement.Line.{WideSpells, wide_line}
+use Rattle.tl_wide.specs.statement.Line.{wide_line}
 
 -- ---- digits
 

@@ -1,6 +1,6 @@
 //! Reads the line of a wide beat as the line of a beat, which lacks the higher digits of its names.
 
-ghost use Rattle.std.specs.Prelude.{◌≡◌, ◌≤◌, ◌+◌, ℕ, ◌∷◌, [], length, take, drop, IfSome, Ok};
+ghost use Rattle.std.specs.Prelude.{◌≡◌, ◌≤◌, ◌+◌, ◌∷◌, [], length, take, drop, IfSome, Ok};
 ghost use Rattle.tl_beat.specs.code.Reading.{number_in};
 ghost use Rattle.tl_beat.specs.statement.Width.{IsWidth};
 ghost use Rattle.tl_wide_lines.specs.code.ShortLine.{SpellsWidened, shortened};

@@ -4,6 +4,7 @@ pub mod FirstFaults
 pub mod JudgedLines
 mod JudgedOnce
 pub mod PartsJudged
+mod ShortLines
 pub mod TraceJudged
 pub mod WideHeaders
 pub mod WideExplaining

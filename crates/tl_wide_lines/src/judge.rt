@@ -1,13 +1,16 @@
 //! Judges the beats of a wide trace in turn, by the narrow beats that they become.
 
-ghost use Rattle.std.specs.Prelude.{◌≡◌, IfOk};
+ghost use Rattle.std.specs.Prelude.{◌≡◌, ◌≤◌, IfOk};
 ghost use Rattle.tl_beat.specs.statement.Width.{IsWidth};
 ghost use Rattle.tl_wide.specs.statement.Pieces.{left_of};
 ghost use Rattle.tl_wide.specs.statement.Width.{IsWideWidth, part_width};
+ghost use Rattle.tl_wide_lines.specs.code.ShortLine.{widened};
 ghost use Rattle.tl_wide_lines.specs.code.WideJudging.{JudgesParts, JudgesWideBeat, JudgesWideLine, KnowsNone};
+ghost use Rattle.tl_wide_lines.specs.code.WideJudging.{NarrowsToOne, part_if};
 
+use crate::short::{High, read_short};
 use std::alloc::{AllocError, Global};
-use tl_beat::beat::{Beat, Link};
+use tl_beat::beat::{Beat, BeatE, Link};
 use tl_engine::explain::subject_of;
 use tl_engine::fault::Fault;
 use tl_engine::links_header::LinksHeader;
@@ -71,6 +74,67 @@ fn push_parts<const W: usize, const P: usize>(
     Ok(None)
 }
 
+/// Replaces `part` by the beat that the next wide beat of the trace becomes, of at most 16 bytes, and says whether it
+/// becomes one. `None` if its names are beyond a limit. The error means that there is no memory left.
+#[inline(always)]
+fn narrow_one<const P: usize>(
+    narrower: &mut Narrower,
+    link: Link,
+    beat: &WideBeat<P>,
+    part: &mut Beat<P>,
+) -> Result<Option<bool>, AllocError>
+    requires width { IsWideWidth P }
+    requires few { P ≤ 16 }
+    ensures { IfOk result (λ is_one. NarrowsToOne narrower.old narrower.new link beat.now (part_if is_one part.new)) }
+{
+    let Some(parts) = narrower.narrow::<P, P>(link, beat)? else {
+        return Ok(None);
+    };
+    let mut left = parts;
+    let Some(only) = left.next::<P, P>(beat) else {
+        return Ok(Some(false));
+    };
+    *part = only;
+    Ok(Some(true))
+}
+
+/// The same of the wide beat of these halves, in the place of the lower one.
+#[inline(always)]
+fn narrow_halves<const P: usize>(
+    narrower: &mut Narrower,
+    link: Link,
+    beat: &mut Beat<P>,
+    high: High,
+) -> Result<Option<bool>, AllocError>
+    requires width { IsWideWidth P }
+    requires few { P ≤ 16 }
+    ensures { IfOk result (λ is_one. NarrowsToOne narrower.old narrower.new link (widened beat.old high)
+        (part_if is_one beat.new)) }
+{
+    match &*beat {
+        Beat::A(x) => {
+            let wide = WideBeat::A(high.widen_a(x));
+            narrow_one(narrower, link, &wide, beat)
+        }
+        Beat::B(x) => {
+            let wide = WideBeat::B(high.widen_b(x));
+            narrow_one(narrower, link, &wide, beat)
+        }
+        Beat::C(x) => {
+            let wide = WideBeat::C(high.widen_c(x));
+            narrow_one(narrower, link, &wide, beat)
+        }
+        Beat::D(x) => {
+            let wide = WideBeat::D(high.widen_d(x));
+            narrow_one(narrower, link, &wide, beat)
+        }
+        Beat::E(x) => {
+            let sink = high.whole_sink(x.sink);
+            narrow_one(narrower, link, &WideBeat::E(WideBeatE { sink }), beat)
+        }
+    }
+}
+
 impl<const P: usize> WideJudge<P> {
     /// A judge of the links that a header names, 1 to 16, which has seen no beat. The error means that there is no
     /// memory left.
@@ -103,8 +167,29 @@ impl<const P: usize> WideJudge<P> {
         push_parts(&mut self.judge, link, beat, parts)
     }
 
-    /// Judges the line of the next wide beat, as `push` judges the beat. A line that spells no wide beat is at fault.
-    pub fn judge_line<const W: usize>(&mut self, line: &[u8]) -> Result<Option<Fault>, AllocError>
+    /// Judges the wide beat of these halves, of at most 16 bytes, as `push` judges it. `beat` becomes the beat that it
+    /// becomes.
+    #[inline(always)]
+    fn push_halves(
+        &mut self,
+        link: Link,
+        beat: &mut Beat<P>,
+        high: High,
+    ) -> Result<Option<Fault>, AllocError>
+        requires width { IsWideWidth P }
+        requires few { P ≤ 16 }
+        ensures { IfOk result (JudgesWideBeat self.old self.new link (widened beat.old high)) }
+    {
+        match narrow_halves(&mut self.narrower, link, beat, high)? {
+            None => Ok(Some(Fault::Beyond)),
+            Some(false) => Ok(None),
+            Some(true) => self.judge.push(link, beat),
+        }
+    }
+
+    /// Judges the line of the next wide beat from left to right.
+    #[inline(never)]
+    fn judge_any<const W: usize>(&mut self, line: &[u8]) -> Result<Option<Fault>, AllocError>
         requires width { IsWideWidth W }
         requires part { P ≡ part_width W }
         ensures { IfOk result (JudgesWideLine W self.old self.new line.now) }
@@ -113,6 +198,34 @@ impl<const P: usize> WideJudge<P> {
         match read_wide_into::<W>(line, &mut beat) {
             Ok(link) => self.push(link, &beat),
             Err(fault) => Ok(Some(Fault::Line(fault))),
+        }
+    }
+
+    /// Judges the line of the next wide beat, of at most 16 bytes.
+    #[inline(always)]
+    fn judge_short(&mut self, line: &[u8]) -> Result<Option<Fault>, AllocError>
+        requires width { IsWideWidth P }
+        requires few { P ≤ 16 }
+        ensures { IfOk result (JudgesWideLine P self.old self.new line.now) }
+    {
+        let mut beat = Beat::E(BeatE { sink: 0 });
+        match read_short(line, &mut beat) {
+            Some((link, high)) => self.push_halves(link, &mut beat, high),
+            None => self.judge_any::<P>(line),
+        }
+    }
+
+    /// Judges the line of the next wide beat, as `push` judges the beat. A line that spells no wide beat is at fault.
+    #[inline(always)]
+    pub fn judge_line<const W: usize>(&mut self, line: &[u8]) -> Result<Option<Fault>, AllocError>
+        requires width { IsWideWidth W }
+        requires part { P ≡ part_width W }
+        ensures { IfOk result (JudgesWideLine W self.old self.new line.now) }
+    {
+        if W == P {
+            self.judge_short(line)
+        } else {
+            self.judge_any::<W>(line)
         }
     }
 

@@ -15,4 +15,5 @@ pub mod lines;
 mod replay;
 mod reread;
 pub mod run;
+mod short;
 pub mod text;

@@ -1,5 +1,5 @@
 -- What a judge of wide beats answers of a beat, and of a line.
-use Rattle.std.specs.Prelude.{◌≡◌, ◌⊎◌, ◌∷◌, ℕ, Bool, true, false, List, [], Option, Some}
+use Rattle.std.specs.Prelude.{◌≡◌, ◌⊎◌, ◌∷◌, ℕ, Bool, true, false, List, [], Option, Some, None}
 use Rattle.tl_beat.specs.declared.beat.Beat.{Beat}
 use Rattle.tl_beat.specs.declared.beat.Link.{Link}
 use Rattle.tl_beat.specs.declared.fault.LineFault.{LineFault}
@@ -11,6 +11,7 @@ use Rattle.tl_params.specs.declared.level.Level.{Level}
 use Rattle.tl_params.specs.declared.liberties.Liberties.{Liberties}
 use Rattle.tl_rules.specs.statement.Conformance.{Trace}
 use Rattle.tl_wide.specs.declared.beat.WideBeat.{WideBeat}
+use Rattle.tl_wide.specs.declared.narrow.Narrower.{Narrower}
 use Rattle.tl_wide.specs.declared.parts.Parts.{Parts}
 use Rattle.tl_wide.specs.statement.Line.{WideSpells, wide_line_fault}
 use Rattle.tl_wide.specs.statement.Naming.{WideTrace, is_beyond}
@@ -44,6 +45,26 @@ JudgesWideBeat {w} {p} old new link x answer =
     × (left_of {p = part_width w} x parts ≡ beats_of link x ((link, x) ∷ t)) × Follows new.narrower ((link, x) ∷ t)))
     ⊎ ((answer ≡ Some Beyond) × (new.judge ≡ old.judge)
     × ((t : WideTrace w) → Follows old.narrower t → (is_beyond link ((link, x) ∷ t) ≡ true) × Follows new.narrower t))
+
+-- these parts, if there is one
+abbrev pub one_part : {p : ℕ} → Option (Beat p) → List (Beat p)
+one_part None = []
+one_part (Some x) = x ∷ []
+
+-- this part if there is one, which isn't known of too many names
+abbrev pub part_if : {p : ℕ} → Option Bool → Beat p → Option (Option (Beat p))
+part_if None x = None
+part_if (Some false) x = Some None
+part_if (Some true) x = Some (Some x)
+
+-- what the next wide beat becomes: at most one part, or its names are too many
+abbrev pub NarrowsToOne : {w : ℕ} → Narrower → Narrower → Link → WideBeat w → Option (Option (Beat w)) → Type 0
+NarrowsToOne {w} old new link x None =
+    (t : WideTrace w) → Follows old t → (is_beyond link ((link, x) ∷ t) ≡ true) × Follows new t
+NarrowsToOne {w} old new link x (Some part) =
+    (parts : Parts) × (left_of {p = w} x parts ≡ one_part part)
+    × ((t : WideTrace w) → Follows old t → (is_beyond link ((link, x) ∷ t) ≡ false)
+    × (left_of {p = part_width w} x parts ≡ beats_of link x ((link, x) ∷ t)) × Follows new ((link, x) ∷ t))
 
 -- what it answers of a line: the line spells no wide beat, or one of which it answers
 abbrev pub JudgesWideLine : {p : ℕ} → ℕ → WideJudge p → WideJudge p → List ℕ → Option Fault → Type 0

@@ -1,6 +1,6 @@
 use Rattle.std.proofs.Common.{inl, inr, refl, sym}
 use Rattle.std.proofs.lemmas.Result.{IfOk-weaker}
-use Rattle.tl_wide_lines.proofs.judge.WideJudge.judge_line.Goals as goal
+use Rattle.tl_wide_lines.proofs.judge.WideJudge.judge_any.Goals as goal
 
 pub returns-in-Err : goal.returns-in-Err
 returns-in-Err g c = inl (c.in-Err.fault, sym c.in-Err.ensures.fault, refl)

@@ -1,5 +1,5 @@
 -- A block in the cache of a link, with one more event.
-use Rattle.std.proofs.Common.{◌≡◌, ◌∙◌, ◌+◌, ◌<◌, ℕ, Bool, true, false, List, [], ◌∷◌, length, refl, ap, sym, cond, eqb}
+use Rattle.std.proofs.Common.{◌≡◌, ◌∙◌, ◌+◌, ◌<◌, ℕ, Bool, true, false, List, [], ◌∷◌, length, refl, ap, sym, cond}
 use Rattle.std.proofs.Common.{◌++◌, ◌≤◌, append_assoc, ap₂, arith, codes, subst}
 use Rattle.std.proofs.lemmas.Bool.{eq-eqb, ne_eqb}
 use Rattle.std.specs.Prelude.{◌==◌, ◌&&◌, Option, None, Result, Ok, Err, OnOk, ⊤}
@@ -34,7 +34,7 @@ use Rattle.tl_commit_story.specs.declared.cached.Cached.{Cached}
 use Rattle.tl_commit_story.specs.declared.grounds.Grounds.{Grounds}
 use Rattle.tl_commit_story.specs.declared.stores.Stores.{Stores}
 use Rattle.tl_commit_story.specs.declared.under_way.UnderWay.{UnderWay}
-use Rattle.tl_commit_story.specs.statement.Cached.{begun_by, begun_with, came, cited, held_since, holding, last_store, moves, Stored}
+use Rattle.tl_commit_story.specs.statement.Cached.{begun_by, begun_with, cited, held_since, holding, last_store, moves, Stored}
 use Rattle.tl_commit_story.specs.statement.Cached.{store_after}
 use Rattle.tl_commit_story.specs.statement.Grounds.{begun_words, grounds_at, holds_words, since_words, stored_words, stores_from}
 

@@ -1,12 +1,12 @@
 -- Lines that are read again, up to the line at fault.
-use Rattle.std.proofs.Common.{◌≡◌, ◌∙◌, ◌+◌, ℕ, Bool, true, false, List, [], ◌∷◌, ◌++◌, length, refl, ap, sym, subst, arith}
+use Rattle.std.proofs.Common.{◌≡◌, ◌∙◌, ◌+◌, ℕ, Bool, true, false, List, [], ◌∷◌, ◌++◌, refl, ap, sym, subst, arith}
 use Rattle.std.specs.Global.{Vec}
 use Rattle.tl_beat.specs.declared.beat.Link.{Link}
 use Rattle.tl_commits.specs.statement.Events.{Events}
 use Rattle.tl_events.specs.declared.commit.Event.{Event}
 use Rattle.tl_events.specs.statement.EventLine.{SpellsEvent}
-use Rattle.tl_commit_story.specs.code.Replaying.{AreReplayed, BeginsGrounds, EndsReplay, GoesOn, HasReasons, HasTold}
-use Rattle.tl_commit_story.specs.code.Replaying.{KnowsReplay, KnowsState, Reads, ReadsLast, ReadsOn, TakesLine}
+use Rattle.tl_commit_story.specs.code.Replaying.{AreReplayed, BeginsGrounds, GoesOn, HasReasons}
+use Rattle.tl_commit_story.specs.code.Replaying.{KnowsState, Reads, ReadsLast, ReadsOn, TakesLine}
 use Rattle.tl_commit_story.specs.declared.grounds.Grounds.{Grounds}
 use Rattle.tl_commit_story.specs.declared.replay.Replay.{Replay}
 use Rattle.tl_commit_story.specs.declared.replay.State.{State}

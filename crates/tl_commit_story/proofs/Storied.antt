@@ -1,10 +1,9 @@
 -- What a handler says that judges the lines and reads them again.
-use Rattle.std.proofs.Common.{◌≡◌, ◌∙◌, ◌+◌, ℕ, Bool, true, false, List, [], ◌∷◌, ◌++◌, length, refl, ap, sym, subst, arith}
-use Rattle.std.specs.Prelude.{IfOk, Option, Some, None, Result, Ok, Err}
+use Rattle.std.proofs.Common.{◌≡◌, ◌∙◌, ◌+◌, ℕ, Bool, true, false, List, [], ap, sym, subst, arith}
+use Rattle.std.specs.Prelude.{Option, Some, None}
 use Rattle.std.specs.Io.KnownBytes.{Consumes}
 use Rattle.tl_commit_lines.proofs.EventsJudged.{commits-so-far, events-have-text}
 use Rattle.tl_commit_lines.specs.code.EventWatching.{KnowsEventLines, events_judged_for}
-use Rattle.tl_commit_lines.specs.declared.lines.EventLines.{EventLines}
 use Rattle.tl_commit_lines.specs.statement.JudgedEvents.{CommitsSoFar, JudgedCommits}
 use Rattle.tl_engine.specs.code.GivenUp.{IsKnown}
 use Rattle.tl_engine.specs.code.Judging.{Ends, Finishes, IsTotal, Judges, KnowsFor, Stops}
@@ -17,7 +16,7 @@ use Rattle.tl_engine.specs.statement.Lines.{lines_of}
 use Rattle.tl_engine.specs.statement.Run.{RunsTo}
 use Rattle.tl_params.specs.declared.liberties.Liberties.{Liberties}
 use Rattle.tl_commit_lines.specs.statement.MarkedHeader.{NamesMarked}
-use Rattle.tl_commit_story.specs.code.Replaying.{EndsReplay, EndsStory, HasTold, KnowsReplay, KnowsStory, ReadsLast, ReadsLine}
+use Rattle.tl_commit_story.specs.code.Replaying.{EndsStory, HasTold, KnowsStory, ReadsLast, ReadsLine}
 use Rattle.tl_commit_story.specs.declared.examine.EventExaminer.{EventExaminer}
 use Rattle.tl_commit_story.specs.declared.story.Story.{Story}
 use Rattle.tl_commit_story.specs.statement.Explained.{Explains, IsExplained, ReachesEvents}

@@ -1,6 +1,6 @@
 -- The grounds of worked traces: link 0 is granted a copy of block 0 to write, in four beats of 16 bytes.
 use Rattle.std.proofs.Common.{◌≡◌, refl, [], ◌∷◌}
-use Rattle.std.specs.Prelude.{List, None, Some, reverse, take}
+use Rattle.std.specs.Prelude.{None, Some, reverse, take}
 use Rattle.tl_beat.specs.declared.channel.Channel.TheVariants as channel
 use Rattle.tl_burst.specs.statement.Messages.{unfinished}
 use Rattle.tl_bytes.proofs.WorkedBeats.{grant_beat, wide}

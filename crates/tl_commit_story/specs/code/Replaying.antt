@@ -1,5 +1,5 @@
 -- What is known while the lines of a trace with commits are read again, up to the line at fault.
-use Rattle.std.specs.Prelude.{◌≡◌, ◌≢◌, ◌+◌, ◌++◌, ◌∷◌, ℕ, Bool, true, false, [], List, length, Option, Some, None, ⊤}
+use Rattle.std.specs.Prelude.{◌≡◌, ◌+◌, ◌++◌, ◌∷◌, ℕ, true, false, [], List, length, Option, Some, None, ⊤}
 use Rattle.tl_beat.specs.declared.beat.Link.{Link}
 use Rattle.tl_commits.specs.statement.Events.{Events}
 use Rattle.tl_engine.specs.declared.fault.Fault.{Fault}

@@ -1,8 +1,7 @@
-use Rattle.std.proofs.Common.{◌≡◌, ◌∙◌, rules, subst, true, List, ℕ}
+use Rattle.std.proofs.Common.{◌≡◌, rules, subst, true}
 use Rattle.std.specs.Prelude.{Bool}
 use Rattle.tl_engine.proofs.Replaying.{same_liberties}
 use Rattle.tl_engine.specs.statement.Lines.{lines_of}
-use Rattle.tl_commit_lines.specs.code.EventWatching.{events_judged_for}
 use Rattle.tl_commit_lines.specs.statement.JudgedEvents.{JudgedCommits}
 use Rattle.tl_params.specs.declared.liberties.Liberties.{Liberties}
 use Rattle.tl_commit_story.proofs.Storied.{told-explains}

@@ -1,4 +1,3 @@
-use Rattle.std.proofs.Common.{refl}
 use Rattle.tl_commit_story.proofs.Followed.{beat-taken}
 use Rattle.tl_commit_story.proofs.grounds.Grounds.take_beat.Goals as goal
 

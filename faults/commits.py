@@ -4,7 +4,9 @@
 Random traces of caches whose cores store and load, by the model bench/commits_trial.py: RUNS runs of right caches (60 if none
 is said), and a tenth as many of each wrong one. `TOOL coherent` must have the model's verdict on each, and `TOOL monitor` must
 find no fault in those of right caches. The command judges M3 by the beats alone, and the model by the stores too, so runs of which
-the model says M3 are left out.
+the model says M3 are left out. Of each run at fault `TOOL explain --coherent` must have the rule's sentence and the event in
+words, and for M5 to M7 the last store to each byte, as they are found here in the lines before it; each line that it cites must
+be the one of its number.
 
 Traces of worlds: the schedules of the examples and twenty of `TOOL random`. What `TOOL run --trace --commits` writes of each must
 be what this script makes of the outcomes that `TOOL run` writes; without stores, loads and marks it must be what `TOOL run --trace`
@@ -37,12 +39,79 @@ def of(tool, *words, text=None):
     return told.stdout, told.returncode
 
 
+def decoded(tool, width, lines):
+    """The lines of a trace in words, by `decode` and by the form of stores and loads."""
+    beats = [it for it in lines if it.split()[1] in "ABCDE"]
+    told = iter(of(tool, "decode", "--width", width, text="\n".join([*beats, ""]))[0].splitlines())
+    for line in lines:
+        link, letter, size, *rest = line.split()
+        if letter in "ABCDE":
+            yield next(told)
+        else:
+            verb = {"S": "stores", "L": "loads", "I": "begins to load"}[letter]
+            count = 2 ** int(size)
+            yield f"link {link} {verb} {count} byte{'s' * (count > 1)} at {': '.join(rest)}"
+
+
+def reached(line):
+    """The addresses that a store or a load reaches."""
+    size, address = line.split()[2:4]
+    return range(int(address, 16), int(address, 16) + 2 ** int(size))
+
+
+def bytes_of(lines, width):
+    """The addresses that the last of these lines is about."""
+    link, letter, *fields = lines[-1].split()
+    if letter in "SL":
+        return reached(lines[-1])
+    address = int(fields[4], 16) // 64 * 64
+    if letter == "C" and fields[0] in "57":
+        earlier = sum(it.split()[:2] == [link, "C"] and it.split()[2] in "57" for it in lines[:-1])
+        first = address + earlier * width % 64
+        return range(first, first + width)
+    return range(address, address + 64)
+
+
+def stores_told(lines, words, width):
+    """The last stores before the last of these lines to the bytes that it is about."""
+    told = []
+    for address in bytes_of(lines, width):
+        last = [i for i, it in enumerate(lines[:-1]) if it.split()[1] == "S" and address in reached(it)][-1:]
+        if last and told[-1:] != last:
+            told += last
+    return ["  the last stores to these bytes:", *(f"  {i + 2}: {words[i]}" for i in told)] if told else ["  no store before it reached these bytes"]
+
+
+def story_slips(tool, trace, fault):
+    """What is wrong with the reasons for the fault of a line."""
+    header, *lines = trace.read_text().splitlines()
+    width = header.split()[2]
+    number, rule = fault.split()[1:]
+    told = of(tool, "explain", "--coherent", trace)[0].splitlines()
+    sentence = "  " + of(tool, "explain", rule)[0].splitlines()[0]
+    lines = lines[:int(number) - 1]
+    words = list(decoded(tool, width, lines))
+    if told[:3] != [fault, sentence, f"  {number}: {words[-1]}"]:
+        yield f"{trace.name}: explain begins with {told[:3]}"
+    for line in told:
+        cited = re.fullmatch(r"  (\d+): (.*)", line)
+        if cited and words[int(cited[1]) - 2] != cited[2]:
+            yield f"{trace.name}: explain cites {line}"
+    wanted = stores_told(lines, words, int(width)) if rule in ("M5", "M6", "M7") else []
+    if told[3:] and told[len(told) - len(wanted):] != wanted:
+        yield f"{trace.name}: explain ends with {told[-len(wanted):]}, not {wanted}"
+    if bool(told[3:]) != bool(wanted):
+        yield f"{trace.name}: explain says {told[3:]}"
+
+
 def slips(tool, trace):
-    """What is wrong with the verdicts on a trace."""
+    """What is wrong with the verdicts on a trace, and with their reasons."""
     wanted = trace.with_suffix(".verdict").read_text()
     told, _ = of(tool, "coherent", str(trace))
     if told != wanted:
         yield f"{trace.name}: coherent says {told.strip()}, the model {wanted.strip()}"
+    elif told.startswith("line "):
+        yield from story_slips(tool, trace, told.strip())
     told, _ = of(tool, "monitor", str(trace))
     if trace.name.startswith("right_") and told != wanted.replace("coherent", "clean"):
         yield f"{trace.name}: monitor says {told.strip()}"

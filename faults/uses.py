@@ -116,7 +116,56 @@ COMMITS = (
     ("M6", 5, "line 6 M6"), ("M6_right", 5, "coherent 5"), ("M6_unmarked_right", 5, "coherent 5"), ("M7", 5, "line 6 M7"),
     ("M7_right", 5, "coherent 5"), ("M7_dropped", 8, "line 9 M7"), ("M7_dropped_right", 8, "coherent 8"), ("M7_asked_right", 9, "coherent 9"),
     ("M7_coming", 17, "line 18 M7"), ("M7_coming_right", 24, "coherent 24"))
-COMMITS_UNREAD = "tltool: the header has a level C+, which only monitor, coherent and cover read"
+# The reasons for the fault of an event, without the sentence of its rule.
+STORIES = {
+    "M5": """line 5 M5
+  5: link 00 stores 1 byte at 00000000: 05
+  link 00 holds Branch of block 00000000 since:
+  3: 00 D Grant toB size=6 source=00 sink=00 denied=0 data=- corrupt=0
+  no store before it reached these bytes
+""",
+    "M5_load": """line 3 M5
+  3: link 00 loads 1 byte at 00000000: 05
+  link 00 holds None of block 00000000 since the start of the trace
+  no store before it reached these bytes
+""",
+    "M5_begun": """line 8 M5
+  8: link 00 loads 1 byte at 00000000: 05
+  link 00 holds None of block 00000000 since:
+  6: 00 C ProbeAck BtoN size=6 source=00 address=00000000 data=- corrupt=0
+  no store before it reached these bytes
+""",
+    "M6": """line 6 M6
+  6: link 00 loads 1 byte at 00000000: 06
+  link 00 holds Trunk of block 00000000 since:
+  3: 00 D Grant toT size=6 source=00 sink=00 denied=0 data=- corrupt=0
+  the last stores to these bytes:
+  5: link 00 stores 1 byte at 00000000: 05
+""",
+    "M7": """line 6 M7
+  6: 00 C ReleaseData TtoN size=6 source=00 address=00000000 data=0000000000000006 corrupt=0
+  link 00 holds Trunk of block 00000000 since:
+  3: 00 D Grant toT size=6 source=00 sink=00 denied=0 data=- corrupt=0
+  the last stores to these bytes:
+  5: link 00 stores 1 byte at 00000000: 05
+""",
+    "M7_coming": f"""line 18 M7
+  18: 00 C ProbeAckData TtoN size=6 source=00 address=00000000 data={30 * '0'}07 corrupt=0
+  link 00 holds Trunk of block 00000000 since:
+  16: 00 E GrantAck sink=01
+  a GrantData of the block is under way since:
+  15: 00 D GrantData toT size=6 source=00 sink=01 denied=0 data={30 * '0'}09 corrupt=0
+  no store before it reached these bytes
+""",
+    "M7_dropped": f"""line 9 M7
+  9: 00 C Release TtoN size=6 source=00 address=00000000 data=- corrupt=0
+  link 00 holds Trunk of block 00000000 since:
+  6: 00 D GrantData toT size=6 source=00 sink=00 denied=0 data={32 * '0'} corrupt=0
+  the last stores to these bytes:
+  8: link 00 stores 1 byte at 00000000: 05
+""",
+}
+COMMITS_UNREAD = "tltool: the header has a level C+, which only monitor, coherent, explain and cover read"
 # Lines of no commit, with their faults, and headers in which a mark isn't at its place.
 NO_COMMITS = (("00 S 0 00000000", "F1"), ("00 I 0 00000000 05", "F1"), ("00 L 0 00000000 05 0", "F1"), ("00 T 0 00000000 05", "F2"),
     ("00 s 0 00000000 05", "F2"), ("00 S 4 00000000 05", "F3"), ("00 S 1 00000001 0505", "F3"), ("00 S 1 00000000 05", "F3"),
@@ -409,8 +458,14 @@ ROWS = [
     ("echo 'tltrace 4 8 none C+' | tltool monitor", 0, "clean 0\n", ""),
     ("tltool chart rules/M6.trace", 1, "..", f"{COMMITS_UNREAD}\n"),
     ("tltool chart <rules/M6.trace", 1, "..", f"{COMMITS_UNREAD}\n"),
-    ("tltool explain rules/M6.trace", 1, "line 1 F7\n..", f"{COMMITS_UNREAD}\n"),
-    ("tltool explain --coherent rules/M6.trace", 1, "line 1 F7\n..", f"{COMMITS_UNREAD}\n"),
+    # why an event is at fault
+    ("tltool explain rules/M6.trace", 0, "clean 5\n  clean means ..", ""),
+    ("tltool explain --coherent rules/M6_right.trace", 0, "coherent 5\n  coherent means ..", ""),
+    ("tltool explain --coherent <rules/M6.trace", 1, "line 6 M6\n", ""),
+    *((f"tltool explain --coherent rules/{name}.trace | sed 2d", 0, told, "") for name, told in STORIES.items()),
+    *((f"(tltool explain {name} | head -1; tltool explain --coherent rules/{name}.trace | sed -n 's/^  //;2p') | uniq | wc -l", 0, "1\n", "") for name in ("M5", "M6", "M7")),
+    ("sed '5s/05/07 /' rules/M6.trace >long.trace; tltool explain --coherent long.trace", 1, "line 5 F1\n  F1: more than 256 bytes, or ..", ""),
+    ("sed '3s/4 0/4 1/' rules/M6.trace >branch.trace; tltool explain branch.trace", 1, "line 3 H6\n  H6 (..", ""),
     # the situations of the beats, with the lines of the trace
     *((f"tltool cover rules/{name}.trace | sed -n 1p", 0, f"clean {lines}\n", "") for name, lines, _ in COMMITS),
     ("(cat rules/M6.trace; echo 00 C 7 1 6 00 00000000 0000000000000000 0) | tltool cover | grep release-TtoN", 0, "release-TtoN 1, line 7: ..", ""),

@@ -3,6 +3,7 @@ use Rattle.std.specs.Prelude.{◌≡◌, ◌⊎◌, ◌++◌, ℕ, Bool, false, 
 use Rattle.std.specs.Io.KnownBytes.{Appends}
 use Rattle.tl_chart.specs.declared.window.Window.{Window}
 use Rattle.tl_commit_lines.specs.statement.JudgedEvents.{CommitsSoFar, JudgedCommits}
+use Rattle.tl_commit_story.specs.statement.Explained.{GivesUpEvents, ReachesBoth as ReachesBothEvents}
 use Rattle.tl_command.specs.declared.command.Command.{Command}
 use Rattle.tl_command.specs.declared.command.Command.TheVariants.{Coherent, Decode, Explain, Monitor, Run}
 use Rattle.tl_command.specs.declared.random.Options.{Options}
@@ -26,7 +27,6 @@ use Rattle.tl_engine.specs.statement.Told.{text_so_far, text_told}
 use Rattle.tl_engine.specs.statement.Unexplained.{GivesUpExplaining, Reaches}
 use Rattle.tl_engine.specs.statement.Width.{bytes_of}
 use Rattle.tl_links.specs.statement.Allowed.{FindsAllowed, allowed_line}
-use Rattle.tl_engine.specs.statement.JudgedLinks.{JudgedLinks, LinksSoFar}
 use Rattle.tl_random.specs.statement.Random.{WritesPart, WritesSchedule}
 use Rattle.tl_report.specs.declared.findings.Finding.{Finding}
 use Rattle.tl_report.specs.statement.Said.{GivesUpSearching, Searches, all_text, status_of}
@@ -36,13 +36,13 @@ use Rattle.tl_wide_lines.specs.statement.WideDecoded.{DecodedSoFar, DecodedWide}
 use Rattle.tl_wide_lines.specs.statement.WideExplained.{GivesUpWide, ReachesBoth}
 
 -- A command's text of these lines, with the status at their end; for `explain` the first line of its text. `monitor`,
--- `coherent` and `explain` also read headers that name liberties, and take further ones; the first two also read
--- headers of wide beats, and of traces with commits.
+-- `coherent` and `explain` also read headers that name liberties, of wide beats, and of traces with commits, and take
+-- further liberties.
 abbrev pub program_told : Command → Liberties → List (List ℕ) → List ℕ → Status → Type 0
 program_told Monitor allow = JudgedCommits false allow
 program_told (Decode width) allow = text_told (Decode width)
 program_told Coherent allow = JudgedCommits true allow
-program_told (Explain together) allow = JudgedLinks together allow
+program_told (Explain together) allow = JudgedCommits together allow
 program_told (Run trace) allow = text_told (Run trace)
 
 -- the text of these lines without a fault, before the end of the input
@@ -50,7 +50,7 @@ abbrev pub program_so_far : Command → Liberties → List (List ℕ) → List �
 program_so_far Monitor allow = CommitsSoFar false allow
 program_so_far (Decode width) allow = text_so_far (Decode width)
 program_so_far Coherent allow = CommitsSoFar true allow
-program_so_far (Explain together) allow = LinksSoFar together allow
+program_so_far (Explain together) allow = CommitsSoFar together allow
 program_so_far (Run trace) allow = text_so_far (Run trace)
 
 -- the outcome is one that these texts have over the input and the output
@@ -108,6 +108,15 @@ EndsExplainedWide together allow had left had_again left_again held holds status
     × IfOk outcome (λ judged. (text : List ℕ)
     × ReachesBoth together allow had left had_again left_again text judged × Appends held holds text)
     × IfErr outcome (GivesUpWide together allow had left had_again left_again held holds)
+
+-- The same of a trace with stores and loads.
+abbrev pub EndsExplainedCommits : Bool → Liberties → Option (List ℕ) → Option (List ℕ) → Option (List ℕ)
+    → Option (List ℕ) → Option (List ℕ) → Option (List ℕ) → ℕ → Type 0
+EndsExplainedCommits together allow had left had_again left_again held holds status =
+    (outcome : Result Status ExplainFault) × (status ≡ explain_status outcome)
+    × IfOk outcome (λ judged. (text : List ℕ)
+    × ReachesBothEvents together allow had left had_again left_again text judged × Appends held holds text)
+    × IfErr outcome (GivesUpEvents together allow had left had_again left_again held holds)
 
 -- For this reason it was given up to say which liberties would allow the beat. Only with `Write` was anything written.
 abbrev pub GivesUpAllowing : Liberties → Option (List ℕ) → Option (List ℕ) → Option (List ℕ) → Option (List ℕ) → ToolFault → Type 0

@@ -6,12 +6,14 @@ ghost use Rattle.tl_engine.specs.statement.Exit.{exit_status};
 ghost use Rattle.tltool.specs.Ended.{EndsAllowed, EndsAs, EndsCharted, EndsDrawn, EndsExplained, EndsFound, EndsOver, IsRefused};
 ghost use Rattle.tltool.specs.Ended.{explain_status};
 
+mod commits;
 mod cover;
 mod decode;
 mod report;
 mod unread;
 mod wide;
 
+use commits::{explain_commits_over, is_commits_file};
 use cover::cover;
 use decode::decode;
 use report::report;
@@ -33,12 +35,11 @@ use tl_engine::output::{write_all, write_changed, write_once, write_open_fault};
 use tl_engine::status::{Status, ToolFault, exit_of};
 use tl_engine::tool::run_tool;
 use tl_links::allowing::append_allowed;
-use tl_links::run::run_links;
 use tl_params::liberties::Liberties;
 use tl_random::schedule::write_schedule;
 use tl_report::find::find_all;
 use tl_words::words::{WordsFault, invocation, usage_status};
-use unread::{front_of, tell_commits_in, tell_unread, tell_unread_in};
+use unread::{front_of, tell_unread, tell_unread_in};
 use wide::{explain_wide_over, is_wide_file};
 
 /// The exit status of a run. Its fault is printed on standard error.
@@ -88,7 +89,7 @@ fn run_over<R: Read, W: Write>(
         Command::Monitor => told(rt, run_events(rt.alloc(), false, allow, input, output)),
         Command::Coherent => told(rt, run_events(rt.alloc(), true, allow, input, output)),
         Command::Explain { coherent } => {
-            told(rt, run_links(rt.alloc(), coherent, allow, input, output))
+            told(rt, run_events(rt.alloc(), coherent, allow, input, output))
         }
         _ => told(rt, run_tool(rt.alloc(), command, input, output)),
     }
@@ -227,6 +228,17 @@ fn explain(rt: &HostRuntime, coherent: bool, allow: Liberties, name: &str) -> u8
             &mut output,
         );
     }
+    if is_commits_file(rt, name) {
+        return explain_commits_over(
+            rt,
+            coherent,
+            allow,
+            name,
+            &mut first,
+            &mut second,
+            &mut output,
+        );
+    }
     let explained = explain_over(
         rt,
         coherent,
@@ -236,7 +248,7 @@ fn explain(rt: &HostRuntime, coherent: bool, allow: Liberties, name: &str) -> u8
         &mut second,
         &mut output,
     );
-    if tell_commits_in(rt, name, explained) != 1 || coherent {
+    if explained != 1 || coherent {
         return explained;
     }
     match fs::open(rt, name) {

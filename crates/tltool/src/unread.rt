@@ -14,7 +14,7 @@ const WIDE: &str =
 
 /// The line for standard error of a header of a trace with commits.
 const COMMITS: &str =
-    "tltool: the header has a level C+, which only monitor, coherent and cover read";
+    "tltool: the header has a level C+, which only monitor, coherent, explain and cover read";
 
 /// The number of bytes of a first line that are read.
 const LOOKED_AT: usize = 257;
@@ -80,15 +80,4 @@ pub fn tell_unread_in(rt: &HostRuntime, name: &str, status: u8) -> u8
         return status;
     }
     tell_unread(rt, line_in(rt, name).as_slice(), status)
-}
-
-/// If this exit status is 1 and the trace in the file of this name has commits, says so on standard error. Returns the
-/// status.
-pub fn tell_commits_in(rt: &HostRuntime, name: &str, status: u8) -> u8
-    ensures { result ≡ status }
-{
-    if status != 1 {
-        return status;
-    }
-    tell_commits(rt, line_in(rt, name).as_slice(), status)
 }

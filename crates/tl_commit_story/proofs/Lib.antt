@@ -1,0 +1,5 @@
+pub mod Followed
+pub mod Replayed
+pub mod Storied
+pub mod Told
+mod Worked

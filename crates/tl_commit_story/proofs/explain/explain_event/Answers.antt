@@ -1,0 +1,25 @@
+use Rattle.std.proofs.Common.{◌≡◌, rules, subst, true}
+use Rattle.std.specs.Prelude.{Bool}
+use Rattle.tl_engine.proofs.Replaying.{same_liberties}
+use Rattle.tl_engine.specs.statement.Lines.{lines_of}
+use Rattle.tl_commit_lines.specs.statement.JudgedEvents.{JudgedCommits}
+use Rattle.tl_params.specs.declared.liberties.Liberties.{Liberties}
+use Rattle.tl_commit_story.proofs.Storied.{told-explains}
+use Rattle.tl_commit_story.proofs.explain.explain_event.Goals as goal
+
+pub judge_input-requires : goal.judge_input-requires
+judge_input-requires g c = rw c.new-text.ensures.items (c.new-lines.ensures.knows c.in-Some.ensures.knows)
+
+pub returns-clause-ok : goal.returns-clause-ok
+returns-clause-ok g c =
+    let h = c.in_ok-judge_input.ensures.ok in
+    let judged : JudgedCommits c.args.together c.args.allow (lines_of h.0) c.judge_input.new.out.items c.in_ok-judge_input.field-0 =
+    subst (λ (p : Bool × Liberties). JudgedCommits p.0 p.1 (lines_of h.0) c.judge_input.new.out.items c.in_ok-judge_input.field-0)
+    (search rules) h.2 in
+    let told : c.into_handler.result.replay.told ≡ true = search rules in
+    let same : c.judge_input.new.out.items ≡ c.args.verdict.now =
+    rw c.as_slice.ensures.value at (c.is_same.ensures (search rules)) in
+    told-explains c.into_handler.result c.args.together c.args.allow _ _ h.0 c.judge_input.new.out.items c.args.verdict.now _
+    c.in_ok-judge_input.field-0 h.1 judged (rw c.into_handler.ensures h.4) told
+    (same_liberties c.into_handler.result.replay.allow c.args.allow c.ne.result c.ne.ensures c.if-ne.false) same
+    (search rules) (search rules) (search rules)

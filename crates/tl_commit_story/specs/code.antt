@@ -1,0 +1,3 @@
+pub mod Following
+pub mod Replaying
+pub mod Stored

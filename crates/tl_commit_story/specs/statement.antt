@@ -1,0 +1,4 @@
+pub mod Cached
+pub mod Explained
+pub mod Grounds
+pub mod Words

@@ -1,0 +1,88 @@
+-- The grounds for a breach of a rule of stores and loads: what the link holds, its data under way, the last stores.
+use Rattle.std.specs.Prelude.{◌==◌, ◌+◌, ◌*◌, ◌++◌, ℕ, zero, suc, List, [], ◌∷◌, codes, Option, Some, None, if◌then◌else◌}
+use Rattle.tl_beat.specs.declared.beat.Link.{Link}
+use Rattle.tl_beat.specs.declared.channel.Channel.TheVariants as channel
+use Rattle.tl_beat.specs.statement.Digits.{digits}
+use Rattle.tl_commits.specs.statement.Events.{Events}
+use Rattle.tl_engine.specs.declared.fault.Fault.{Fault}
+use Rattle.tl_engine.specs.declared.fault.Fault.TheVariants.{CommitRule}
+use Rattle.tl_events.specs.declared.commit.Commit.TheVariants as commit
+use Rattle.tl_events.specs.declared.commit.Event.{Event}
+use Rattle.tl_explain.specs.statement.Sentences.{perm_name}
+use Rattle.tl_params.specs.declared.level.Level.{Level}
+use Rattle.tl_params.specs.declared.liberties.Liberties.{Liberties}
+use Rattle.tl_params.specs.declared.perm.Perm.{Perm}
+use Rattle.tl_commit_story.specs.declared.cached.Cached.{Cached}
+use Rattle.tl_commit_story.specs.statement.Cached.{Stored, begun_by, block_of, came, cited, held_since, holding}
+use Rattle.tl_commit_story.specs.statement.Cached.{last_store, places_of}
+use Rattle.tl_commit_story.specs.statement.Words.{commit_text, sentence_of}
+
+-- ---- what the link holds
+
+-- since an event with these words, or since the start of the trace if there are none
+abbrev pub since_words : List ℕ → List ℕ
+since_words [] = codes " since the start of the trace\n"
+since_words (b ∷ words) = codes " since:\n" ++ (b ∷ words)
+
+-- the link holds this permission of the block
+abbrev pub holds_words : Cached → Perm → List ℕ
+holds_words c perm =
+    codes "  link " ++ (digits 2 c.link.0 ++ (codes " holds " ++ (perm_name perm
+    ++ (codes " of block " ++ digits 8 (64 * c.block)))))
+
+-- ---- data under way
+
+-- data are under way since a beat with these words, if there are any
+abbrev pub begun_words : List ℕ → List ℕ → List ℕ
+begun_words label [] = []
+begun_words label (b ∷ words) = label ++ (b ∷ words)
+
+-- ---- stores
+
+-- the words of a store, unless it is the one of line n
+abbrev pub store_words : ℕ → Option Stored → List ℕ
+store_words n None = []
+store_words n (Some s) = if s.number == n then [] else commit_text s.number s.link (commit.Store s.piece s.value)
+
+-- the number of its line, or n if there is no store
+abbrev pub number_or : ℕ → Option Stored → ℕ
+number_or n None = n
+number_or n (Some s) = s.number
+
+-- The stores to as many bytes from a place on, by what is the last one to each; one that reached several bytes in a row is
+-- told once. Line n is the last that was told.
+unfoldable pub stores_from : (ℕ → Option Stored) → ℕ → ℕ → ℕ → List ℕ
+stores_from last place zero n = []
+stores_from last place (suc count) n =
+    store_words n (last place) ++ stores_from last (place + 1) count (number_or n (last place))
+
+-- these stores, if there are any
+abbrev pub stored_words : List ℕ → List ℕ
+stored_words [] = codes "  no store before it reached these bytes\n"
+stored_words (b ∷ words) = codes "  the last stores to these bytes:\n" ++ (b ∷ words)
+
+-- ---- all grounds
+
+-- The grounds, for an event that is about the bytes at these places, after the events of e.
+unfoldable pub grounds_at : {w : ℕ} → Liberties → List Level → Cached → ℕ × ℕ → Events w → List ℕ
+grounds_at may levels c places e =
+    holds_words c (holding may levels c e) ++ (since_words (held_since may levels c e)
+    ++ (begun_words (codes "  a GrantData of the block is under way since:\n") (begun_by channel.D levels c e)
+    ++ (begun_words (codes "  a ProbeAckData or ReleaseData of the block is under way since:\n") (begun_by channel.C levels c e)
+    ++ stored_words (stores_from (λ place. last_store c.block place e) places.0 places.1 0))))
+
+-- what an event of a link is about
+abbrev pub cached_by : {w : ℕ} → Link → Event w → Cached
+cached_by link x = record { link = link; block = block_of x }
+
+-- the grounds for the fault of an event; none for a rule of beats
+abbrev pub grounds_of : {w : ℕ} → Fault → Liberties → List Level → Link → Event w → Events w → List ℕ
+grounds_of (CommitRule rule) may levels link x e =
+    grounds_at may levels (cached_by link x) (places_of (came channel.C (cached_by link x) e) x) e
+grounds_of _ may levels link x e = []
+
+-- The reasons for the fault of an event that breaks a rule after the events of e: the sentence of the rule, the event,
+-- and the grounds.
+abbrev pub reasons_of : {w : ℕ} → Fault → Liberties → List Level → Link → Event w → Events w → List ℕ
+reasons_of fault may levels link x e =
+    codes "  " ++ (sentence_of fault ++ (cited link x e ++ grounds_of fault may levels link x e))

@@ -1,0 +1,270 @@
+//! Explains the verdict on a trace with commits, which is read twice.
+
+ghost use Rattle.std.specs.Prelude.{◌≡◌, ◌≢◌, ◌+◌, [], ℕ, List, Bool, IfErr, IfOk, IfSome, OnOk, Option, true};
+ghost use Rattle.std.specs.Io.KnownBytes.{Appends};
+ghost use Rattle.tl_beat.specs.statement.Width.{IsWidth};
+ghost use Rattle.tl_engine.specs.declared.explain_fault.ExplainFault.{ExplainFault};
+ghost use Rattle.tl_engine.specs.declared.status.Status.{Status};
+ghost use Rattle.tl_engine.specs.declared.status.ToolFault.{ToolFault};
+ghost use Rattle.tl_engine.specs.statement.Fault.{fault_text};
+ghost use Rattle.tl_commit_lines.specs.code.EventWatching.{events_judged_for};
+ghost use Rattle.tl_commit_story.specs.code.Replaying.{KnowsStory};
+ghost use Rattle.tl_params.specs.declared.liberties.Liberties.{Liberties};
+ghost use Rattle.tl_commit_story.specs.statement.Explained.{Explains, GivesUpEvents, ReachesBoth};
+
+use crate::cached::Cached;
+use crate::examine::{Found, examine};
+use crate::places::block_of;
+use crate::replay::{Replay, State};
+use crate::sentences::{is_breach, limits, other_words};
+use crate::story::Story;
+use std::alloc::{AllocError, Global};
+use std::io::{Read, Write};
+use tl_beat::fault::LineFault;
+use tl_commit_lines::lines::EventLines;
+use tl_engine::engine::judge_input;
+use tl_engine::explain::write_both;
+use tl_engine::explain_fault::ExplainFault;
+use tl_engine::fault::{Fault, append_fault};
+use tl_engine::lines::Lines;
+use tl_engine::status::Status;
+use tl_events::event::read_event;
+use tl_explain::told::Spelling;
+use tl_params::liberties::Liberties;
+use tl_params::width::Width;
+
+/// Whether two texts are the same.
+fn is_same(one: &[u8], other: &[u8]) -> bool
+    ensures { result ≡ true → one.now ≡ other.now }
+{
+    one == other
+}
+
+/// Whether the verdict is that the line after these has this fault.
+fn is_verdict(alloc: Global, count: u64, fault: Fault, verdict: &[u8]) -> Result<bool, AllocError>
+    ensures { IfOk result (λ same. same ≡ true → verdict.now ≡ fault_text (count + 1) fault) }
+{
+    let Some(number) = count.checked_add(1) else {
+        return Ok(false);
+    };
+    let mut text = Vec::new(alloc);
+    append_fault(number, fault, &mut text)?;
+    Ok(is_same(text.as_slice(), verdict))
+}
+
+/// Begins to read again, up to the line at fault. None if the line spells no event.
+fn start_of<const W: usize>(
+    alloc: Global,
+    together: bool,
+    allow: Liberties,
+    fault: Fault,
+    line: &Spelling,
+) -> Option<Story<W>>
+    requires { IsWidth W }
+    ensures knows { IfSome result (λ story. KnowsStory story [] []) }
+    ensures purpose { IfSome result (λ story. events_judged_for story.lines ≡ (together, allow)) }
+{
+    let Ok((link, event)) = read_event::<W>(line.line()) else {
+        return None;
+    };
+    let cached = Cached {
+        link,
+        block: block_of(&event),
+    };
+    Some(Story {
+        lines: EventLines::new(alloc, together, allow),
+        replay: Replay {
+            alloc,
+            cached,
+            allow,
+            fault,
+            count: 0,
+            state: State::Waiting,
+            told: false,
+            reasons: Vec::new(alloc),
+        },
+    })
+}
+
+/// Explains the line of an event that breaks a rule.
+fn explain_event<const W: usize, R: Read>(
+    alloc: Global,
+    together: bool,
+    allow: Liberties,
+    reader: &mut R,
+    fault: Fault,
+    line: &Spelling,
+    verdict: &[u8],
+    out: &mut Vec<u8>,
+) -> Result<(), ExplainFault>
+    requires width { IsWidth W }
+    requires empty { out.old.items ≡ [] }
+    ensures ok { OnOk result (Explains together allow (R.remaining reader.old) (R.remaining reader.new) verdict.now
+        out.new.items Status.Broken) }
+    ensures fault { IfErr result (λ fault. fault ≢ ExplainFault.Tool ToolFault.Write) }
+{
+    let Some(start) = start_of::<W>(alloc, together, allow, fault, line) else {
+        return Err(ExplainFault::Changed);
+    };
+    let mut lines = Lines::new(start);
+    let mut text = Vec::new(alloc);
+    judge_input(alloc, &mut lines, reader, &mut text)?;
+    let replay = lines.into_handler().replay;
+    if !replay.told || !is_breach(replay.fault) {
+        return Err(ExplainFault::Changed);
+    }
+    if replay.allow != allow {
+        return Err(ExplainFault::Changed);
+    }
+    if !is_same(text.as_slice(), verdict) {
+        return Err(ExplainFault::Changed);
+    }
+    if !is_verdict(alloc, replay.count, replay.fault, verdict)? {
+        return Err(ExplainFault::Changed);
+    }
+    out.extend_from_slice(&replay.reasons)?;
+    Ok(())
+}
+
+/// Explains the line of an event, in a trace of beats of this width, that breaks a rule.
+fn explain_breach<R: Read>(
+    alloc: Global,
+    together: bool,
+    allow: Liberties,
+    reader: &mut R,
+    width: Width,
+    fault: Fault,
+    line: &Spelling,
+    verdict: &[u8],
+    out: &mut Vec<u8>,
+) -> Result<(), ExplainFault>
+    requires { out.old.items ≡ [] }
+    ensures ok { OnOk result (Explains together allow (R.remaining reader.old) (R.remaining reader.new) verdict.now
+        out.new.items Status.Broken) }
+    ensures fault { IfErr result (λ fault. fault ≢ ExplainFault.Tool ToolFault.Write) }
+{
+    match width {
+        Width::Four => {
+            explain_event::<4, R>(alloc, together, allow, reader, fault, line, verdict, out)
+        }
+        Width::Eight => {
+            explain_event::<8, R>(alloc, together, allow, reader, fault, line, verdict, out)
+        }
+        Width::Sixteen => {
+            explain_event::<16, R>(alloc, together, allow, reader, fault, line, verdict, out)
+        }
+    }
+}
+
+/// Appends the words for a fault that is no breach of a rule.
+fn explain_other(
+    alloc: Global,
+    good: u64,
+    fault: Fault,
+    verdict: &[u8],
+    out: &mut Vec<u8>,
+) -> Result<(), ExplainFault>
+    requires { out.old.items ≡ [] }
+    ensures ok { OnOk result ((together : Bool) (allow : Liberties) (old new : Option (List ℕ)) →
+        Explains together allow old new verdict.now out.new.items Status.Broken) }
+    ensures fault { IfErr result (λ fault. fault ≢ ExplainFault.Tool ToolFault.Write) }
+{
+    if is_breach(fault) || !is_verdict(alloc, good, fault, verdict)? {
+        return Err(ExplainFault::Changed);
+    }
+    out.extend_from_slice(other_words(fault).as_bytes())?;
+    Ok(())
+}
+
+/// Appends the reasons of a verdict that a line is at fault.
+fn explain_found<R: Read>(
+    alloc: Global,
+    together: bool,
+    allow: Liberties,
+    reader: &mut R,
+    found: &Found,
+    verdict: &[u8],
+    out: &mut Vec<u8>,
+) -> Result<(), ExplainFault>
+    requires { out.old.items ≡ [] }
+    ensures ok { OnOk result (Explains together allow (R.remaining reader.old) (R.remaining reader.new) verdict.now
+        out.new.items Status.Broken) }
+    ensures fault { IfErr result (λ fault. fault ≢ ExplainFault.Tool ToolFault.Write) }
+{
+    match (found.width, &found.fault) {
+        (Some(width), Some((fault, line))) if is_breach(*fault) => {
+            explain_breach(
+                alloc, together, allow, reader, width, *fault, line, verdict, out,
+            )
+        }
+        (_, Some((fault, _))) => explain_other(alloc, found.good, *fault, verdict, out),
+        (_, None) => {
+            let open = Fault::Line(LineFault::F1);
+            explain_other(alloc, found.good, open, verdict, out)
+        }
+    }
+}
+
+/// Appends the reasons of a verdict. A trace at fault is read again.
+fn reasons<R: Read>(
+    alloc: Global,
+    together: bool,
+    allow: Liberties,
+    reader: &mut R,
+    found: &Found,
+    status: Status,
+    verdict: &[u8],
+    out: &mut Vec<u8>,
+) -> Result<(), ExplainFault>
+    requires { out.old.items ≡ [] }
+    ensures ok { OnOk result (Explains together allow (R.remaining reader.old) (R.remaining reader.new) verdict.now
+        out.new.items status) }
+    ensures fault { IfErr result (λ fault. fault ≢ ExplainFault.Tool ToolFault.Write) }
+{
+    match status {
+        Status::Clean => {
+            out.extend_from_slice(limits(together).as_bytes())?;
+            Ok(())
+        }
+        Status::Broken => explain_found(alloc, together, allow, reader, found, verdict, out),
+    }
+}
+
+/// Writes the verdict of `monitor`, or of `coherent`, on a trace whose header names a link of level C+, and the reasons
+/// after it. The links have the liberties that the header names and those that are allowed. The two readers read the
+/// same file from its front. The second reads up to the line at fault, and its verdict is the same.
+///
+/// For a broken rule the reasons are its sentence and the event at fault. For a rule of stores and loads there follows
+/// what the link of the event holds of the block, with the event at which this last changed; the first beat of a
+/// GrantData, ProbeAckData or ReleaseData of the block that isn't complete; and the last store to each byte that the
+/// event is about. For a line that spells no event they are the sentence of its fault. After a trace without a fault
+/// come the limits of the verdict.
+///
+/// Nothing is written before both readings have reached their ends. After that the only fault is `Write`: the writer
+/// took only a front of the text. `Read` and `Memory` are faults of the first reading, before its verdict and before
+/// the second begins, or of the second. `Changed` comes only after the verdict: the readings differ, or a beat breaks a
+/// rule in a trace without a level C+.
+pub fn explain_events<R: Read, S: Read, W: Write>(
+    alloc: Global,
+    together: bool,
+    allow: Liberties,
+    first: &mut R,
+    second: &mut S,
+    writer: &mut W,
+) -> Result<Status, ExplainFault>
+    ensures ok { IfOk result (λ status. (text : List ℕ)
+        × ReachesBoth together allow (R.remaining first.old) (R.remaining first.new) (S.remaining second.old)
+        (S.remaining second.new) text status
+        × Appends (W.contents writer.old) (W.contents writer.new) text) }
+    ensures fault { IfErr result (GivesUpEvents together allow (R.remaining first.old) (R.remaining first.new)
+        (S.remaining second.old) (S.remaining second.new) (W.contents writer.old) (W.contents writer.new)) }
+{
+    let mut verdict = Vec::new(alloc);
+    let (found, status) = examine(alloc, together, allow, first, &mut verdict)?;
+    let mut why = Vec::new(alloc);
+    reasons(
+        alloc, together, allow, second, &found, status, &verdict, &mut why,
+    )?;
+    write_both(&verdict, &why, writer)?;
+    Ok(status)
+}

@@ -235,10 +235,10 @@ fn reasons<R: Read>(
 /// same file from its front. The second reads up to the line at fault, and its verdict is the same.
 ///
 /// For a broken rule the reasons are its sentence and the event at fault. For a rule of stores and loads there follows
-/// what the link of the event holds of the block, with the event at which this last changed; the first beat of a
-/// GrantData, ProbeAckData or ReleaseData of the block that isn't complete; and the last store to each byte that the
-/// event is about. For a line that spells no event they are the sentence of its fault. After a trace without a fault
-/// come the limits of the verdict.
+/// the permission that the link of the event holds of the block, with the event at which it last changed; the first
+/// beat of a GrantData, ProbeAckData or ReleaseData of the block that isn't complete; and the last store to each byte
+/// that the event is about. For a line that spells no event they are the sentence of its fault. After a trace without a
+/// fault come the limits of the verdict.
 ///
 /// Nothing is written before both readings have reached their ends. After that the only fault is `Write`: the writer
 /// took only a front of the text. `Read` and `Memory` are faults of the first reading, before its verdict and before

@@ -38,7 +38,7 @@ use tl_rules::kind::is_grant;
 use tl_rules::past::Request;
 use tl_rules::perm::Perm;
 
-/// What is known of a block in the cache of a link: the permission held and the event at which it changed, the data
+/// A block in the cache of a link: the permission held and the event at which it changed, the data
 /// under way, and the last store to each byte.
 #[derive(Drop)]
 pub struct Grounds<const W: usize> {

@@ -11,7 +11,7 @@ use tl_params::liberties::Liberties;
 pub enum State<const W: usize> {
     /// No line has been read.
     Waiting,
-    /// The header, and events behind it.
+    /// The header, and events after it.
     Following(Grounds<W>),
     /// A line that can't be taken: the lines differ from the first reading.
     Lost,

@@ -99,7 +99,7 @@ fn append_reasons<const W: usize>(
 }
 
 impl<const W: usize> Replay<W> {
-    /// What the header begins, if this line is one with this width.
+    /// The reading that the header begins, if this line is one with this width.
     fn begin(&self, line: &[u8]) -> Result<State<W>, AllocError>
         requires { IsWidth W }
         ensures { IfOk result (λ state. Begins self.now state line.now) }

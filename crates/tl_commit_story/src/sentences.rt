@@ -60,7 +60,7 @@ pub fn other_words(fault: Fault) -> &'static str
     }
 }
 
-/// What the verdict on a trace without a fault doesn't say.
+/// The questions that the verdict on a trace without a fault leaves open.
 pub fn limits(together: bool) -> &'static str
     ensures { result.now ≡ Words.limits together }
 {

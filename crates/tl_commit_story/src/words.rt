@@ -67,7 +67,7 @@ fn append_value(piece: Piece, value: u64, out: &mut Vec<u8>) -> Result<(), Alloc
     append_digits(value, value_digits(piece.size), out)
 }
 
-/// Appends what a core does.
+/// Appends the action of a core.
 fn append_commit_words(commit: Commit, out: &mut Vec<u8>) -> Result<(), AllocError>
     requires { (piece_in commit).size ≤ 3 }
     ensures { OnOk result (out.new.items ≡ out.old.items ++ Words.commit_words commit) }

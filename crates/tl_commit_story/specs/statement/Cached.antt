@@ -1,4 +1,4 @@
--- What the history of a trace with commits says of one block in the cache of a link.
+-- One block in the cache of a link, by the history of a trace with commits.
 use Rattle.std.specs.Prelude.{◌==◌, ◌&&◌, ◌+◌, ◌*◌, ◌^◌, ◌%◌, ℕ, Bool, false, List, [], ◌∷◌, length}
 use Rattle.std.specs.Prelude.{Option, Some, None, if◌then◌else◌}
 use Rattle.tl_beat.specs.declared.beat.Beat.{Beat}
@@ -38,7 +38,7 @@ block_of (event.Commit (commit.Store piece value)) = block_at piece.address
 block_of (event.Commit (commit.Load piece value)) = block_at piece.address
 block_of (event.Commit (commit.Begin piece)) = block_at piece.address
 
--- ---- what the link holds
+-- ---- the permission held
 
 -- the permission that it holds
 abbrev pub holding : {w : ℕ} → Liberties → List Level → Cached → Events w → Perm

@@ -1,4 +1,4 @@
--- The grounds for a breach of a rule of stores and loads: what the link holds, its data under way, the last stores.
+-- The grounds for a breach of a rule of stores and loads: the permission held, the data under way, the last stores.
 use Rattle.std.specs.Prelude.{◌==◌, ◌+◌, ◌*◌, ◌++◌, ℕ, zero, suc, List, [], ◌∷◌, codes, Option, Some, None, if◌then◌else◌}
 use Rattle.tl_beat.specs.declared.beat.Link.{Link}
 use Rattle.tl_beat.specs.declared.channel.Channel.TheVariants as channel
@@ -17,7 +17,7 @@ use Rattle.tl_commit_story.specs.statement.Cached.{Stored, begun_by, block_of, c
 use Rattle.tl_commit_story.specs.statement.Cached.{last_store, places_of}
 use Rattle.tl_commit_story.specs.statement.Words.{commit_text, sentence_of}
 
--- ---- what the link holds
+-- ---- the permission held
 
 -- since an event with these words, or since the start of the trace if there are none
 abbrev pub since_words : List ℕ → List ℕ
@@ -49,8 +49,8 @@ abbrev pub number_or : ℕ → Option Stored → ℕ
 number_or n None = n
 number_or n (Some s) = s.number
 
--- The stores to as many bytes from a place on, by what is the last one to each; one that reached several bytes in a row is
--- told once. Line n is the last that was told.
+-- The stores to as many bytes from a place on, by the last one to each. One that reached several bytes in a row is listed
+-- once. Line n is the last that was listed.
 unfoldable pub stores_from : (ℕ → Option Stored) → ℕ → ℕ → ℕ → List ℕ
 stores_from last place zero n = []
 stores_from last place (suc count) n =
@@ -71,7 +71,7 @@ grounds_at may levels c places e =
     ++ (begun_words (codes "  a ProbeAckData or ReleaseData of the block is under way since:\n") (begun_by channel.C levels c e)
     ++ stored_words (stores_from (λ place. last_store c.block place e) places.0 places.1 0))))
 
--- what an event of a link is about
+-- the block that an event of a link is about
 abbrev pub cached_by : {w : ℕ} → Link → Event w → Cached
 cached_by link x = record { link = link; block = block_of x }
 

@@ -33,7 +33,7 @@ piece_words piece = bytes_words piece.size ++ (codes " at " ++ digits 8 piece.ad
 abbrev pub value_words : Piece → ℕ → List ℕ
 value_words piece value = codes ": " ++ digits (value_digits piece.size) value
 
--- what a core does
+-- the action of a core
 abbrev pub commit_words : Commit → List ℕ
 commit_words (commit.Store piece value) = codes " stores " ++ (piece_words piece ++ value_words piece value)
 commit_words (commit.Load piece value) = codes " loads " ++ (piece_words piece ++ value_words piece value)
@@ -84,7 +84,7 @@ other_words _ = []
 
 -- ---- a trace without a fault
 
--- what its verdict doesn't say
+-- the questions that its verdict leaves open
 abbrev pub limits : Bool → List ℕ
 limits true = codes
     "  coherent means that no beat breaks a rule of its own link or of memory, and no event a rule of stores and loads; it says nothing about messages that never come, nor about a link that isn't in the trace\n"

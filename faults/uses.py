@@ -461,7 +461,6 @@ ROWS = [
     # why an event is at fault
     ("tltool explain rules/M6.trace", 0, "clean 5\n  clean means ..", ""),
     ("tltool explain --coherent rules/M6_right.trace", 0, "coherent 5\n  coherent means ..", ""),
-    ("tltool explain --coherent <rules/M6.trace", 1, "line 6 M6\n", ""),
     *((f"tltool explain --coherent rules/{name}.trace | sed 2d", 0, told, "") for name, told in STORIES.items()),
     *((f"(tltool explain {name} | head -1; tltool explain --coherent rules/{name}.trace | sed -n 's/^  //;2p') | uniq | wc -l", 0, "1\n", "") for name in ("M5", "M6", "M7")),
     ("sed '5s/05/07 /' rules/M6.trace >long.trace; tltool explain --coherent long.trace", 1, "line 5 F1\n  F1: more than 256 bytes, or ..", ""),

@@ -27,6 +27,7 @@ use Rattle.tl_engine.specs.statement.Told.{text_so_far, text_told}
 use Rattle.tl_engine.specs.statement.Unexplained.{GivesUpExplaining, Reaches}
 use Rattle.tl_engine.specs.statement.Width.{bytes_of}
 use Rattle.tl_links.specs.statement.Allowed.{FindsAllowed, allowed_line}
+use Rattle.tl_engine.specs.statement.JudgedLinks.{JudgedLinks, LinksSoFar}
 use Rattle.tl_random.specs.statement.Random.{WritesPart, WritesSchedule}
 use Rattle.tl_report.specs.declared.findings.Finding.{Finding}
 use Rattle.tl_report.specs.statement.Said.{GivesUpSearching, Searches, all_text, status_of}
@@ -36,13 +37,13 @@ use Rattle.tl_wide_lines.specs.statement.WideDecoded.{DecodedSoFar, DecodedWide}
 use Rattle.tl_wide_lines.specs.statement.WideExplained.{GivesUpWide, ReachesBoth}
 
 -- A command's text of these lines, with the status at their end; for `explain` the first line of its text. `monitor`,
--- `coherent` and `explain` also read headers that name liberties, of wide beats, and of traces with commits, and take
--- further liberties.
+-- `coherent` and `explain` also read headers that name liberties, and take further ones; the first two also read
+-- headers of wide beats, and of traces with commits.
 abbrev pub program_told : Command → Liberties → List (List ℕ) → List ℕ → Status → Type 0
 program_told Monitor allow = JudgedCommits false allow
 program_told (Decode width) allow = text_told (Decode width)
 program_told Coherent allow = JudgedCommits true allow
-program_told (Explain together) allow = JudgedCommits together allow
+program_told (Explain together) allow = JudgedLinks together allow
 program_told (Run trace) allow = text_told (Run trace)
 
 -- the text of these lines without a fault, before the end of the input
@@ -50,7 +51,7 @@ abbrev pub program_so_far : Command → Liberties → List (List ℕ) → List �
 program_so_far Monitor allow = CommitsSoFar false allow
 program_so_far (Decode width) allow = text_so_far (Decode width)
 program_so_far Coherent allow = CommitsSoFar true allow
-program_so_far (Explain together) allow = CommitsSoFar together allow
+program_so_far (Explain together) allow = LinksSoFar together allow
 program_so_far (Run trace) allow = text_so_far (Run trace)
 
 -- the outcome is one that these texts have over the input and the output

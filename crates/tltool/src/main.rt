@@ -35,6 +35,7 @@ use tl_engine::output::{write_all, write_changed, write_once, write_open_fault};
 use tl_engine::status::{Status, ToolFault, exit_of};
 use tl_engine::tool::run_tool;
 use tl_links::allowing::append_allowed;
+use tl_links::run::run_links;
 use tl_params::liberties::Liberties;
 use tl_random::schedule::write_schedule;
 use tl_report::find::find_all;
@@ -89,7 +90,7 @@ fn run_over<R: Read, W: Write>(
         Command::Monitor => told(rt, run_events(rt.alloc(), false, allow, input, output)),
         Command::Coherent => told(rt, run_events(rt.alloc(), true, allow, input, output)),
         Command::Explain { coherent } => {
-            told(rt, run_events(rt.alloc(), coherent, allow, input, output))
+            told(rt, run_links(rt.alloc(), coherent, allow, input, output))
         }
         _ => told(rt, run_tool(rt.alloc(), command, input, output)),
     }

@@ -25,12 +25,12 @@ returns-in-Coherent g c = rw c.in-Coherent.is (
 
 pub returns-in-Explain : goal.returns-in-Explain
 returns-in-Explain g c = rw c.in-Explain.is (
-  c.run_events-in-Explain.result,
+  c.run_links.result,
   c.told-in-Explain.ensures,
   (
-    c.run_events-in-Explain.ensures.ok,
-    c.run_events-in-Explain.ensures.err,
-    c.run_events-in-Explain.ensures.fault,
+    c.run_links.ensures.ok,
+    c.run_links.ensures.err,
+    c.run_links.ensures.fault,
   ),
 )
 

@@ -120,6 +120,25 @@ def icarus(name, top, sources, *flags):
     return built
 
 
+class ScriptedBench:
+    """A bench that plays scripts, in both simulators. Its trace has the name `trace`."""
+
+    def __init__(self, trace, top, sources):
+        self.trace, self.top, self.sources = trace, top, sources
+
+    def simulations(self, name, *flags):
+        """The bench in each simulator, with the exit status that a $fatal ends it with."""
+        name = f"{self.trace}_{name}"
+        return (("Verilator", [verilator(name, self.top, self.sources, *flags)], -6),
+                ("Icarus", ["vvp", "-n", icarus(f"{name}.vvp", self.top, self.sources, *flags)], 1))
+
+    def played(self, command, script, *words, status=0):
+        """What a run of the script tells."""
+        with open(path("script"), "w") as text:
+            text.write("\n".join(script) + "\n")
+        return run([*command, f"+script={path('script')}", f"+trace={path(self.trace)}", *words], status=status)
+
+
 def over_library(cpp):
     """What Verilator wants for these sources of C++ over the library."""
     return files(cpp) + [LIBRARY, "-CFLAGS", "-I" + os.path.join(HERE, "include")]

@@ -7,7 +7,7 @@ import sys
 
 from harness import (
     BUGS, COMMIT_CHECKER, COMMIT_RECORDER, COMMIT_WATCH, COPY_BUGS, EXAMPLE, INCLUDES, LIBERAL_BUGS, LIBERAL_COPY_BUGS, ROOT, SV, WATCH,
-    beat_lines, commits_checked, files, icarus, judged, path, recorded_commits, run, test, verilator, want,
+    ScriptedBench, beat_lines, commits_checked, files, icarus, judged, path, recorded_commits, run, test, want,
 )
 
 sys.path.insert(0, os.path.join(ROOT, "bench"))
@@ -15,6 +15,8 @@ import commits_model
 
 TOP = "test_ports"
 SOURCES = WATCH + COMMIT_RECORDER + [f"tests/{TOP}.sv"]
+BENCH = ScriptedBench("committed", TOP, SOURCES)
+simulations, played = BENCH.simulations, BENCH.played
 
 
 def flags(parameters, *more):
@@ -24,19 +26,6 @@ def flags(parameters, *more):
 
 ONE = flags(".COMPLETE(16'b1)")
 TWO = flags(".COMPLETE(16'b10),.LIBERTIES(127)", "-DN=2", "-DLEVELS=4'b1010")
-
-def simulations(name, *flags):
-    """The bench of scripts in both simulators, with what a $fatal ends it with."""
-    return (("Verilator", [verilator(f"commits_{name}", TOP, SOURCES, *flags)], -6),
-            ("Icarus", ["vvp", "-n", icarus(f"commits_{name}.vvp", TOP, SOURCES, *flags)], 1))
-
-
-def played(command, script, *words, status=0):
-    """What a run of the script tells; its trace is `committed`."""
-    with open(path("script"), "w") as text:
-        text.write("\n".join(script) + "\n")
-    return run([*command, f"+script={path('script')}", f"+trace={path('committed')}", *words], status=status)
-
 
 @test
 def the_commits_of_an_edge_are_before_its_beats_or_behind_them():

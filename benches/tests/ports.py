@@ -4,10 +4,12 @@ clients that share a port, and times."""
 import os
 import re
 
-from harness import DPI, SV, test, want, run, path, verilator, icarus, judged, beat_lines
+from harness import DPI, SV, ScriptedBench, path, test, want, verilator, judged, beat_lines
 
 TOP = "test_ports"
 SOURCES = SV + [f"tests/{TOP}.sv"]
+BENCH = ScriptedBench("ports", TOP, SOURCES)
+simulations, played = BENCH.simulations, BENCH.played
 
 # A block that is acquired to write and then to read again on the script's port: an AcquirePerm, its Grant and GrantAck.
 ACQUIRE = "A 0 7 1 6 {source:x} {address:x} edge 1"
@@ -18,19 +20,6 @@ HELD = [ACQUIRE, GRANT, GRANT_ACK]
 
 def filled(lines, source=0, sink=0, address=0):
     return [line.format(source=source, sink=sink, address=address) for line in lines]
-
-
-def simulations(name, *flags):
-    """The bench in both simulators, with what a $fatal ends it with."""
-    return (("Verilator", [verilator(f"ports_{name}", TOP, SOURCES, *flags)], -6),
-            ("Icarus", ["vvp", "-n", icarus(f"ports_{name}.vvp", TOP, SOURCES, *flags)], 1))
-
-
-def played(command, script, *words, status=0):
-    """What a run of the script tells; its trace is `ports`."""
-    with open(path("script"), "w") as text:
-        text.write("\n".join(script) + "\n")
-    return run([*command, f"+script={path('script')}", f"+trace={path('ports')}", *words], status=status)
 
 
 @test

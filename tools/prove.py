@@ -9,6 +9,7 @@ same files it keeps. `rt ci` builds no static library, and a program that it kee
 check builds it. In a crate's folder `rt run` and `rt lib` do the same for one crate after another, and keep what they proved."""
 import os
 import pathlib
+import re
 import shutil
 import subprocess
 import sys
@@ -17,8 +18,11 @@ import tempfile
 from verdicts import BUILT, ROOT, below, crates, faults, noted, sources
 
 
+CORES = len(os.sched_getaffinity(0))
 # The processes that check one crate by itself; each takes up to 3 GB.
-JOBS = min(4, len(os.sched_getaffinity(0)))
+JOBS = min(4, CORES)
+# What `rt ci` needs for each crate that it proves beside others: 3 GB at most, of these crates.
+ROOM = 4_000_000_000
 
 
 def copy(names, room):
@@ -69,11 +73,19 @@ def build_here(names, notes):
     return next((status for crate in names if (status := build(crate, ROOT))), 0)
 
 
+def environment():
+    """That of `rt ci`: one crate a core, where the memory allows it. Of itself `rt ci` sets aside two to three times what a crate
+    takes, and so leaves cores idle."""
+    free = re.search(r"^MemAvailable:\s+(\d+)", pathlib.Path("/proc/meminfo").read_text(), re.M)
+    fits = free is not None and int(free[1]) * 1024 >= CORES * ROOM
+    return {"RT_JOBS": str(CORES), **os.environ} if fits else os.environ
+
+
 def prove(names):
     with tempfile.TemporaryDirectory(prefix="prove-") as folder:
         room = pathlib.Path(folder)
         copy(set().union(*map(below, names)), room)
-        status = subprocess.run(["rt", "ci"], cwd=room).returncode
+        status = subprocess.run(["rt", "ci"], cwd=room, env=environment()).returncode
         for crate in names:
             if status == 0 and not all((room / file).exists() for file in BUILT[crate]):
                 status = build(crate, room)

@@ -64,9 +64,9 @@ def checked_script(count=0):
 
 def played(script, *words, count=0, status=0):
     """What a run of the script tells; its trace is `checked`."""
-    with open(path("script"), "w") as text:
+    with open(path("checked_script"), "w") as text:
         text.write("\n".join(script) + "\n")
-    return run([*checked_script(count), f"+script={path('script')}", f"+trace={path('checked')}", *words], status=status)
+    return run([*checked_script(count), f"+script={path('checked_script')}", f"+trace={path('checked')}", *words], status=status)
 
 
 GRANTED = ["A 0 7 1 6 0 40 edge 1", "D 0 4 0 6 0 0 edge 1", "E 0 0 edge 1"]

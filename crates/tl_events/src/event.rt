@@ -13,6 +13,12 @@ use tl_beat::beat::Link;
 use tl_beat::fault::LineFault;
 use tl_beat::read::read_line;
 
+/// Whether a line of two digits, a space and a letter has the letter of a commit.
+#[inline(always)]
+fn has_letter_of_commit(line: &[u8]) -> bool {
+    matches!(line, [_, _, _, b'S' | b'L' | b'I', ..])
+}
+
 /// Reads a line of text, with its line feed, as a link and an event: a beat of `W` bytes (4, 8 or 16), or a commit. The
 /// error for a line that spells neither is its first fault as a beat's line, or that as a commit's line if its letter is
 /// no channel's. It takes any bytes and allocates no memory. A line of more than 256 bytes is refused by its length
@@ -28,6 +34,11 @@ pub fn read_event<const W: usize>(line: &[u8]) -> Result<(Link, Event<W>), LineF
         (k ≡ l) × (x ≡ y) }
     ensures fault { result_err result ≡ event_fault W line.now }
 {
+    if has_letter_of_commit(line) {
+        if let Ok((link, commit)) = read_commit(line) {
+            return Ok((link, Event::Commit(commit)));
+        }
+    }
     let fault = match read_line(line) {
         Ok((link, beat)) => return Ok((link, Event::Beat(beat))),
         Err(fault) => fault,

@@ -23,6 +23,13 @@ use Rattle.tl_coherence.proofs.flow.NextOnD.{IsGrantBeat, grant-next, grant_sent
 use Rattle.tl_concord.{proofs.Beats.same_d, proofs.Carried.carried-begun, proofs.GrantAsked.grant-asked}
 use Rattle.tl_concord.{proofs.ReportTold.IsToldBy, proofs.ReportTold.said_of}
 
+-- the lanes of a beat of a Grant are those of its data, if it has data
+pub grant_lanes : (w : ℕ) (d : Bool) (k : Cap) (source sink : ℕ) (truth : List ℕ) (i : ℕ)
+    → lanes_of {w = w} (Beat.D (d_beat_of (grant_message d k source sink truth) i))
+    ≡ unwrap_or (lanes_at d w truth i) []
+grant_lanes w true k source sink truth i = refl
+grant_lanes w false k source sink truth i = refl
+
 pub same_acquire : (n j : ℕ) → Acquires n ≡ Acquires j → j ≡ n
 same_acquire n j e = cc
 
@@ -122,12 +129,6 @@ module _ {w : ℕ} (config : Config) (log : Log w) (given : IsGiven config log) 
 
   -- ---- what it tells
 
-  grant_lanes : (d : Bool) (k : Cap) (source sink : ℕ) (truth : List ℕ) (i : ℕ)
-      → lanes_of {w = w} (Beat.D (d_beat_of (grant_message d k source sink truth) i))
-      ≡ unwrap_or (lanes_at d w truth i) []
-  grant_lanes true k source sink truth i = refl
-  grant_lanes false k source sink truth i = refl
-
   -- the request that it answers is the one that the client has open
   unread : (n : ℕ) (due : IsGrantDue c n h.state) → y.source ≡ (h.state.block n).source c → due.whole ≡ true
       → asks_unread (request_of y.source past) ≡ true
@@ -159,7 +160,7 @@ module _ {w : ℕ} (config : Config) (log : Log w) (given : IsGiven config log) 
       told e place lt =
           rw (whole, is.beside.memory block place lt)
           (carried-begun (Message.D (grant_sent c block h.state burst.due)) burst.due.data_too
-          (h.state.block block).truth (grant_lanes burst.due.data_too burst.due.k ((h.state.block block).source c)
+          (h.state.block block).truth (grant_lanes w burst.due.data_too burst.due.k ((h.state.block block).source c)
           (h.state.block block).tracker (h.state.block block).truth) (suc burst.k) place)
         where
           burst : IsGrantBurst block

@@ -5,9 +5,13 @@ use Rattle.tl_concord.proofs.Imports.{could_be, tells_late, ProbeAck, Release, B
 use Rattle.tl_concord.proofs.Imports.{block_message, message_of, MonitorRelations, SimulationRelation, is_caching, flow}
 use Rattle.tl_concord.proofs.Imports.{IsGiven, Log, system_after, one_memory_after, flowed, matched-given, IsNext}
 use Rattle.tl_concord.proofs.Imports.{first-token, and_left, and_right, holds-first}
-use Rattle.std.proofs.Common.{◌≡◌, ℕ, Bool, true, false, ◌&&◌, ◌||◌, ◌+◌, ◌*◌, ◌<◌, List, ◌∷◌, Some, None, refl, sym}
-use Rattle.std.proofs.Common.{◌∙◌, ap}
+use Rattle.std.proofs.Common.{◌≡◌, ℕ, zero, Bool, true, false, ◌&&◌, ◌||◌, ◌+◌, ◌*◌, ◌<◌, ◌≤◌, List, ◌∷◌, Some, None}
+use Rattle.std.proofs.Common.{◌∙◌, ap, arith, inl, inr, length, lit≤, refl, subst, sym}
 use Rattle.std.specs.Prelude.{if◌then◌else◌, ◌==◌, map, suc}
+use Rattle.tl_beat.specs.statement.Width.{IsWidth}
+use Rattle.std.proofs.Math.Nat.{mul-le-mul_left}
+use Rattle.tl_burst.proofs.Begun.{length-begun}
+use Rattle.tl_burst.specs.statement.Burst.{beats_of, data_beats}
 use Rattle.std.proofs.lemmas.Bool.{eqb-true}
 use Rattle.tl_beat.{specs.declared.beat.BeatC.BeatC, specs.declared.channel.Channel.Channel}
 use Rattle.tl_beat.{specs.statement.Opcode.c_carries_data}
@@ -35,6 +39,72 @@ pub record IsToldBy {w : ℕ} (memory : Memory) (block : ℕ) (x : Beat w) (past
       → could_be (memory (64 * block + place)) (carried_byte (x ∷ unfinished (channel_of x) past) place) ≡ true
   pub untold : (p : Perm) → ends x past ≡ true → says_held block x past ≡ Some p → tells_late block x past ≡ false
       → (held block past ≡ Perm.None → p ≡ Perm.None) × (same_perm (held block past) Perm.Trunk ≡ false)
+
+-- A beat of a report of this block: it carries data exactly if its link holds Trunk, by what was delivered, and no Grant
+-- of the block is on its way there.
+pub record IsReport {w : ℕ} (config : Config) (log : Log w) (c : ℕ) (y : BeatC w) : Type 0 where
+  pub number : ℕ
+  pub of_block : block_at y.address ≡ number
+  pub carries : c_carries_data y.opcode ≡ same_perm (held number (flow c log)) Perm.Trunk
+  pub ungranted : is_granting (view ((shadow config log).state.block number).service c) ≡ false
+  -- its place in the burst is within the block
+  pub within : w * length (unfinished Channel.C (flow c log)) + w ≤ 64
+
+-- the beats of a message are within a block
+beats-fit : (w size : ℕ) → IsWidth w → size ≤ 6 → w * data_beats w size ≤ 64
+beats-fit w size width small = elim width [
+  | inl is ↦ rw is (four size small)
+  | inr more ↦ elim more [
+    | inl is ↦ rw is (eight size small)
+    | inr is ↦ rw is (sixteen size small)
+  ]
+]
+  where
+    four : (n : ℕ) → n ≤ 6 → 4 * data_beats 4 n ≤ 64
+    four zero le = omega arith
+    four (suc zero) le = omega arith
+    four (suc (suc zero)) le = omega arith
+    four (suc (suc (suc zero))) le = omega arith
+    four (suc (suc (suc (suc zero)))) le = omega arith
+    four (suc (suc (suc (suc (suc zero))))) le = omega arith
+    four (suc (suc (suc (suc (suc (suc zero)))))) le = omega arith
+    four (suc (suc (suc (suc (suc (suc (suc n))))))) le = absurd (omega arith)
+
+    eight : (n : ℕ) → n ≤ 6 → 8 * data_beats 8 n ≤ 64
+    eight zero le = omega arith
+    eight (suc zero) le = omega arith
+    eight (suc (suc zero)) le = omega arith
+    eight (suc (suc (suc zero))) le = omega arith
+    eight (suc (suc (suc (suc zero)))) le = omega arith
+    eight (suc (suc (suc (suc (suc zero))))) le = omega arith
+    eight (suc (suc (suc (suc (suc (suc zero)))))) le = omega arith
+    eight (suc (suc (suc (suc (suc (suc (suc n))))))) le = absurd (omega arith)
+
+    sixteen : (n : ℕ) → n ≤ 6 → 16 * data_beats 16 n ≤ 64
+    sixteen zero le = omega arith
+    sixteen (suc zero) le = omega arith
+    sixteen (suc (suc zero)) le = omega arith
+    sixteen (suc (suc (suc zero))) le = omega arith
+    sixteen (suc (suc (suc (suc zero)))) le = omega arith
+    sixteen (suc (suc (suc (suc (suc zero))))) le = omega arith
+    sixteen (suc (suc (suc (suc (suc (suc zero)))))) le = omega arith
+    sixteen (suc (suc (suc (suc (suc (suc (suc n))))))) le = absurd (omega arith)
+
+message-fits : {w : ℕ} (m : MessageC w) → IsWidth w → w * beats_of (Message.C m) ≤ 64
+message-fits {w} m width = go (c_carries_data m.opcode)
+  where
+    one : w * 1 ≤ 64
+    one = elim width [ inl is ↦ rw is (lit≤ tt) | inr more ↦ elim more [ inl is ↦ rw is (lit≤ tt) | inr is ↦ rw is (lit≤ tt) ] ]
+
+    go : (b : Bool) → w * (if b then data_beats w m.size else 1) ≤ 64
+    go true = beats-fit w m.size width m.small
+    go false = one
+
+place-fits : (w k beats : ℕ) → k < beats → w * beats ≤ 64 → w * k + w ≤ 64
+place-fits w k beats lt fit =
+    let more = mul-le-mul_left w lt in
+    let next : w * suc k ≡ w * k + w = omega arith in
+    omega (arith, more, next, fit)
 
 report_none : (r : Report) → report_left r ≡ Perm.None → reported (report_code r) ≡ Perm.None
 report_none Report.NtoN e = refl
@@ -138,25 +208,49 @@ module _ {w : ℕ} (config : Config) (log : Log w) (given : IsGiven config log) 
               go false f = refl
               go true f = absurd (let no : true ≡ false = sym (rw (last, f, at) refl) ∙ e in cc)
 
-  pub report-told : (block : ℕ) → IsToldBy memory block (Beat.C y) (flow c log)
-  report-told block =
-      by-first_c (λ i. IsToldBy memory block (Beat.C y) (flow c log)) c h.mail h.state (system_after config log)
-      (Beat.C y) queue
+  -- a message about a block, of which the beat is the next one
+  record IsOfMessage : Type 0 where
+    n : ℕ
+    b : Bool
+    param : ℕ
+    left : Perm
+    m : MessageC w
+    says : IsAbout b n param (same_perm left Perm.Trunk) (h.state.block n).truth m
+    k : ℕ
+    lt : k < beats_of (Message.C m)
+    beat_is : Beat.C y ≡ beat_of (Message.C m) k
+    rest_is : unfinished Channel.C (on_link c (system_after config log).manager.trace) ≡ begun (Message.C m) k
+    ungranted : is_granting (view (h.state.block n).service c) ≡ false
+    begins : same_perm left ((h.state.block n).pair c).recorded ≡ true
+    falls : left ≡ Perm.None → reported param ≡ Perm.None
+
+  of-message : IsOfMessage
+  of-message = by-first_c (λ i. IsOfMessage) c h.mail h.state (system_after config log) (Beat.C y) queue
       (first-token (is_caching config) Channel.C c h.mail h.state (system_after config log) (Beat.C y) queue given.width
-      is.invariant is.carried beats)
-      report release
+      is.invariant is.carried beats) report release
     where
       report : (n : ℕ) (rest : List Packet) → (h.state.link c).c ≡ packet ProbeAck n ∷ rest
           → (next : IsNext (Beat.C y) (unfinished Channel.C (on_link c (system_after config log).manager.trace))
           (block_message ProbeAck c n (h.state.block n)) (map (message_of h.mail h.state c) rest) queue)
-          → IsToldBy memory block (Beat.C y) (flow c log)
+          → IsOfMessage
       report n rest tokens next =
           let m = report_rendered c n (h.state.block n) given.width (is.sized n).truth in
-          about block n true _ (report_left r) m.0 m.2 next.k
-          (next.beat_is ∙ ap (λ (z : Message w). beat_of z next.k) m.1)
-          (next.rest_is ∙ ap (λ (z : Message w). begun z next.k) m.1)
-          (other_ungranted (view b.service c) (answered_other r (b.pair c) (view b.service c) ok_is answered))
-          (report_begins r (b.pair c) (view b.service c) ok_is answered) (report_none r)
+          record {
+            n = n;
+            b = true;
+            param = _;
+            left = report_left r;
+            m = m.0;
+            says = m.2;
+            k = next.k;
+            lt = subst (λ (z : Message w). next.k < beats_of z) m.1 next.within;
+            beat_is = next.beat_is ∙ ap (λ (z : Message w). beat_of z next.k) m.1;
+            rest_is = next.rest_is ∙ ap (λ (z : Message w). begun z next.k) m.1;
+            ungranted =
+                other_ungranted (view b.service c) (answered_other r (b.pair c) (view b.service c) ok_is answered);
+            begins = report_begins r (b.pair c) (view b.service c) ok_is answered;
+            falls = report_none r;
+          }
         where
           b : Block (List ℕ)
           b = h.state.block n
@@ -174,15 +268,25 @@ module _ {w : ℕ} (config : Config) (log : Log w) (given : IsGiven config log) 
       release : (n : ℕ) (rest : List Packet) → (h.state.link c).c ≡ packet Release n ∷ rest
           → (next : IsNext (Beat.C y) (unfinished Channel.C (on_link c (system_after config log).manager.trace))
           (block_message Release c n (h.state.block n)) (map (message_of h.mail h.state c) rest) queue)
-          → IsToldBy memory block (Beat.C y) (flow c log)
+          → IsOfMessage
       release n rest tokens next =
           let m = release_rendered c n (h.state.block n) given.width (is.sized n).truth in
-          about block n false _ (prune_left r) m.0 m.2 next.k
-          (next.beat_is ∙ ap (λ (z : Message w). beat_of z next.k) m.1)
-          (next.rest_is ∙ ap (λ (z : Message w). begun z next.k) m.1)
-          (ungranted (view b.service c) refl)
-          (release_begins r (b.pair c) (view b.service c) ok_is releasing
-          (unanswered (is_caching config) c n rest h.state is.invariant tokens)) (prune_none r)
+          record {
+            n = n;
+            b = false;
+            param = _;
+            left = prune_left r;
+            m = m.0;
+            says = m.2;
+            k = next.k;
+            lt = subst (λ (z : Message w). next.k < beats_of z) m.1 next.within;
+            beat_is = next.beat_is ∙ ap (λ (z : Message w). beat_of z next.k) m.1;
+            rest_is = next.rest_is ∙ ap (λ (z : Message w). begun z next.k) m.1;
+            ungranted = ungranted (view b.service c) refl;
+            begins = release_begins r (b.pair c) (view b.service c) ok_is releasing
+                (unanswered (is_caching config) c n rest h.state is.invariant tokens);
+            falls = prune_none r;
+          }
         where
           b : Block (List ℕ)
           b = h.state.block n
@@ -204,3 +308,24 @@ module _ {w : ℕ} (config : Config) (log : Log w) (given : IsGiven config log) 
               and_left (is_unreleased (b.pair c).letting) _ (and_right (is_unprobed (b.pair c).probing) _ alone) in
               absurd (let no : false ≡ true = rw releasing at held_back in cc)
           ungranted v f = refl
+
+  pub report-told : (block : ℕ) → IsToldBy memory block (Beat.C y) (flow c log)
+  report-told block =
+      let it = of-message in
+      about block it.n it.b it.param it.left it.m it.says it.k it.beat_is it.rest_is it.ungranted it.begins it.falls
+
+  pub report-is : IsReport config log c y
+  report-is =
+      let it = of-message in
+      let same : y ≡ c_beat_of it.m it.k = same_c y (c_beat_of it.m it.k) it.beat_is in
+      let held_is : held it.n (flow c log) ≡ it.left = (values c).held_is it.n
+      ∙ rw it.ungranted (same_perms it.left ((h.state.block it.n).pair c).recorded it.begins) in
+      record {
+        number = it.n;
+        of_block = ap (λ (z : BeatC w). block_at z.address) same ∙ it.says.block;
+        carries = ap (λ (z : BeatC w). c_carries_data z.opcode) same ∙ it.says.carries_is
+            ∙ ap (λ (p : Perm). same_perm p Perm.Trunk) (sym held_is);
+        ungranted = it.ungranted;
+        within = rw ((values c).rest_is Channel.C ∙ it.rest_is, length-begun (Message.C it.m) it.k)
+            (place-fits w it.k (beats_of (Message.C it.m)) it.lt (message-fits it.m given.width));
+      }

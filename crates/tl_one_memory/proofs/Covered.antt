@@ -116,7 +116,7 @@ pub record IsOrderly {w : ℕ} (n address v : ℕ) (done : ℕ → ℕ → Type 
   -- an answer that comes before its request is complete is to the access that may have written the byte
   pub outruns_own : (c s : ℕ) → may_have_written c s address t ≡ true → ReachesOwn address c s y t
 
-could_be-same : (v : ℕ) (a b : Option ℕ) → could_be v a ≡ true → same_value a b ≡ true → could_be v b ≡ true
+pub could_be-same : (v : ℕ) (a b : Option ℕ) → could_be v a ≡ true → same_value a b ≡ true → could_be v b ≡ true
 could_be-same v a None e f = refl
 could_be-same v None (Some u) e f = absurd cc
 could_be-same v (Some u) (Some x) e f = ap (λ (i : ℕ). i == v) (sym (eqb-true u x f)) ∙ e

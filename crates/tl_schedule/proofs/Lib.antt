@@ -12,5 +12,6 @@ pub mod Commons
 pub mod Gets
 pub mod ByteDigits
 pub mod CommitTexts
+pub mod DonePieces
 pub mod Stored
 pub mod Imports

@@ -260,7 +260,7 @@ module _ {w : ℕ} (config : Config) (log : Log w) where
 
 -- ---- the whole log
 
-run-of-log : {w : ℕ} (config : Config) (log : Log w) → IsGiven config log
+pub run-of-log : {w : ℕ} (config : Config) (log : Log w) → IsGiven config log
     → IsRun (links config) (λ address. 0) (run_of config log)
 unfolding IsRun run_of trace_of
 run-of-log config [] given = tt

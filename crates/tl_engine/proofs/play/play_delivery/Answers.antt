@@ -2,7 +2,7 @@ use Rattle.std.proofs.Common.{rules}
 use Rattle.tl_coherence.specs.declared.event.Event.TheVariants.{Deliver}
 use Rattle.tl_coherence.specs.statement.Log.{system_after}
 use Rattle.tl_world.specs.statement.World.{IsWorld}
-use Rattle.tl_engine.proofs.Committed.{has-piece}
+use Rattle.tl_schedule.proofs.DonePieces.{has-piece}
 use Rattle.tl_engine.proofs.Writable.{writable}
 use Rattle.tl_engine.proofs.Played.{happened}
 use Rattle.tl_engine.proofs.play.play_delivery.Goals as goal

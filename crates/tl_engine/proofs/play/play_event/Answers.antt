@@ -1,7 +1,7 @@
 use Rattle.std.proofs.Common.{rules}
 use Rattle.tl_coherence.specs.statement.Log.{system_after}
 use Rattle.tl_world.specs.statement.World.{IsWorld}
-use Rattle.tl_engine.proofs.Committed.{has-piece}
+use Rattle.tl_schedule.proofs.DonePieces.{has-piece}
 use Rattle.tl_engine.proofs.Writable.{writable}
 use Rattle.tl_engine.proofs.Played.{happened}
 use Rattle.tl_engine.proofs.play.play_event.Goals as goal

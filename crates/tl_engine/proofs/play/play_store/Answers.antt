@@ -6,7 +6,7 @@ use Rattle.tl_command.specs.declared.command.RunForm.TheVariants.{Outcomes, Trac
 use Rattle.tl_world.specs.statement.Answered.{answered}
 use Rattle.tl_world.specs.statement.World.{IsWorld}
 use Rattle.tl_engine.proofs.Answered.{asked-traced, asked-writes}
-use Rattle.tl_engine.proofs.Committed.{has-piece}
+use Rattle.tl_schedule.proofs.DonePieces.{has-piece}
 use Rattle.tl_engine.proofs.Played.{happened, happens}
 use Rattle.tl_engine.proofs.play.play_store.Goals as goal
 

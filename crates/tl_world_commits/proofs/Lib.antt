@@ -1,0 +1,12 @@
+pub mod Asked
+pub mod Beats
+pub mod Events
+pub mod Filled
+pub mod Holding
+pub mod Kept
+pub mod Performed
+pub mod Probes
+pub mod Reports
+pub mod Seen
+pub mod Values
+pub mod WholeBlocks

@@ -12,7 +12,8 @@ returns-in-Ok-clause-one_event g c = λ k l x y s t. one-event c.args.line.now k
 
 pub returns-in-Ok-read_line-clause-every_spelling : goal.returns-in-Ok-read_line-clause-every_spelling
 returns-in-Ok-read_line-clause-every_spelling g c = λ link x spells.
-    ok-event c.args.line.now c.in-Ok-read_line.link link (event.Beat c.in-Ok-read_line.beat) x c.requires c.in-Ok-read_line.ensures.spelled spells
+    ok-event c.args.line.now c.in-Ok-read_line.link link (event.Beat c.in-Ok-read_line.beat) x c.requires
+    c.in-Ok-read_line.ensures.spelled spells
 
 pub returns-in-Ok-read_line-clause-one_event : goal.returns-in-Ok-read_line-clause-one_event
 returns-in-Ok-read_line-clause-one_event g c = λ k l x y s t. one-event c.args.line.now k l x y c.requires s t

@@ -36,8 +36,3 @@ filling-is {w} None block t none = go (unfinished channel.D t) refl
     go (beat.E y ∷ older) e = refl
 filling-is (Some granting) block t (y, older, e, granted, is) =
     rw (e, granted) (sym (asked-for granting.block block (request_of y.source t) is.of_block))
-
--- a value that is there or not
-pub some-if : {X : Type 0} (b : Bool) (x : X) → b ≡ is_some (if b then Some x else None)
-some-if true x = refl
-some-if false x = refl

@@ -1,8 +1,8 @@
 //! Lists of the possible values of a block's bytes, with one more write or store.
 
 ghost use Rattle.std.specs.Prelude.{ℕ, [], ◌∷◌, ◌++◌, ◌*◌, ◌+◌, ◌<◌, ◌≡◌, ◌==◌, ◌&&◌, ◌||◌, if◌then◌else◌, filter};
-ghost use Rattle.std.specs.Prelude.{IfOk, OnErr, OnOk, slice_index_or, false, true};
-ghost use Rattle.tl_bytes.specs.code.Tellings.{is_written, value_at, with_write};
+ghost use Rattle.std.specs.Prelude.{IfOk, OnErr, OnOk, false, true};
+ghost use Rattle.tl_bytes.specs.code.Tellings.{is_written, with_write};
 ghost use Rattle.tl_bytes.specs.statement.Bytes.{told_as};
 ghost use Rattle.tl_bytes.specs.statement.Known.{tellings_at};
 ghost use Rattle.tl_bytes.specs.statement.KnownBytes.{known_at};

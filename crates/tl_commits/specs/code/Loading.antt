@@ -1,7 +1,7 @@
 -- The loads that have begun, as a judge keeps them.
 use Rattle.std.specs.List.{AllZip}
 use Rattle.std.specs.Prelude.{ℕ, Bool, true, false, ◌+◌, ◌^◌, ◌++◌, ◌==◌, ◌&&◌, ◌||◌, ◌≡◌, ◌<◌, List, [], ◌∷◌, length}
-use Rattle.std.specs.Prelude.{find, Option, Some, None, ⊤, slice_index_or}
+use Rattle.std.specs.Prelude.{find, Option, Some, None, ⊤}
 use Rattle.tl_beat.specs.declared.beat.Link.{Link}
 use Rattle.tl_params.specs.declared.level.Level.{Level}
 use Rattle.tl_params.specs.declared.liberties.Liberties.{Liberties}
@@ -14,10 +14,8 @@ use Rattle.tl_events.specs.statement.CommitLine.{IsPiece}
 use Rattle.tl_commits.specs.code.ByteSet.{has_at}
 use Rattle.tl_commits.specs.code.ValueTable.{KnowsTable}
 use Rattle.tl_commits.specs.declared.block_values.BlockValues.{BlockValues}
-use Rattle.tl_commits.specs.declared.byte_set.ByteSet.{ByteSet}
 use Rattle.tl_commits.specs.declared.loading.Loading.{Loading}
 use Rattle.tl_commits.specs.statement.Commits.{is_piece_loadable, may_bring}
-use Rattle.tl_commits.specs.statement.Copies.{is_complete}
 use Rattle.tl_commits.specs.statement.Events.{Events, beats_of, is_loading, same_piece, since_begun}
 
 -- it is the load of this piece on this link

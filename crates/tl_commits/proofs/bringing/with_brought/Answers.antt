@@ -1,4 +1,4 @@
-use Rattle.std.proofs.Common.{ap, length, rules, sym, ◌∙◌, ◌≡◌, ◌+◌, ◌*◌, ◌%◌, ◌/◌, true, false}
+use Rattle.std.proofs.Common.{ap, length, ◌∙◌, ◌≡◌, ◌+◌, true, false}
 use Rattle.tl_commits.specs.code.ByteSet.{filled, has_at}
 use Rattle.tl_commits.specs.statement.Copies.{brought, link_beats}
 use Rattle.tl_commits.specs.statement.Events.{beats_of}

@@ -1,5 +1,4 @@
-use Rattle.std.proofs.Common.{length, sym}
-use Rattle.std.specs.Prelude.{Some}
+use Rattle.std.proofs.Common.{length}
 use Rattle.tl_commits.specs.statement.Events.{beats_of}
 use Rattle.tl_commits.proofs.PieceValues.{table-stored}
 use Rattle.tl_commits.proofs.piece_values.store_piece.Goals as goal

@@ -1,4 +1,4 @@
-use Rattle.std.proofs.Common.{◌≡◌, ◌<◌, ℕ, length}
+use Rattle.std.proofs.Common.{◌≡◌, ◌<◌, ℕ}
 use Rattle.std.specs.Prelude.{slice_index_or}
 use Rattle.tl_commits.specs.code.Tellings.{no_told}
 use Rattle.tl_commits.proofs.tellings.is_plain.Given as goal

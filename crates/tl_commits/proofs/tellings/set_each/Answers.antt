@@ -1,5 +1,5 @@
-use Rattle.std.proofs.Common.{◌≡◌, ◌<◌, ◌≤◌, ◌&&◌, arith, ap, ◌∙◌, get_or}
-use Rattle.std.specs.Prelude.{if◌then◌else◌, nat_lt}
+use Rattle.std.proofs.Common.{◌<◌, ◌&&◌, arith, ap, ◌∙◌, get_or}
+use Rattle.std.specs.Prelude.{if◌then◌else◌}
 use Rattle.std.proofs.lemmas.Bool.{lt-ltb}
 use Rattle.tl_commits.specs.code.Tellings.{is_in, no_told, written_there}
 use Rattle.tl_commits.proofs.TellingLists.{plain-set}

@@ -1,5 +1,4 @@
-use Rattle.std.proofs.Common.{rules, ℕ, ◌≡◌, ◌==◌, if◌then◌else◌}
-use Rattle.std.specs.Prelude.{None, Some}
+use Rattle.std.proofs.Common.{rules}
 use Rattle.std.proofs.lemmas.Result.{on_ok_weaker}
 use Rattle.tl_commits.specs.code.ValueTable.{values_in}
 use Rattle.tl_commits.proofs.TableJudged.{kept-there}

@@ -1,4 +1,4 @@
-use Rattle.std.proofs.Common.{arith, sym, ap, subst, ◌∙◌, ◌+◌, ◌||◌}
+use Rattle.std.proofs.Common.{sym, ap, subst, ◌∙◌, ◌+◌, ◌||◌}
 use Rattle.std.proofs.lemmas.List.{get_or-replicate}
 use Rattle.tl_bytes.specs.statement.Bytes.{told_as}
 use Rattle.tl_commits.specs.code.ByteSet.{has, has_at, nothing}

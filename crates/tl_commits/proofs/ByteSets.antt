@@ -1,7 +1,7 @@
 -- Sets of values of a byte, with more of them.
 use Rattle.std.proofs.Common.{◌≡◌, ℕ, Bool, true, false, ◌||◌, ◌<◌, ◌≤◌, ◌^◌, ◌*◌, ◌%◌, ◌/◌, ◌+◌, ◌≢◌, ◌-◌, List, ◌∷◌, get_or, set}
-use Rattle.std.proofs.Common.{length, refl, sym, ap, subst, ◌∙◌, arith, inl, inr, drop, replicate}
-use Rattle.std.specs.Prelude.{if◌then◌else◌, ◌==◌, ◌&&◌, find, is_some, nat_lt, Some}
+use Rattle.std.proofs.Common.{length, refl, sym, ap, ap₂, ◌∙◌, arith, inl, inr, drop, replicate}
+use Rattle.std.specs.Prelude.{if◌then◌else◌, ◌==◌, find, is_some, nat_lt, Some}
 use Rattle.std.specs.Int.{w64}
 use Rattle.std.specs.Int.Bits.{bit_or}
 use Rattle.std.proofs.Math.ListN.{drop_of_length-le}
@@ -9,7 +9,7 @@ use Rattle.std.proofs.lemmas.Bool.{cases_eq, cases_lt, eq-eqb, le-ltb, lt-ltb, n
 use Rattle.std.proofs.lemmas.List.{at_drop_more, get_or-replicate, get_or-set_same, get_or-set_other}
 use Rattle.std.proofs.lemmas.Nat.Bits.{bit_at_ones, bit_at_set_other, bit_at_set_same}
 use Rattle.tl_burst.specs.statement.Burst.{bit}
-use Rattle.tl_commits.specs.code.ByteSet.{has}
+use Rattle.tl_commits.specs.code.ByteSet.{has, has_at, nothing}
 use Rattle.tl_commits.specs.declared.byte_set.ByteSet.{ByteSet}
 use Rattle.tl_bytes.specs.declared.telling.Telling.{Telling}
 use Rattle.tl_bytes.specs.declared.telling.Told.{Told}
@@ -99,40 +99,75 @@ unfolding tellings_at
 told-none p v items i before le = rw (drop_of_length-le items le) (or-false before)
 
 -- each value, with one that is possible
-pub all-or : (before all : ByteSet) (v : ℕ) {now : Bool} → has all v ≡ true → true ≡ now
-    → has all v ≡ (has before v || now)
-all-or before all v each is = each ∙ sym (ap (λ b. has before v || b) (sym is) ∙ or-true (has before v))
+pub any-or : (before : Bool) {each now : Bool} → each ≡ true → true ≡ now → each ≡ (before || now)
+any-or before all is = all ∙ sym (ap (λ b. before || b) (sym is) ∙ or-true before)
 
 -- no value more
-pub none-more : (before : ByteSet) (v : ℕ) {now : Bool} → now ≡ false → has before v ≡ (has before v || now)
-none-more before v off = sym (ap (λ b. has before v || b) off ∙ or-false (has before v))
+pub none-or : (before : Bool) {now : Bool} → now ≡ false → before ≡ (before || now)
+none-or before off = sym (ap (λ b. before || b) off ∙ or-false before)
 
 -- ---- sets by their places
 
--- one of them has more, and those before it have already
-pub added-more : (old : List ByteSet) (next d : ByteSet) (at i v : ℕ) (before now : Bool) → at < length old
-    → has (get_or old i d) v ≡ (before || (nat_lt i at && now))
-    → (i ≡ at → has next v ≡ (has (get_or old at d) v || now))
-    → has (get_or (set old at next) i d) v ≡ (before || (nat_lt i (at + 1) && now))
-added-more old next d at i v before now within was more = elim (cases_eq i at) [
-  | inl same ↦
-      let there : get_or (set old at next) i d ≡ next = rw same (get_or-set_same old at next d within) in
-      let before_is : has (get_or old at d) v ≡ before =
-      subst (λ j. has (get_or old j d) v ≡ (before || (nat_lt j at && now))) same was
-      ∙ rw (le-ltb at at (omega arith)) (or-false before) in
-      let past : i < at + 1 = omega (arith, same) in
-      ap (λ s. has s v) there ∙ more same ∙ rw (before_is, lt-ltb i (at + 1) past) refl
-  | inr apart ↦
-      let there : get_or (set old at next) i d ≡ get_or old i d = get_or-set_other old at i next d apart in
-      ap (λ s. has s v) there ∙ was ∙ ap (λ b. before || (b && now)) (elim (cases_lt i at) [
-        | inl below ↦ lt-ltb i at below ∙ sym (lt-ltb i (at + 1) (omega (arith, below)))
-        | inr above ↦ le-ltb i at above ∙ sym (le-ltb i (at + 1) (omega (arith, above, apart)))
-      ])
+-- a place that isn't the next one is as far as before
+past-other : (i at : ℕ) → i ≢ at → nat_lt i at ≡ nat_lt i (at + 1)
+past-other i at apart = elim (cases_lt i at) [
+  | inl below ↦ lt-ltb i at below ∙ sym (lt-ltb i (at + 1) (omega (arith, below)))
+  | inr above ↦ le-ltb i at above ∙ sym (le-ltb i (at + 1) (omega (arith, above, apart)))
 ]
 
--- none has more yet, and each has
-pub added-none : (before now : Bool) (i : ℕ) → before ≡ (before || (nat_lt i 0 && now))
-added-none before now i = rw (le-ltb i 0 (omega arith)) (sym (or-false before))
+-- one of them has the next of the possible values
+pub set-told : (sets : List ByteSet) (next : ByteSet) (first at i v idx : ℕ) (told : List Told) (d : Told)
+    → at < length sets → idx < length told → first ≤ (get_or told idx d).place
+    → at ≡ (get_or told idx d).place - first → has next v ≡ (has_at sets at v || could_be v (get_or told idx d).telling.value)
+    → (has_at (set sets at next) i v || told_as v (tellings_at (first + i) (drop (idx + 1) told)))
+    ≡ (has_at sets i v || told_as v (tellings_at (first + i) (drop idx told)))
+set-told sets next first at i v idx told d within lt from at_is more = elim (cases_eq i at) [
+  | inl same ↦ rw same (told-next (first + at) v told idx d (has_at sets at v) (has_at (set sets at next) at v) lt
+      (omega (arith, from, at_is))
+      (ap (λ s. has s v) (get_or-set_same sets at next nothing within) ∙ more))
+  | inr apart ↦
+      let other : (get_or told idx d).place ≢ first + i = λ e. apart (omega (arith, e, at_is)) in
+      ap₂ (λ a b. a || b) (ap (λ s. has s v) (get_or-set_other sets at i next nothing apart))
+      (told-apart (first + i) v told idx d lt other)
+]
 
-pub added-all : (before now : Bool) (i n : ℕ) → i < n → (before || (nat_lt i n && now)) ≡ (before || now)
-added-all before now i n lt = rw (lt-ltb i n lt) refl
+-- none has one of a place before theirs, or past them
+pub set-before : (sets : List ByteSet) (first i v idx : ℕ) (told : List Told) (d : Told) → idx < length told
+    → (first ≤ (get_or told idx d).place → ⊥)
+    → (has_at sets i v || told_as v (tellings_at (first + i) (drop (idx + 1) told)))
+    ≡ (has_at sets i v || told_as v (tellings_at (first + i) (drop idx told)))
+set-before sets first i v idx told d lt before =
+    let other : (get_or told idx d).place ≢ first + i = λ e. before (omega (arith, e)) in
+    ap (λ b. has_at sets i v || b) (told-apart (first + i) v told idx d lt other)
+
+pub set-past : (sets : List ByteSet) (first at i v idx : ℕ) (told : List Told) (d : Told) → idx < length told
+    → first ≤ (get_or told idx d).place → at ≡ (get_or told idx d).place - first → 8 ≤ at → i < 8
+    → (has_at sets i v || told_as v (tellings_at (first + i) (drop (idx + 1) told)))
+    ≡ (has_at sets i v || told_as v (tellings_at (first + i) (drop idx told)))
+set-past sets first at i v idx told d lt from at_is past few =
+    let other : (get_or told idx d).place ≢ first + i = λ e. omega (arith, e, at_is, past, few) in
+    ap (λ b. has_at sets i v || b) (told-apart (first + i) v told idx d lt other)
+
+-- one of them is replaced, and those before it were
+pub set-next : (sets : List ByteSet) (next : ByteSet) (at i v : ℕ) (now before : Bool) → at < length sets
+    → has_at sets i v ≡ (if nat_lt i at then now else before) → (i ≡ at → has next v ≡ now)
+    → has_at (set sets at next) i v ≡ (if nat_lt i (at + 1) then now else before)
+set-next sets next at i v now before within was is = elim (cases_eq i at) [
+  | inl same ↦
+      let past : i < at + 1 = omega (arith, same) in
+      rw (lt-ltb i (at + 1) past) (ap (λ j. has_at (set sets at next) j v) same
+      ∙ ap (λ s. has s v) (get_or-set_same sets at next nothing within) ∙ is same)
+  | inr apart ↦ ap (λ s. has s v) (get_or-set_other sets at i next nothing apart) ∙ was
+      ∙ ap (λ b. if b then now else before) (past-other i at apart)
+]
+
+-- one of them stays
+pub set-left : (at i : ℕ) (there now before : Bool) → there ≡ (if nat_lt i at then now else before)
+    → (i ≡ at → before ≡ now) → there ≡ (if nat_lt i (at + 1) then now else before)
+set-left at i there now before was is = elim (cases_eq i at) [
+  | inl same ↦
+      let past : i < at + 1 = omega (arith, same) in
+      let not_yet : at ≤ i = omega (arith, same) in
+      rw (lt-ltb i (at + 1) past) (was ∙ rw (le-ltb i at not_yet) (is same))
+  | inr apart ↦ was ∙ ap (λ b. if b then now else before) (past-other i at apart)
+]

@@ -1,7 +1,7 @@
 -- The Grant that is under way on a link.
 use Rattle.std.proofs.Common.{◌≡◌, ℕ, Bool, true, false, ◌&&◌, List, [], ◌∷◌, refl, sym, ap}
 use Rattle.std.proofs.lemmas.Bool.{eqb-true}
-use Rattle.std.specs.Prelude.{if◌then◌else◌, ◌==◌, Option, Some, None, is_some}
+use Rattle.std.specs.Prelude.{◌==◌, Option, Some, None}
 use Rattle.tl_beat.specs.declared.beat.Beat.{Beat}
 use Rattle.tl_beat.specs.declared.beat.Beat.TheVariants as beat
 use Rattle.tl_beat.specs.declared.beat.BeatA.{BeatA}
@@ -36,8 +36,3 @@ filling-is {w} None block t none = go (unfinished channel.D t) refl
     go (beat.E y ∷ older) e = refl
 filling-is (Some granting) block t (y, older, e, granted, is) =
     rw (e, granted) (sym (asked-for granting.block block (request_of y.source t) is.of_block))
-
--- a value that is there or not
-pub some-if : {X : Type 0} (b : Bool) (x : X) → b ≡ is_some (if b then Some x else None)
-some-if true x = refl
-some-if false x = refl

@@ -1,18 +1,23 @@
 -- The bytes that a load may bring.
-use Rattle.std.proofs.Common.{◌≡◌, ◌+◌, ◌*◌, ◌/◌, ◌%◌, ℕ, Bool, true, false, ◌&&◌, List, length, refl, sym, ap}
+use Rattle.std.proofs.Common.{◌≡◌, ◌<◌, ◌+◌, ◌*◌, ◌/◌, ◌%◌, ℕ, Bool, true, false, ◌&&◌, ◌||◌, List, length, refl, sym, ap}
 use Rattle.std.proofs.Common.{◌∙◌, arith}
 use Rattle.std.specs.Prelude.{if◌then◌else◌, nat_lt, Option, Some, None, is_some}
 use Rattle.tl_beat.specs.declared.channel.Channel.TheVariants as channel
 use Rattle.tl_burst.specs.statement.Messages.{History, unfinished}
 use Rattle.tl_rules.specs.statement.History.{block_at}
 use Rattle.tl_bytes.specs.statement.Bytes.{carried_byte, could_be, told_as}
+use Rattle.tl_commits.specs.code.ByteSet.{filled}
 use Rattle.tl_commits.specs.statement.Commits.{brings, may_bring, may_have}
 use Rattle.tl_commits.specs.statement.Copies.{brought, holds, is_filling, is_known, link_beats}
 use Rattle.tl_commits.specs.statement.Events.{Events}
 use Rattle.tl_commits.specs.statement.Seen.{values_seen}
 
-pub same-address : (address : ℕ) → 64 * (address / 64) + address % 64 ≡ address
-same-address address = omega arith
+-- a byte of the same block
+pub block-from : (address i : ℕ) → address % 64 + i < 64 → block_at address ≡ block_at (address + i)
+block-from address i room = omega (arith, room)
+
+pub address-from : (address i : ℕ) → 64 * (address / 64) + (address % 64 + i) ≡ address + i
+address-from address i = omega arith
 
 -- the byte that a Grant under way has brought
 pub brought-is : {w : ℕ} (address : ℕ) (past : History w) → is_some (brought address past) ≡ true
@@ -43,14 +48,25 @@ module _ {w : ℕ} (complete : List Bool) (n link address v : ℕ) (e : Events w
       → told_as v (values_seen complete n address e) ≡ may_have complete n link address v e
   have-known on known = rw (on, known) refl
 
-  pub brings-brought : (value : Option ℕ) → is_some (brought address (link_beats link e)) ≡ true
-      → value ≡ carried_byte (unfinished channel.D (link_beats link e)) (address % 64)
-      → could_be v value ≡ may_bring complete n link address v e
-  brings-brought value on value_is =
-      ap (could_be v) value_is
-      ∙ ap (λ o. brings o complete n link address v e) (sym (brought-is address (link_beats link e) on))
+  -- what a load may bring: what a Grant under way has brought, or else what the copy may have
+  pub brings-filled : (own held : Bool) → held ≡ (own || may_have complete n link address v e)
+      → filled (brought address (link_beats link e)) own held v ≡ (own || may_bring complete n link address v e)
+  brings-filled own held is = go (brought address (link_beats link e))
+    where
+      go : (o : Option (Option ℕ)) → filled o own held v ≡ (own || brings o complete n link address v e)
+      go None = is
+      go (Some value) = refl
 
-  pub brings-held : is_some (brought address (link_beats link e)) ≡ false
-      → may_have complete n link address v e ≡ may_bring complete n link address v e
-  brings-held off =
-      ap (λ o. brings o complete n link address v e) (sym (not-brought (brought address (link_beats link e)) off))
+-- a byte that a Grant under way has brought, or hasn't
+module _ {w : ℕ} (block place : ℕ) (past : History w) (lt : place < 64) (own held : Bool) (v : ℕ) where
+  pub fills-one : (value : Option ℕ) → is_some (brought (64 * block + place) past) ≡ true
+      → value ≡ carried_byte (unfinished channel.D past) place
+      → (own || could_be v value) ≡ filled (brought (64 * block + place) past) own held v
+  fills-one value on value_is =
+      let at : (64 * block + place) % 64 ≡ place = omega (arith, lt) in
+      ap (λ u. own || could_be v u) (value_is ∙ ap (carried_byte (unfinished channel.D past)) (sym at))
+      ∙ ap (λ o. filled o own held v) (sym (brought-is (64 * block + place) past on))
+
+  pub fills-none : is_some (brought (64 * block + place) past) ≡ false
+      → held ≡ filled (brought (64 * block + place) past) own held v
+  fills-none off = ap (λ o. filled o own held v) (sym (not-brought (brought (64 * block + place) past) off))

@@ -8,9 +8,9 @@ use Rattle.tl_burst.specs.statement.Burst.{reaches}
 use Rattle.tl_rules.specs.statement.History.{block_at}
 use Rattle.tl_bytes.specs.code.Tellings.{is_written}
 use Rattle.tl_bytes.specs.declared.write.Write.{Write}
-use Rattle.tl_commits.specs.code.BlockValues.{IsLoaded, IsPieceWrite, IsStored, KnowsValues, says_piece, with_set}
-use Rattle.tl_commits.specs.code.Tellings.{is_in}
-use Rattle.tl_commits.specs.code.ValueTable.{IsNext, KnowsKept, KnowsTable, values_in}
+use Rattle.tl_commits.specs.code.BlockValues.{IsLoaded, IsPieceWrite, IsStored, KnowsValues, says_piece}
+use Rattle.tl_commits.specs.code.Tellings.{is_in, with_set}
+use Rattle.tl_commits.specs.code.ValueTable.{IsChanged, IsNext, KnowsKept, KnowsTable, values_in}
 use Rattle.tl_commits.specs.declared.block_values.BlockValues.{BlockValues}
 use Rattle.tl_events.specs.declared.commit.Commit.TheVariants as commit
 use Rattle.tl_events.specs.declared.commit.Event.TheVariants as event
@@ -23,6 +23,7 @@ unfoldable use Rattle.tl_commits.specs.statement.Events.{beats_of}
 use Rattle.tl_commits.specs.statement.Seen.{says_byte, Seen, told_now}
 unfoldable use Rattle.tl_commits.specs.statement.Seen.{memory_may, seen}
 use Rattle.tl_commits.proofs.Pieces.{most-bytes}
+use Rattle.tl_commits.proofs.TableJudged.{kept-known, next-put}
 use Rattle.tl_commits.proofs.ValuesJudged.{block-of}
 unfoldable use Rattle.tl_bytes.specs.statement.Known.{tellings_at}
 
@@ -55,6 +56,17 @@ piece-place piece place first is first_is on =
     let to = ltb-true x (piece.address + 2 ^ piece.size) both.1 in
     let few = most-bytes piece.size is.small in
     (omega (arith, first_is, from), omega (arith, first_is, from, to, few))
+
+-- its bytes lie within a block
+pub piece-room : (piece : Piece) (i : ℕ) → IsPiece piece → i < 2 ^ piece.size → piece.address % 64 + i < 64
+piece-room piece i is few = go piece.size is.small (eqb-true (piece.address % 2 ^ piece.size) 0 is.aligned) few
+  where
+    go : (size : ℕ) → size ≤ 3 → piece.address % 2 ^ size ≡ 0 → i < 2 ^ size → piece.address % 64 + i < 64
+    go zero le even lt = omega (arith, even, lt)
+    go (suc zero) le even lt = omega (arith, even, lt)
+    go (suc (suc zero)) le even lt = omega (arith, even, lt)
+    go (suc (suc (suc zero))) le even lt = omega (arith, even, lt)
+    go (suc (suc (suc (suc m)))) le even lt = absurd (omega (arith, le))
 
 -- it reaches no byte of another block
 pub piece-apart : (piece : Piece) (block p : ℕ) → IsPiece piece → p < 64 → (block == block_at piece.address) ≡ false
@@ -149,6 +161,18 @@ module _ {w : ℕ} (complete : List Bool) (n : ℕ) (link : Link) (piece : Piece
     known,
     λ block apart. kept-stored (values_in entries block) block is apart (k block),
   )
+
+  -- the values of its block change so
+  pub table-stored : (old new : List (ℕ × BlockValues)) (write : Write) (moment : ℕ) → IsPiece piece
+      → KnowsTable old complete n e → IsPieceWrite write piece value → moment ≡ length (beats_of e)
+      → IsChanged (λ v v'. IsStored v v' write moment) (block_at piece.address) old new
+      → KnowsTable new complete n (stores ∷ e)
+  table-stored old new write moment is k writes now change =
+      let block = block_at piece.address in
+      let kept = kept-known old complete n block change.was e k (sym change.there) in
+      next-put old new complete n block change.now stores e
+      (next-stored old change.now is k (rw change.there refl)
+      (values-stored change.was change.now write moment writes change.changes now kept)) change.others
 
 -- ---- a load
 
@@ -260,3 +284,17 @@ module _ {w : ℕ} (complete : List Bool) (n : ℕ) (link : Link) (piece : Piece
     λ block apart. kept-unsaid (values_in entries block) block
         (λ p lt. rw (piece-apart piece block p is lt apart) refl) (k block),
   )
+
+  pub table-loaded : (old new : List (ℕ × BlockValues)) (places : List Bool) (write : Write) (moment : ℕ) → IsPiece piece
+      → says_piece complete link.0 piece e ≡ true → KnowsTable old complete n e → IsPieceWrite write piece value
+      → ((p : ℕ) → p < 64 → is_in places p ≡ (is_written write p
+      && not (is_some (brought (64 * block_at piece.address + p) (link_beats link.0 e)))))
+      → moment ≡ length (beats_of e)
+      → IsChanged (λ v v'. IsLoaded v v' places write moment) (block_at piece.address) old new
+      → KnowsTable new complete n (loads ∷ e)
+  table-loaded old new places write moment is on k writes there now change =
+      let block = block_at piece.address in
+      let kept = kept-known old complete n block change.was e k (sym change.there) in
+      next-put old new complete n block change.now loads e
+      (next-loaded old change.now is k (rw change.there refl)
+      (values-loaded change.was change.now places write moment on writes there change.changes now kept)) change.others

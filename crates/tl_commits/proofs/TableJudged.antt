@@ -1,5 +1,5 @@
 -- The values of all blocks, with one more event.
-use Rattle.std.proofs.Common.{◌≡◌, ◌<◌, ◌+◌, ◌*◌, ◌&&◌, ℕ, Bool, true, false, List, ◌∷◌, refl, sym, ap, ◌∙◌, inl, inr}
+use Rattle.std.proofs.Common.{◌≡◌, ◌<◌, ◌+◌, ◌*◌, ◌&&◌, ℕ, Bool, true, false, List, ◌∷◌, refl, sym, ap, subst, ◌∙◌, inl, inr}
 use Rattle.std.specs.Prelude.{if◌then◌else◌, ◌==◌, Option, Some, None, is_some}
 use Rattle.std.proofs.lemmas.Bool.{cases_Bool, eq-eqb, eqb-true}
 use Rattle.tl_beat.specs.declared.beat.Beat.{Beat}
@@ -104,7 +104,21 @@ next-none entries complete n x e k is block =
     kept-apart (values_in entries block) complete n block x e (k block) (is.1 block)
     (loses-none block x.1 (link_beats x.0.0 e) is.0)
 
--- or one
+-- or one whose bytes it doesn't change
+pub next-same : {w : ℕ} (entries : List (ℕ × BlockValues)) (complete : List Bool) (n own : ℕ) (change : ByteChange)
+    (x : Link × Beat w) (e : Events w) → KnowsTable entries complete n e → change ≡ ByteChange.Same
+    → AreByteChanges (Some (own, change)) n x (beats_of e) → loses_stores own x.1 (link_beats x.0.0 e) ≡ false
+    → KnowsTable entries complete n ((x.0, event.Beat x.1) ∷ e)
+next-same entries complete n own change x e k same is keeps block = elim (cases_Bool (block == own)) [
+  | inl here ↦ subst (λ b. KnowsKept (values_in entries b) complete n b ((x.0, event.Beat x.1) ∷ e))
+      (sym (eqb-true block own here))
+      (kept-apart (values_in entries own) complete n own x e (k own)
+      (subst (λ c. IsByteChange c n own x (beats_of e)) same is.1) keeps)
+  | inr apart ↦ kept-apart (values_in entries block) complete n block x e (k block) (is.2 block apart)
+      (loses-apart own block x.1 (link_beats x.0.0 e) is.0 apart)
+]
+
+-- or one whose bytes it changes
 pub next-some : {w : ℕ} (entries : List (ℕ × BlockValues)) (complete : List Bool) (n own : ℕ) (change : ByteChange)
     (v : BlockValues) (x : Link × Beat w) (e : Events w) → KnowsTable entries complete n e
     → is_some (values_in entries own) ≡ true

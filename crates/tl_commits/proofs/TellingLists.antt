@@ -1,8 +1,8 @@
 -- What lists of possible values say of each place.
 use Rattle.std.proofs.Common.{◌≡◌, ◌<◌, ◌≤◌, ◌&&◌, ℕ, zero, suc, Bool, true, false, List, [], ◌∷◌, ◌++◌}
-use Rattle.std.proofs.Common.{refl, ap, ◌∙◌, ◌+◌, ◌^◌, replicate, append_assoc, arith, inl, inr}
+use Rattle.std.proofs.Common.{refl, ap, sym, ◌∙◌, ◌+◌, ◌^◌, replicate, append_assoc, arith, inl, inr, get_or, length}
 use Rattle.std.proofs.Math.Numerals.{add-one}
-use Rattle.std.specs.Prelude.{Option, ◌-◌, filter, if◌then◌else◌, nat_lt}
+use Rattle.std.specs.Prelude.{◌-◌, filter, if◌then◌else◌, nat_lt}
 use Rattle.std.proofs.lemmas.Bool.{cases_Bool, cases_eq, eq-eqb, ltb-true, ne_eqb}
 use Rattle.std.proofs.lemmas.List.{append-nil, get_or-replicate}
 use Rattle.tl_bytes.proofs.Told.{all-later, once, stays-all, stays-some, tellings-append}
@@ -15,7 +15,7 @@ use Rattle.tl_bytes.specs.declared.write.Write.{Write}
 use Rattle.tl_bytes.specs.statement.Bytes.{told_too}
 unfoldable use Rattle.tl_bytes.specs.statement.Known.{tellings_at}
 unfoldable use Rattle.tl_commits.specs.code.Tellings.{written}
-use Rattle.tl_commits.specs.code.Tellings.{is_in, same, stands, written_there}
+use Rattle.tl_commits.specs.code.Tellings.{IsPlain, is_in, no_told, same, stands, with_set, written_there}
 
 -- ---- one value
 
@@ -64,13 +64,12 @@ module _ (places : List Bool) (write : Write) (moment : ℕ) where
   ]
 
   -- one place more
-  pub one-written : (k : ℕ) (items before : List Told) (value : Option ℕ) → items ≡ before ++ written k places write moment
-      → is_in places k ≡ true → value ≡ value_at write k
-      → items ++ record { place = k; telling = record { value = value; moment = moment } } ∷ []
-      ≡ before ++ written (k + 1) places write moment
+  pub one-written : (k : ℕ) (items before : List Told) (there : Told) → items ≡ before ++ written k places write moment
+      → is_in places k ≡ true → there ≡ written_there write moment k
+      → items ++ there ∷ [] ≡ before ++ written (k + 1) places write moment
   unfolding written
-  one-written k items before value is on value_is =
-      rw (add-one k, on, is, value_is) (append_assoc before (written k places write moment) (written_there write moment k ∷ []))
+  one-written k items before there is on there_is =
+      rw (add-one k, on, is, there_is) (append_assoc before (written k places write moment) (written_there write moment k ∷ []))
 
   pub one-unwritten : (k : ℕ) (items before : List Told) → items ≡ before ++ written k places write moment
       → is_in places k ≡ false → items ≡ before ++ written (k + 1) places write moment
@@ -168,6 +167,57 @@ chosen-at p places mid items those others mid_is is =
         ++ (if same b false then tellings_at p others else [])
         ≡ (if b then tellings_at p those else tellings_at p others)
     go true = append-nil (tellings_at p those)
+    go false = refl
+
+-- ---- one value of each place
+
+-- of a list whose places follow from one on
+from-one : (k p : ℕ) (xs : List Told) → ((i : ℕ) → i < length xs → (get_or xs i no_told).place ≡ k + i)
+    → (p < k → tellings_at p xs ≡ [])
+    × (k ≤ p → p < k + length xs → tellings_at p xs ≡ (get_or xs (p - k) no_told).telling ∷ [])
+unfolding tellings_at
+from-one k p [] at = (λ lt. refl, λ le lt. absurd (omega (arith, le, lt)))
+from-one k p (x ∷ xs) at =
+    let here : x.place ≡ k = at 0 (omega arith) ∙ omega arith in
+    let rest = from-one (suc k) p xs (λ i lt. at (suc i) (omega (arith, lt)) ∙ omega arith) in (
+      λ lt. rw (ne_eqb x.place p (λ e. omega (arith, e, here, lt))) (rest.0 (omega (arith, lt))),
+      λ le lt. elim (cases_eq p k) [
+        | inl same ↦
+            let none : p - k ≡ 0 = omega (arith, same) in
+            rw (none, eq-eqb x.place p (here ∙ sym same)) (ap (λ l. x.telling ∷ l) (rest.0 (omega (arith, same))))
+        | inr apart ↦
+            let more : p - k ≡ suc (p - suc k) = omega (arith, le, apart) in
+            rw (more, ne_eqb x.place p (λ e. apart (sym e ∙ here)))
+            (rest.1 (omega (arith, le, apart)) (omega (arith, lt)))
+      ],
+    )
+
+pub plain-at : (told : List Told) (p : ℕ) → IsPlain told → p < 64
+    → tellings_at p told ≡ (get_or told p no_told).telling ∷ []
+plain-at told p is lt =
+    let first : p - 0 ≡ p = omega arith in
+    (from-one 0 p told (λ i less. is.1 i (omega (arith, less, is.0)) ∙ omega arith)).1 (omega arith)
+    (omega (arith, lt, is.0)) ∙ ap (λ q. (get_or told q no_told).telling ∷ []) first
+
+-- those of some places set
+pub plain-set : (old new : List Told) (places : List Bool) (write : Write) (moment p : ℕ) → IsPlain old
+    → length new ≡ length old
+    → ((q : ℕ) → q < 64 → get_or new q no_told
+    ≡ (if is_in places q then written_there write moment q else get_or old q no_told)) → p < 64
+    → tellings_at p new ≡ with_set (is_in places p) write moment p (tellings_at p old)
+plain-set old new places write moment p is long set lt =
+    let plain : IsPlain new = (long ∙ is.0, λ q less. ap (λ (x : Told). x.place) (set q less) ∙ place q (is_in places q) (is.1 q less)) in
+    plain-at new p plain lt ∙ ap (λ (x : Told). x.telling ∷ []) (set p lt)
+    ∙ rw (plain-at old p is lt) (go (is_in places p))
+  where
+    place : (q : ℕ) (b : Bool) → (get_or old q no_told).place ≡ q
+        → (if b then written_there write moment q else get_or old q no_told).place ≡ q
+    place q true here = refl
+    place q false here = here
+
+    go : (b : Bool) → (if b then written_there write moment p else get_or old p no_told).telling ∷ []
+        ≡ with_set b write moment p ((get_or old p no_told).telling ∷ [])
+    go true = refl
     go false = refl
 
 -- ---- all places, and none

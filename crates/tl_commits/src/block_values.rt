@@ -1,6 +1,6 @@
 //! The possible values of a block's bytes, by the beats and the commits.
 
-ghost use Rattle.std.specs.Prelude.{ℕ, ◌∷◌, ◌<◌, ◌≡◌, Bool, List, length, IfOk};
+ghost use Rattle.std.specs.Prelude.{ℕ, ◌∷◌, ◌<◌, ◌≡◌, Bool, List, length, IfOk, OnErr, OnOk};
 ghost use Rattle.tl_beat.specs.declared.beat.Beat.{Beat};
 ghost use Rattle.tl_beat.specs.declared.beat.Link.{Link};
 ghost use Rattle.tl_bytes.specs.code.Tellings.{with_write};
@@ -118,35 +118,32 @@ impl BlockValues {
         })
     }
 
-    /// The values after a store that writes these places; `moment` is the number of beats before it. The error means that
-    /// there is no memory left.
-    pub fn after_store(&self, alloc: Global, write: &Write, moment: u64) -> Result<Self, AllocError>
-        ensures { IfOk result (λ v. code.IsStored self.now v write.now moment) }
+    /// Takes a store that writes these places; `moment` is the number of beats before it. The error means that there is no
+    /// memory left; then nothing changes.
+    pub fn store(&mut self, alloc: Global, write: &Write, moment: u64) -> Result<(), AllocError>
+        ensures stored { OnOk result (code.IsStored self.old self.new write.now moment) }
+        ensures kept { OnErr result (self.new ≡ self.old) }
     {
         let places = with_written(&[false; 64], write);
-        Ok(BlockValues {
-            seen: set(alloc, self.seen.as_slice(), &places, write, moment)?,
-            stored: with_written(&self.stored, write),
-            memory: Vec::from_slice(alloc, self.memory.as_slice())?,
-        })
+        set(alloc, &mut self.seen, &places, write, moment)?;
+        self.stored = with_written(&self.stored, write);
+        Ok(())
     }
 
-    /// The values after a load that says the bytes of these places; `moment` is the number of beats before it. The error
-    /// means that there is no memory left.
-    pub fn after_load(
-        &self,
+    /// Takes a load that says the bytes of these places; `moment` is the number of beats before it. The error means that
+    /// there is no memory left; then nothing changes.
+    pub fn load(
+        &mut self,
         alloc: Global,
         places: &Places,
         write: &Write,
         moment: u64,
-    ) -> Result<Self, AllocError>
-        ensures { IfOk result (λ v. code.IsLoaded self.now v places.now write.now moment) }
+    ) -> Result<(), AllocError>
+        ensures loaded { OnOk result (code.IsLoaded self.old self.new places.now write.now moment) }
+        ensures kept { OnErr result (self.new ≡ self.old) }
     {
-        Ok(BlockValues {
-            seen: set(alloc, self.seen.as_slice(), places, write, moment)?,
-            stored: self.stored,
-            memory: Vec::from_slice(alloc, self.memory.as_slice())?,
-        })
+        set(alloc, &mut self.seen, places, write, moment)?;
+        Ok(())
     }
 
     /// Whether each byte that was stored may have a value that memory may have.

@@ -1,9 +1,9 @@
 //! Sets of values of a byte.
 
-ghost use Rattle.std.specs.Prelude.{ℕ, false, true, ◌<◌, ◌==◌, ◌≡◌, ◌||◌};
+ghost use Rattle.std.specs.Prelude.{ℕ, false, true, ◌+◌, ◌<◌, ◌==◌, ◌≡◌, ◌||◌};
 ghost use Rattle.tl_bytes.specs.statement.Bytes.{could_be, told_as};
 ghost use Rattle.tl_bytes.specs.statement.Known.{tellings_at};
-ghost use Rattle.tl_commits.specs.code.ByteSet.{has};
+ghost use Rattle.tl_commits.specs.code.ByteSet.{has, has_at};
 
 use tl_bytes::telling::Told;
 
@@ -55,17 +55,21 @@ impl ByteSet {
             Some(byte) => self.with_one(byte),
         }
     }
+}
 
-    /// These values, and the possible ones of a place.
-    pub(crate) fn with_told(self, told: &[Told], place: u8) -> Self
-        ensures { (v : ℕ) → v < 256 → has result v ≡ (has self v || told_as v (tellings_at place told.now)) }
-    {
-        let mut all = self;
-        for telling in told {
-            if telling.place == place {
-                all = all.with(telling.telling.value);
+/// These sets, each with the possible values of its place. The first is of this place, and the others of those after it.
+pub(crate) fn with_told(sets: [ByteSet; 8], told: &[Told], first: u8) -> [ByteSet; 8]
+    ensures { (i v : ℕ) → i < 8 → v < 256 → has_at result i v
+        ≡ (has_at sets i v || told_as v (tellings_at (first + i) told.now)) }
+{
+    let mut all = sets;
+    for telling in told {
+        if let Some(at) = telling.place.checked_sub(first) {
+            if at < 8 {
+                let at = usize::from(at);
+                all[at] = all[at].with(telling.telling.value);
             }
         }
-        all
     }
+    all
 }

@@ -59,7 +59,9 @@ fn is_told_or_any(told: &Option<Vec<Told>>, place: u8, byte: u8) -> bool
 
 impl GrantBytes {
     /// Any bytes.
-    fn any(alloc: Global) -> Self {
+    fn any(alloc: Global) -> Self
+        ensures { (place byte : ℕ) → code.may_bring result place byte ≡ true }
+    {
         GrantBytes {
             told: None,
             writes: Vec::new(alloc),

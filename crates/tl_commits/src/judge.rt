@@ -1,6 +1,6 @@
 //! A judge of beats and commits.
 
-ghost use Rattle.std.specs.Prelude.{ℕ, Bool, List, None, Some, Err, IfOk, ◌≡◌, ◌<◌, if◌then◌else◌, length, slice_get};
+ghost use Rattle.std.specs.Prelude.{ℕ, Bool, List, ◌∷◌, None, Some, Err, OnErr, OnOk, ◌≡◌, ◌<◌, if◌then◌else◌, length, slice_get};
 ghost use Rattle.tl_beat.specs.declared.beat.Beat.{Beat};
 ghost use Rattle.tl_beat.specs.declared.beat.Link.{Link};
 ghost use Rattle.tl_beat.specs.statement.Width.{IsWidth};
@@ -10,7 +10,7 @@ ghost use Rattle.tl_memory.specs.statement.Links.{KeepsRules};
 ghost use Rattle.tl_together.specs.statement.Coherence.{broken_together};
 ghost use Rattle.tl_commits.specs.code.BlockValues.{says_piece};
 ghost use Rattle.tl_commits.specs.code.Judging as code;
-ghost use Rattle.tl_commits.specs.code.ValueTable.{IsNext, KnowsTable};
+ghost use Rattle.tl_commits.specs.code.ValueTable.{KnowsTable};
 ghost use Rattle.tl_events.specs.declared.commit.Event.{Event};
 ghost use Rattle.tl_events.specs.declared.rule.CommitRule.TheVariants.{M6, M7};
 ghost use Rattle.tl_commits.specs.statement.Breaches.{breach_of, has_cache};
@@ -28,7 +28,7 @@ use crate::giving_up::{holds_trunk, keeps_stores};
 use crate::granting::{GrantBytes, any_grants, grants_truly, meet_grant};
 use crate::loading::{Loading, begin, forget, has_begun, load_of};
 use crate::next_values::next_values;
-use crate::piece_values::{loaded_values, stored_values};
+use crate::piece_values::{load_piece, store_piece};
 use crate::renewing::{renew, renewed};
 use crate::rule::CommitBreach;
 use crate::value_table::ValueTable;
@@ -234,11 +234,11 @@ impl<const W: usize> CommitJudge<W> {
         if let Some(rule) = broken_store(&self.judge, link, piece) {
             return Err(of_rule(rule));
         }
-        let next = stored_values(self.alloc, &self.judge, &mut self.values, piece, value);
-        let Ok(next) = next else {
+        let stored = store_piece(self.alloc, &self.judge, &mut self.values, piece, value);
+        let Ok(()) = stored else {
             return Err(CommitFault::Memory);
         };
-        self.record(next);
+        self.record(None);
         Ok(())
     }
 
@@ -283,34 +283,30 @@ impl<const W: usize> CommitJudge<W> {
         if let Some(rule) = self.broken_load(link, piece, value) {
             return Err(of_rule(rule));
         }
-        let Ok(next) = self.values_loaded(link, piece, value) else {
+        let Ok(()) = self.load_values(link, piece, value) else {
             return Err(CommitFault::Memory);
         };
         forget(&mut self.loads, link, piece);
-        self.record(next);
+        self.record(None);
         Ok(())
     }
 
-    /// The values of its block after a load, if it says bytes. The error means that there is no memory left. All that is
-    /// known stays true in either case.
-    fn values_loaded(
-        &mut self,
-        link: Link,
-        piece: Piece,
-        value: u64,
-    ) -> Result<Option<(u32, BlockValues)>, AllocError>
+    /// Takes a load into the values of its block, if it says bytes. The error means that there is no memory left; then all
+    /// that is known stays true.
+    fn load_values(&mut self, link: Link, piece: Piece, value: u64) -> Result<(), AllocError>
         requires { IsWidth W }
         ensures same { code.IsSameBut self.old self.new }
-        ensures knows { (complete : List Bool) (n : ℕ) (e : Events W) → KnowsTable self.old.values complete n e →
-            KnowsTable self.new.values complete n e }
-        ensures next { IfOk result (λ next. (levels : List Level) (complete : List Bool) (l : Liberties) (e : Events W) →
+        ensures kept { OnErr result ((complete : List Bool) (n : ℕ) (e : Events W) →
+            KnowsTable self.old.values complete n e → KnowsTable self.new.values complete n e) }
+        ensures loaded { OnOk result ((levels : List Level) (complete : List Bool) (l : Liberties) (e : Events W) →
             KnowsCommits self.old levels complete l e → link.0 < length levels → IsPiece piece →
-            IsNext next self.new.values complete (length levels) (link, event.Commit (commit.Load piece value)) e) }
+            KnowsTable self.new.values complete (length levels)
+            ((link, event.Commit (commit.Load piece value)) ∷ e)) }
     {
         if !self.says_piece(link, piece) {
-            return Ok(None);
+            return Ok(());
         }
-        loaded_values(
+        load_piece(
             self.alloc,
             &self.judge,
             &mut self.values,

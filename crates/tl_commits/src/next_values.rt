@@ -1,8 +1,9 @@
 //! The values of a block after a beat.
 
-ghost use Rattle.std.specs.Prelude.{ℕ, false, Bool, List, Some, ◌≡◌, ◌<◌, length, IfOk};
+ghost use Rattle.std.specs.Prelude.{ℕ, true, false, Bool, List, Some, ◌≡◌, ◌<◌, length, IfOk};
 ghost use Rattle.tl_beat.specs.statement.Width.{IsWidth};
 ghost use Rattle.tl_memory.specs.code.Elsewhere.{block_borne};
+ghost use Rattle.tl_memory.specs.declared.byte_change.ByteChange.TheVariants as changes;
 ghost use Rattle.tl_memory.specs.statement.Links.{KeepsRules};
 ghost use Rattle.tl_params.specs.declared.level.Level.{Level};
 ghost use Rattle.tl_params.specs.declared.liberties.Liberties.{Liberties};
@@ -18,6 +19,7 @@ use crate::giving_up::loses_stores;
 use crate::value_table::ValueTable;
 use std::alloc::{AllocError, Global};
 use tl_beat::beat::{Beat, Link};
+use tl_memory::byte_change::ByteChange;
 use tl_together::judge::Judge;
 
 /// Whether with a beat the stored bytes of the block that it concerns are lost, as the manager wants it.
@@ -33,7 +35,14 @@ fn loses<const W: usize>(judge: &Judge<W>, link: Link, beat: &Beat<W>) -> bool
     }
 }
 
-/// The values after a beat of the block that it concerns, if it concerns one. The error means that there is no memory
+/// Whether a beat that makes this change sets no values.
+fn is_same(change: &ByteChange) -> bool
+    ensures { result ≡ true → change.now ≡ changes.Same }
+{
+    matches!(change, ByteChange::Same)
+}
+
+/// The values after a beat of the block that it concerns, if they change. The error means that there is no memory
 /// left. All that is known stays true in either case.
 pub(crate) fn next_values<const W: usize>(
     alloc: Global,
@@ -53,11 +62,14 @@ pub(crate) fn next_values<const W: usize>(
     let Some((block, change)) = judge.byte_change(link, beat) else {
         return Ok(None);
     };
+    let lost = loses(judge, link, beat);
+    if !lost && is_same(&change) {
+        return Ok(None);
+    }
     table.meet(alloc, block)?;
     let Some(values) = table.get(block) else {
         return Ok(None);
     };
-    let lost = loses(judge, link, beat);
     let next = values.after_beat(alloc, &change, lost, judge.moment())?;
     Ok(Some((block, next)))
 }

@@ -1,6 +1,6 @@
 //! The values of a block after a store or a load.
 
-ghost use Rattle.std.specs.Prelude.{ℕ, true, false, not, Bool, List, Some, ◌+◌, ◌*◌, ◌^◌, ◌<◌, ◌≡◌, ◌&&◌, length, IfOk};
+ghost use Rattle.std.specs.Prelude.{ℕ, true, false, not, Bool, List, ◌∷◌, ◌+◌, ◌*◌, ◌^◌, ◌<◌, ◌≡◌, ◌&&◌, length, OnErr, OnOk};
 ghost use Rattle.std.specs.Prelude.{is_some, slice_index};
 ghost use Rattle.tl_beat.specs.statement.Width.{IsWidth};
 ghost use Rattle.tl_burst.specs.statement.Messages.{History};
@@ -13,14 +13,13 @@ ghost use Rattle.tl_together.specs.statement.Knows.{Knows};
 ghost use Rattle.tl_beat.specs.declared.beat.Link.{Link};
 ghost use Rattle.tl_commits.specs.code.BlockValues.{IsPieceWrite, says_piece};
 ghost use Rattle.tl_commits.specs.code.Tellings.{is_in};
-ghost use Rattle.tl_commits.specs.code.ValueTable.{IsNext, KnowsTable};
+ghost use Rattle.tl_commits.specs.code.ValueTable.{KnowsTable};
 ghost use Rattle.tl_events.specs.declared.commit.Commit.TheVariants as commit;
 ghost use Rattle.tl_events.specs.declared.commit.Event.TheVariants as event;
 ghost use Rattle.tl_events.specs.statement.CommitLine.{IsPiece};
 ghost use Rattle.tl_commits.specs.statement.Copies;
 ghost use Rattle.tl_commits.specs.statement.Events.{Events, beats_of};
 
-use crate::block_values::BlockValues;
 use crate::copies::has_brought;
 use crate::tellings::Places;
 use crate::value_table::ValueTable;
@@ -58,29 +57,27 @@ pub(crate) fn piece_write(piece: Piece, value: u64) -> Write
     }
 }
 
-/// The values of its block after the store of a piece. The error means that there is no memory left. All that is known
-/// stays true in either case.
-pub(crate) fn stored_values<const W: usize>(
+/// Takes the store of a piece into the values of its block. The error means that there is no memory left; then all that is
+/// known stays true.
+pub(crate) fn store_piece<const W: usize>(
     alloc: Global,
     judge: &Judge<W>,
     table: &mut ValueTable,
     piece: Piece,
     value: u64,
-) -> Result<Option<(u32, BlockValues)>, AllocError>
-    ensures knows { (complete : List Bool) (n : ℕ) (e : Events W) → KnowsTable table.old complete n e →
-        KnowsTable table.new complete n e }
-    ensures next { IfOk result (λ next. (levels : List Level) (l : Liberties) (complete : List Bool) (link : Link)
+) -> Result<(), AllocError>
+    ensures kept { OnErr result ((complete : List Bool) (n : ℕ) (e : Events W) → KnowsTable table.old complete n e →
+        KnowsTable table.new complete n e) }
+    ensures stored { OnOk result ((levels : List Level) (l : Liberties) (complete : List Bool) (link : Link)
         (e : Events W) → Knows judge.now levels l (beats_of e) false → IsPiece piece →
         KnowsTable table.old complete (length levels) e →
-        IsNext next table.new complete (length levels) (link, event.Commit (commit.Store piece value)) e) }
+        KnowsTable table.new complete (length levels) ((link, event.Commit (commit.Store piece value)) ∷ e)) }
 {
     let block = block_at(piece.address);
     table.meet(alloc, block)?;
-    let Some(values) = table.get(block) else {
-        return Ok(None);
-    };
-    let next = values.after_store(alloc, &piece_write(piece, value), judge.moment())?;
-    Ok(Some((block, next)))
+    let write = piece_write(piece, value);
+    table.store(alloc, block, &write, judge.moment())?;
+    Ok(())
 }
 
 /// The places of a write whose bytes no Grant under way has brought to the block. `messages` are the unfinished messages
@@ -101,34 +98,31 @@ fn unbrought<const W: usize>(messages: &LinkMessages, write: &Write, block: u32)
     places
 }
 
-/// The values of its block after the load of a piece, if the load says bytes. The error means that there is no memory
-/// left. All that is known stays true in either case.
-pub(crate) fn loaded_values<const W: usize>(
+/// Takes the load of a piece that says bytes into the values of its block. The error means that there is no memory left; then
+/// all that is known stays true.
+pub(crate) fn load_piece<const W: usize>(
     alloc: Global,
     judge: &Judge<W>,
     table: &mut ValueTable,
     link: Link,
     piece: Piece,
     value: u64,
-) -> Result<Option<(u32, BlockValues)>, AllocError>
+) -> Result<(), AllocError>
     requires { IsWidth W }
-    ensures knows { (complete : List Bool) (n : ℕ) (e : Events W) → KnowsTable table.old complete n e →
-        KnowsTable table.new complete n e }
-    ensures next { IfOk result (λ next. (levels : List Level) (l : Liberties) (complete : List Bool) (e : Events W) →
+    ensures kept { OnErr result ((complete : List Bool) (n : ℕ) (e : Events W) → KnowsTable table.old complete n e →
+        KnowsTable table.new complete n e) }
+    ensures loaded { OnOk result ((levels : List Level) (l : Liberties) (complete : List Bool) (e : Events W) →
         Knows judge.now levels l (beats_of e) false → link.0 < length levels → IsPiece piece →
         says_piece complete link.0 piece e ≡ true → KnowsTable table.old complete (length levels) e →
-        IsNext next table.new complete (length levels) (link, event.Commit (commit.Load piece value)) e) }
+        KnowsTable table.new complete (length levels) ((link, event.Commit (commit.Load piece value)) ∷ e)) }
 {
     let block = block_at(piece.address);
     table.meet(alloc, block)?;
-    let Some(values) = table.get(block) else {
-        return Ok(None);
-    };
     let Some(messages) = judge.messages(link) else {
-        return Ok(None);
+        return Ok(());
     };
     let write = piece_write(piece, value);
     let places = unbrought::<W>(messages, &write, block);
-    let next = values.after_load(alloc, &places, &write, judge.moment())?;
-    Ok(Some((block, next)))
+    table.load(alloc, block, &places, &write, judge.moment())?;
+    Ok(())
 }

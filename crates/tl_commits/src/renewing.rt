@@ -4,7 +4,6 @@ ghost use Rattle.tl_beat.specs.statement.Width.{IsWidth};
 ghost use Rattle.tl_commits.specs.code.Loading as code;
 
 use crate::bringing::with_brought;
-use crate::byte_set::ByteSet;
 use crate::commits::is_piece_loadable;
 use crate::copies::is_complete;
 use crate::loading::Loading;
@@ -24,26 +23,6 @@ fn is_possible<const W: usize>(judge: &Judge<W>, loading: Loading) -> bool
     false
 }
 
-/// The values that each byte of a load could have, with those of now. `known` says whether all stores of its link are in
-/// the trace.
-fn with_now<const W: usize>(
-    judge: &Judge<W>,
-    table: &ValueTable,
-    known: bool,
-    loading: Loading,
-) -> [ByteSet; 8]
-    requires { IsWidth W }
-    ensures { code.AreAdded judge.now table.now known loading result }
-{
-    let mut values = loading.values;
-    for i in 0..loading.count() {
-        let place = usize::from(i);
-        let address = loading.piece.address.wrapping_add(u32::from(i));
-        values[place] = with_brought(judge, table, known, loading.link, address, values[place]);
-    }
-    values
-}
-
 /// The load with the bytes that it may bring now. `complete` says for each link whether all its stores are in the trace.
 pub(crate) fn renewed<const W: usize>(
     judge: &Judge<W>,
@@ -56,9 +35,10 @@ pub(crate) fn renewed<const W: usize>(
 {
     let known = is_complete(complete, loading.link);
     let now = is_possible(judge, loading);
+    let address = loading.piece.address;
     Loading {
         loadable: either(now, loading.loadable),
-        values: with_now(judge, table, known, loading),
+        values: with_brought(judge, table, known, loading.link, address, loading.values),
         ..loading
     }
 }

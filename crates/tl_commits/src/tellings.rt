@@ -1,8 +1,8 @@
 //! Lists of the possible values of a block's bytes, with one more write or store.
 
 ghost use Rattle.std.specs.Prelude.{ℕ, [], ◌∷◌, ◌++◌, ◌*◌, ◌+◌, ◌<◌, ◌≡◌, ◌==◌, ◌&&◌, ◌||◌, if◌then◌else◌, filter};
-ghost use Rattle.std.specs.Prelude.{IfOk, OnOk, slice_index_or, false};
-ghost use Rattle.tl_bytes.specs.code.Tellings.{is_written, value_at, with_write};
+ghost use Rattle.std.specs.Prelude.{IfOk, OnErr, OnOk, false, true};
+ghost use Rattle.tl_bytes.specs.code.Tellings.{is_written, with_write};
 ghost use Rattle.tl_bytes.specs.statement.Bytes.{told_as};
 ghost use Rattle.tl_bytes.specs.statement.Known.{tellings_at};
 ghost use Rattle.tl_bytes.specs.statement.KnownBytes.{known_at};
@@ -54,13 +54,7 @@ fn append_written(
 {
     for place in 0..BLOCK_BYTES {
         if is_in(places, place) {
-            told.push(Told {
-                place,
-                telling: Telling {
-                    value: write.value(place),
-                    moment,
-                },
-            })?;
+            told.push(written_there(write, place, moment))?;
         }
     }
     Ok(())
@@ -109,8 +103,49 @@ pub(crate) fn told(alloc: Global, values: &KnownBytes, moment: u64) -> Result<Ve
     Ok(told)
 }
 
-/// The values after a store or a load that sets those of these places. The error means that there is no memory left.
-pub(crate) fn set(
+/// Whether the list has one value for each place, in the order of the places.
+fn is_plain(told: &[Told]) -> bool
+    ensures { result ≡ true → code.IsPlain told.now }
+{
+    if told.len() != 64 {
+        return false;
+    }
+    for place in 0..BLOCK_BYTES {
+        if told[usize::from(place)].place != place {
+            return false;
+        }
+    }
+    true
+}
+
+/// The value that is written to a place, from this moment on.
+fn written_there(write: &Write, place: u8, moment: u64) -> Told
+    ensures { result ≡ code.written_there write.now moment place }
+{
+    Told {
+        place,
+        telling: Telling {
+            value: write.value(place),
+            moment,
+        },
+    }
+}
+
+/// Sets the values of these places in a list that has one value for each place.
+fn set_each(told: &mut Vec<Told>, places: &Places, write: &Write, moment: u64)
+    ensures { code.IsPlain told.old.items → (place : ℕ) → place < 64 → tellings_at place told.new.items
+        ≡ code.with_set (is_in places.now place) write.now moment place (tellings_at place told.old.items) }
+{
+    for place in 0..BLOCK_BYTES {
+        let at = usize::from(place);
+        if is_in(places, place) && at < told.len() {
+            told[at] = written_there(write, place, moment);
+        }
+    }
+}
+
+/// A list with the values of these places set. The error means that there is no memory left.
+fn replaced(
     alloc: Global,
     before: &[Told],
     places: &Places,
@@ -118,13 +153,34 @@ pub(crate) fn set(
     moment: u64,
 ) -> Result<Vec<Told>, AllocError>
     ensures { IfOk result (λ told. (place : ℕ) → place < 64 → tellings_at place told.items
-        ≡ (if is_in places.now place then record { value = value_at write.now place; moment = moment } ∷ []
-        else tellings_at place before.now)) }
+        ≡ code.with_set (is_in places.now place) write.now moment place (tellings_at place before.now)) }
 {
     let mut told = Vec::new(alloc);
     append_written(&mut told, places, write, moment)?;
     append_at(&mut told, before, places, false)?;
     Ok(told)
+}
+
+/// Sets the values of these places, as a store or a load does. The error means that there is no memory left; then nothing
+/// changes.
+pub(crate) fn set(
+    alloc: Global,
+    told: &mut Vec<Told>,
+    places: &Places,
+    write: &Write,
+    moment: u64,
+) -> Result<(), AllocError>
+    ensures set { OnOk result ((place : ℕ) → place < 64 → tellings_at place told.new.items
+        ≡ code.with_set (is_in places.now place) write.now moment place (tellings_at place told.old.items)) }
+    ensures kept { OnErr result (told.new ≡ told.old) }
+{
+    if is_plain(told.as_slice()) {
+        set_each(told, places, write, moment);
+        return Ok(());
+    }
+    let next = replaced(alloc, told.as_slice(), places, write, moment)?;
+    *told = next;
+    Ok(())
 }
 
 /// The values after an access with this write, which has this relation to the block. The error means that there is no

@@ -1,18 +1,20 @@
 //! The possible values of the bytes of all blocks.
 
-ghost use Rattle.std.specs.Prelude.{ℕ, Bool, List, Some, true, if◌then◌else◌, ◌==◌, ◌+◌, ◌*◌, ◌<◌, ◌≡◌, [], is_some, option_copied, OnOk, ◌||◌};
-ghost use Rattle.tl_commits.specs.code.ByteSet.{has};
+ghost use Rattle.std.specs.Prelude.{ℕ, Bool, List, Some, true, if◌then◌else◌, ◌==◌, ◌+◌, ◌*◌, ◌<◌, ◌≡◌, [], is_some, option_copied, OnErr, OnOk, ◌||◌};
+ghost use Rattle.tl_commits.specs.code.ByteSet.{has_at};
 ghost use Rattle.tl_commits.specs.code.GivingBack.{is_seen};
-ghost use Rattle.tl_commits.specs.code.ValueTable.{KnowsTable, values_in};
+ghost use Rattle.tl_commits.specs.code.BlockValues.{IsLoaded, IsStored};
+ghost use Rattle.tl_commits.specs.code.ValueTable.{IsChanged, KnowsTable, values_in};
 ghost use Rattle.tl_commits.specs.statement.Commits;
 ghost use Rattle.tl_commits.specs.statement.Events.{Events};
 
 use crate::block_values::BlockValues;
-use crate::byte_set::ByteSet;
-use crate::tellings::allows;
+use crate::byte_set::{ByteSet, with_told};
+use crate::tellings::{Places, allows};
 use std::alloc::{AllocError, Global};
 use std::collections::BTreeMap;
 use std::marker::Model;
+use tl_bytes::write::Write;
 
 /// The possible values of the bytes of blocks. A block without values is as before the trace.
 #[derive(Drop)]
@@ -72,6 +74,45 @@ impl ValueTable {
         }
     }
 
+    /// Takes a store to a block that has values, which writes these places; `moment` is the number of beats before it. The
+    /// error means that there is no memory left; then the values are as before.
+    pub fn store(
+        &mut self,
+        alloc: Global,
+        block: u32,
+        write: &Write,
+        moment: u64,
+    ) -> Result<(), AllocError>
+        ensures stored { OnOk result (is_some (values_in self.old block) ≡ true →
+            IsChanged (λ was now. IsStored was now write.now moment) block self.old self.new) }
+        ensures kept { OnErr result ((k : ℕ) → values_in self.new k ≡ values_in self.old k) }
+    {
+        match self.blocks.get_mut(&block) {
+            None => Ok(()),
+            Some(there) => there.store(alloc, write, moment),
+        }
+    }
+
+    /// Takes a load of a block that has values, which says the bytes of these places; `moment` is the number of beats before
+    /// it. The error is the same.
+    pub fn load(
+        &mut self,
+        alloc: Global,
+        block: u32,
+        places: &Places,
+        write: &Write,
+        moment: u64,
+    ) -> Result<(), AllocError>
+        ensures loaded { OnOk result (is_some (values_in self.old block) ≡ true →
+            IsChanged (λ was now. IsLoaded was now places.now write.now moment) block self.old self.new) }
+        ensures kept { OnErr result ((k : ℕ) → values_in self.new k ≡ values_in self.old k) }
+    {
+        match self.blocks.get_mut(&block) {
+            None => Ok(()),
+            Some(there) => there.load(alloc, places, write, moment),
+        }
+    }
+
     /// Whether each byte of a block that was stored may have a value that memory may have.
     pub fn is_clean(&self, block: u32) -> bool
         ensures { (w : ℕ) (complete : List Bool) (n : ℕ) (e : Events w) → KnowsTable self.now complete n e →
@@ -97,18 +138,16 @@ impl ValueTable {
         }
     }
 
-    /// These values, and those that the byte at a place of a block may have.
-    pub(crate) fn with_seen(&self, values: ByteSet, block: u32, place: usize) -> ByteSet
+    /// These sets, each with the values that its byte of a block may have. The first is of this place, and the others of
+    /// those after it.
+    pub(crate) fn with_seen(&self, sets: [ByteSet; 8], block: u32, first: u8) -> [ByteSet; 8]
         ensures { (w : ℕ) (complete : List Bool) (n : ℕ) (e : Events w) → KnowsTable self.now complete n e →
-            place < 64 → (v : ℕ) → v < 256 →
-            has result v ≡ (has values v || is_seen complete n e (64 * block + place) v) }
+            (i v : ℕ) → i < 8 → first + i < 64 → v < 256 →
+            has_at result i v ≡ (has_at sets i v || is_seen complete n e (64 * block + (first + i)) v) }
     {
-        if place >= 64 {
-            return values;
-        }
         match self.get(block) {
-            None => ByteSet::all(),
-            Some(kept) => values.with_told(kept.seen.as_slice(), place as u8),
+            None => [ByteSet::all(); 8],
+            Some(kept) => with_told(sets, kept.seen.as_slice(), first),
         }
     }
 }

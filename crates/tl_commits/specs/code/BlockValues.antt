@@ -9,7 +9,7 @@ use Rattle.tl_bytes.specs.statement.Known.{tellings_at}
 use Rattle.tl_bytes.specs.statement.KnownBytes.{known_at}
 use Rattle.tl_memory.specs.declared.byte_change.ByteChange.{ByteChange}
 use Rattle.tl_memory.specs.declared.byte_change.ByteChange.TheVariants as change
-use Rattle.tl_commits.specs.code.Tellings.{is_in}
+use Rattle.tl_commits.specs.code.Tellings.{is_in, with_set}
 use Rattle.tl_commits.specs.declared.block_values.BlockValues.{BlockValues}
 use Rattle.tl_commits.specs.statement.Copies.{is_known, link_beats}
 use Rattle.tl_commits.specs.statement.Events.{Events, beats_of, is_loading}
@@ -27,11 +27,6 @@ changed _ moment place before = before
 abbrev pub memory_told : KnownBytes → Bool → ℕ → ℕ → List Telling → List Telling
 memory_told values unread moment place before =
     if unread then before else record { value = known_at values place; moment = moment } ∷ []
-
--- the values with a write that sets them, if it sets some
-abbrev pub with_set : Bool → Write → ℕ → ℕ → List Telling → List Telling
-with_set sets write moment place before =
-    if sets then record { value = value_at write place; moment = moment } ∷ [] else before
 
 -- the values of a block before the trace
 abbrev pub AreFirst : BlockValues → Type 0

@@ -1,7 +1,7 @@
 -- The loads that have begun, as a judge keeps them.
 use Rattle.std.specs.List.{AllZip}
 use Rattle.std.specs.Prelude.{ℕ, Bool, true, false, ◌+◌, ◌^◌, ◌++◌, ◌==◌, ◌&&◌, ◌||◌, ◌≡◌, ◌<◌, List, [], ◌∷◌, length}
-use Rattle.std.specs.Prelude.{find, Option, Some, None, ⊤, slice_index_or}
+use Rattle.std.specs.Prelude.{find, Option, Some, None, ⊤}
 use Rattle.tl_beat.specs.declared.beat.Link.{Link}
 use Rattle.tl_params.specs.declared.level.Level.{Level}
 use Rattle.tl_params.specs.declared.liberties.Liberties.{Liberties}
@@ -11,25 +11,20 @@ use Rattle.tl_together.specs.declared.judge.Judge.{Judge}
 use Rattle.tl_together.specs.statement.Knows.{Knows}
 use Rattle.tl_events.specs.declared.commit.Piece.{Piece}
 use Rattle.tl_events.specs.statement.CommitLine.{IsPiece}
-use Rattle.tl_commits.specs.code.ByteSet.{has}
+use Rattle.tl_commits.specs.code.ByteSet.{has_at}
 use Rattle.tl_commits.specs.code.ValueTable.{KnowsTable}
 use Rattle.tl_commits.specs.declared.block_values.BlockValues.{BlockValues}
-use Rattle.tl_commits.specs.declared.byte_set.ByteSet.{ByteSet}
 use Rattle.tl_commits.specs.declared.loading.Loading.{Loading}
 use Rattle.tl_commits.specs.statement.Commits.{is_piece_loadable, may_bring}
-use Rattle.tl_commits.specs.statement.Copies.{is_complete}
 use Rattle.tl_commits.specs.statement.Events.{Events, beats_of, is_loading, same_piece, since_begun}
 
 -- it is the load of this piece on this link
 abbrev pub is_of : ℕ → Piece → Loading → Bool
 is_of link piece loading = (loading.link.0 == link) && same_piece loading.piece piece
 
-abbrev pub nothing : ByteSet
-nothing = record { words = [] }
-
 -- byte i of a load is kept as one that may be v
 abbrev pub had : Loading → ℕ → ℕ → Bool
-had x i v = has (slice_index_or x.values i nothing) v
+had x i v = has_at x.values i v
 
 -- so is each byte of this value
 abbrev pub brings : Loading → ℕ → Bool
@@ -77,14 +72,6 @@ pub record IsNewer {w : ℕ} (complete : List Bool) (n : ℕ) (e : Events w) (ol
 abbrev pub IsPossible : {w : ℕ} → Judge w → Loading → Bool → Type 0
 IsPossible {w} judge x now = (levels : List Level) (l : Liberties) (e : Events w) → Knows judge levels l (beats_of e) false
     → x.link.0 < length levels → IsPiece x.piece → now ≡ is_piece_loadable x.link.0 x.piece e
-
--- the values that its bytes may have now are added to these sets
-abbrev pub AreAdded : {w : ℕ} → Judge w → List (ℕ × BlockValues) → Bool → Loading → List ByteSet → Type 0
-AreAdded {w} judge table known x sets = (levels : List Level) (l : Liberties) (complete : List Bool) (e : Events w)
-    → Knows judge levels l (beats_of e) false → x.link.0 < length levels → KnowsTable table complete (length levels) e
-    → known ≡ is_complete complete x.link.0 → IsPiece x.piece → (i v : ℕ) → i < 2 ^ x.piece.size → v < 256
-    → has (slice_index_or sets i nothing) v
-    ≡ (had x i v || may_bring complete (length levels) x.link.0 (x.piece.address + i) v e)
 
 -- a load with what is possible now, by a judge of the beats and the values of blocks
 abbrev pub IsRenewed : {w : ℕ} → Judge w → List (ℕ × BlockValues) → List Bool → Loading → Loading → Type 0

@@ -1,6 +1,8 @@
 -- Lists of possible values, as they are made.
-use Rattle.std.specs.Prelude.{ℕ, zero, suc, Bool, false, not, [], ◌∷◌, ◌++◌, if◌then◌else◌, List, slice_index_or}
+use Rattle.std.specs.Prelude.{ℕ, zero, suc, Bool, false, not, None, [], ◌∷◌, ◌++◌, ◌<◌, ◌≡◌, if◌then◌else◌, List, length}
+use Rattle.std.specs.Prelude.{slice_index_or}
 use Rattle.tl_bytes.specs.code.Tellings.{value_at}
+use Rattle.tl_bytes.specs.declared.telling.Telling.{Telling}
 use Rattle.tl_bytes.specs.declared.telling.Told.{Told}
 use Rattle.tl_bytes.specs.declared.write.Write.{Write}
 
@@ -29,3 +31,16 @@ same a b = if a then b else not b
 -- the value's place is one of these, or isn't
 abbrev pub stands : List Bool → Bool → Told → Bool
 stands places there x = same (is_in places x.place) there
+
+-- the value at a place of a list that hasn't so many
+abbrev pub no_told : Told
+no_told = record { place = 0; telling = record { value = None; moment = 0 } }
+
+-- one value of each place, in the order of the places
+abbrev pub IsPlain : List Told → Type 0
+IsPlain told = (length told ≡ 64) × ((p : ℕ) → p < 64 → (slice_index_or told p no_told).place ≡ p)
+
+-- the values with a write that sets them, if it sets some
+abbrev pub with_set : Bool → Write → ℕ → ℕ → List Telling → List Telling
+with_set sets write moment place before =
+    if sets then record { value = value_at write place; moment = moment } ∷ [] else before

@@ -3,6 +3,7 @@ use Rattle.std.specs.BTreeMap.{is_at}
 use Rattle.std.specs.Map.{lookup}
 use Rattle.std.specs.Ordering.{nat_cmp}
 use Rattle.std.specs.Prelude.{ℕ, Bool, true, false, ◌∷◌, ◌==◌, ◌+◌, ◌*◌, ◌<◌, ◌≡◌, List, Option, Some, None, is_some}
+use Rattle.std.specs.Prelude.{if◌then◌else◌}
 use Rattle.tl_beat.specs.declared.beat.Link.{Link}
 use Rattle.tl_events.specs.declared.commit.Event.{Event}
 use Rattle.tl_commits.specs.code.BlockValues.{KnowsValues}
@@ -35,3 +36,12 @@ IsNext None entries complete n x e = KnowsTable entries complete n (x ∷ e)
 IsNext (Some (own, v)) entries complete n x e = (is_some (values_in entries own) ≡ true)
     × KnowsValues v complete n own (x ∷ e)
     × ((block : ℕ) → (block == own) ≡ false → KnowsKept (values_in entries block) complete n block (x ∷ e))
+
+-- the values of this block change so, and those of the others stay
+pub record IsChanged (change : BlockValues → BlockValues → Type 0) (block : ℕ) (old new : List (ℕ × BlockValues))
+    : Type 0 where
+  pub was : BlockValues
+  pub now : BlockValues
+  pub there : values_in old block ≡ Some was
+  pub changes : change was now
+  pub others : (k : ℕ) → values_in new k ≡ (if k == block then Some now else values_in old k)

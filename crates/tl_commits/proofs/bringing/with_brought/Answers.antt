@@ -1,30 +1,22 @@
-use Rattle.std.proofs.Common.{arith, ap, sym, length, ◌∙◌, ◌≡◌, ◌%◌, ◌||◌, true, false}
-use Rattle.tl_beat.specs.declared.channel.Channel.TheVariants as channel
-use Rattle.tl_burst.specs.statement.Messages.{unfinished}
-use Rattle.tl_commits.specs.code.ByteSet.{has}
-use Rattle.tl_commits.specs.statement.Copies.{link_beats}
+use Rattle.std.proofs.Common.{ap, length, ◌∙◌, ◌≡◌, ◌+◌, true, false}
+use Rattle.tl_commits.specs.code.ByteSet.{filled, has_at}
+use Rattle.tl_commits.specs.statement.Copies.{brought, link_beats}
 use Rattle.tl_commits.specs.statement.Events.{beats_of}
-use Rattle.tl_commits.proofs.LoadedBytes.{brings-brought, brings-held}
+use Rattle.tl_commits.proofs.LoadedBytes.{address-from, brings-filled}
 use Rattle.tl_commits.proofs.bringing.with_brought.Goals as goal
 
 pub returns-in_default : goal.returns-in_default
-returns-in_default g c = λ levels l complete e j lt k all v small.
+returns-in_default g c = λ levels l complete e j lt k all i v few room small.
     absurd (let no : false ≡ true = (c.in_default.ensures levels l (beats_of e) j lt).1 in cc)
 
-pub returns-then-has_brought : goal.returns-then-has_brought
-returns-then-has_brought g c = λ levels l complete e j lt k all v small.
-    let past = link_beats c.args.link.0 e in
-    let messages = (c.in-Some.ensures levels l (beats_of e) j lt).0 in
-    c.with.ensures v small ∙ ap (λ b. has c.args.values v || b)
-    (brings-brought complete (length levels) c.args.link.0 c.args.address v e c.at.result
-    (sym (c.has_brought.ensures past messages) ∙ c.if-has_brought.true)
-    (c.at.ensures ∙ c.bytes.ensures g.row.W (unfinished channel.D past) messages.d_is.bytes_are
-    (c.args.address % 64) (omega arith)))
-
 pub returns : goal.returns
-returns g c = λ levels l complete e j lt k all v small.
+returns g c = λ levels l complete e j lt k all i v few room small.
     let past = link_beats c.args.link.0 e in
+    let address = c.args.address in
     let messages = (c.in-Some.ensures levels l (beats_of e) j lt).0 in
-    c.with_held.ensures levels l complete e j lt k all v small ∙ ap (λ b. has c.args.values v || b)
-    (brings-held complete (length levels) c.args.link.0 c.args.address v e
-    (sym (c.has_brought.ensures past messages) ∙ c.if-has_brought.false))
+    let own = has_at c.args.sets i v in
+    let held = has_at c.with_held-held.result i v in
+    c.with_filled.ensures past messages i v few room small
+    ∙ ap (λ a. filled (brought a past) own held v) (rw c.block_at.ensures (address-from address i))
+    ∙ brings-filled complete (length levels) c.args.link.0 (address + i) v e own held
+    (c.with_held-held.ensures levels l complete e j lt k all i v few room small)

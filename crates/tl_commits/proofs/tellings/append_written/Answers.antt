@@ -13,7 +13,7 @@ pub loop-place-preserved : goal.loop-place-preserved
 loop-place-preserved c = elim c.if-is_in.branch [
   | then-is_in+in_ok-push w ↦ ap (λ v. v.items) w.told-is ∙ w.in_ok-push.ensures.items
       ∙ one-written c.args.places.now c.args.write.now c.args.moment c.loop-place.place c.loop-place.told.items c.args.told.now.items
-      w.value.result c.loop-place.invariant (sym c.is_in.ensures ∙ w.if-is_in.true) w.value.ensures
+      w.written_there.result c.loop-place.invariant (sym c.is_in.ensures ∙ w.if-is_in.true) w.written_there.ensures
   | else-is_in w ↦ ap (λ v. v.items) w.told-is ∙ one-unwritten c.args.places.now c.args.write.now c.args.moment c.loop-place.place
       c.loop-place.told.items c.args.told.now.items c.loop-place.invariant (sym c.is_in.ensures ∙ w.if-is_in.false)
 ]

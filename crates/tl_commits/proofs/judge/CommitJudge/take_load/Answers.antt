@@ -36,15 +36,15 @@ returns-clause-knows g c = λ levels complete l e k lt is.
     let judge = subst (λ j. Knows j levels l (beats_of e) false) (sym s.judge_is) k.judge_is in
     let forgot = c.forget.ensures ∙ ap (λ v. filter (λ y. not (is_of c.args.link.0 c.args.piece y)) v.items) s.loads_are in
     let complete_is = ap (λ v. v.items) s.complete_are ∙ k.complete_are in
-    let table = table-recorded c.values_loaded.new.self.values c.record.new.self.values complete n c.in-Ok.next x e
-    r.values_are (c.in-Ok.ensures.next levels complete l e k lt is) in
+    let table = table-recorded c.load_values.new.self.values c.record.new.self.values complete n None x e
+    r.values_are (c.in-Ok.ensures.loaded levels complete l e k lt is) in
     record {
       judge_is = subst (λ j. Knows j levels l (beats_of e) false) (sym r.judge_is) judge;
       levels_are = ap (λ v. v.items) r.levels_are ∙ ap (λ v. v.items) s.levels_are ∙ k.levels_are;
       complete_are = ap (λ v. v.items) r.complete_are ∙ complete_is;
       loads_are = loads-load complete n c.args.link c.args.piece c.args.value e old.loads.items mid
           c.record.new.self.loads.items k.loads_are forgot
-          (all-renewed c.values_loaded.new.self.judge c.record.new.self.values complete levels l (x ∷ e) mid
+          (all-renewed c.load_values.new.self.judge c.record.new.self.values complete levels l (x ∷ e) mid
           c.record.new.self.loads.items (rw complete_is at r.loads_are) judge table
           (rw forgot (pieces-filter n (λ y. not (is_of c.args.link.0 c.args.piece y)) old.loads.items
           k.loads_are.pieces)));

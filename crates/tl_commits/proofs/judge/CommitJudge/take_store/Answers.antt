@@ -1,4 +1,5 @@
 use Rattle.std.proofs.Common.{◌∷◌, length, refl, sym, ap, subst, false, ◌∙◌}
+use Rattle.std.specs.Prelude.{None}
 use Rattle.tl_beat.specs.declared.beat.Link.{Link}
 use Rattle.tl_together.specs.statement.Knows.{Knows}
 use Rattle.tl_events.specs.declared.commit.Commit.TheVariants as commit
@@ -28,8 +29,8 @@ returns-clause-knows g c = λ levels complete l e k lt is.
     let r = c.record.ensures in
     let n = length levels in
     let old = c.args.self.now in
-    let table = table-recorded c.stored_values-next.new.table c.record.new.self.values complete n c.in-Ok.next x e
-    r.values_are (c.in-Ok.ensures.next levels l complete c.args.link e k.judge_is is k.values_are) in
+    let table = table-recorded c.store_piece-stored.new.table c.record.new.self.values complete n None x e
+    r.values_are (c.in-Ok.ensures.stored levels l complete c.args.link e k.judge_is is k.values_are) in
     record {
       judge_is = subst (λ j. Knows j levels l (beats_of e) false) (sym r.judge_is) k.judge_is;
       levels_are = ap (λ v. v.items) r.levels_are ∙ k.levels_are;

@@ -1,5 +1,5 @@
 use Rattle.tl_commits.proofs.TellingLists.{set-at}
-use Rattle.tl_commits.proofs.tellings.set.Goals as goal
+use Rattle.tl_commits.proofs.tellings.replaced.Goals as goal
 
 pub returns : goal.returns
 returns c = λ p lt. set-at c.args.write.now c.args.moment p c.args.places.now c.append_written.new.told.items

@@ -355,7 +355,8 @@ pub response-own : {w : ℕ} (link : Link) (t : WideTrace w) (source own sink ow
     → own ≡ source → own_sink ≡ sink → ResponseNamed link source sink t n → ResponseNamed link own own_sink t n
 response-own link t source own sink own_sink n es ek h = rw (es, ek) h
 
-pub sink-own : {w : ℕ} (t : WideTrace w) (sink own : ℕ) (n : Named) → own ≡ sink → SinkNamed sink t n → SinkNamed own t n
+pub sink-own : {w : ℕ} (t : WideTrace w) (sink own : ℕ) (n : Named) → own ≡ sink → SinkNamed sink t n
+    → SinkNamed own t n
 sink-own t sink own n ek h = rw ek h
 
 -- the block of an address

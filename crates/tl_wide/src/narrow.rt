@@ -252,9 +252,9 @@ impl Narrower {
         }
     }
 
-    /// The numbers for the names of the next beat, of channel A. Its address is kept for the beats that answer it. `None`
-    /// if no number is left for one of them. The error means that there is no memory left. In both cases nothing
-    /// changes.
+    /// The numbers for the names of the next beat, of channel A. Its address is kept for the beats that answer it.
+    /// `None` if no number is left for one of them. The error means that there is no memory left. In both cases
+    /// nothing changes.
     #[inline(always)]
     pub fn request(
         &mut self,

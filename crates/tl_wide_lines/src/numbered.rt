@@ -4,7 +4,6 @@ ghost use Rattle.std.specs.Prelude.{◌<◌, ◌^◌, ◌≤◌, IfOk};
 ghost use Rattle.tl_beat.specs.declared.beat.Beat.TheVariants as narrow;
 ghost use Rattle.tl_beat.specs.statement.Line.{AreLanes};
 ghost use Rattle.tl_wide.specs.declared.beat.WideBeat.TheVariants as wide;
-ghost use Rattle.tl_wide.specs.declared.beat.WideBeatE.{WideBeatE};
 ghost use Rattle.tl_wide.specs.statement.Line.{IsWideInRange, IsWideWritable};
 ghost use Rattle.tl_wide.specs.statement.Width.{IsWideWidth};
 ghost use Rattle.tl_wide_lines.specs.code.ShortLine.{whole_id, widened, widened_a, widened_b, widened_c, widened_d};

@@ -11,8 +11,8 @@ use Rattle.tl_beat.specs.declared.beat.BeatC.{BeatC}
 use Rattle.tl_beat.specs.declared.beat.BeatD.{BeatD}
 use Rattle.tl_burst.proofs.Same.{same_a, same_b, same_c, same_d}
 use Rattle.tl_wide.proofs.Reached.{from-none, from-part, from-zero}
-use Rattle.tl_wide.specs.statement.Pieces.{carries_of, from, left_of, mask_in, piece_of, reached_at, size_in}
-use Rattle.tl_wide.specs.code.Pieces.{pieces_of}
+use Rattle.tl_wide.specs.statement.Pieces.{carries_of, from, left_of, mask_in, piece_of, pieces_of, reached_at}
+use Rattle.tl_wide.specs.statement.Pieces.{size_in}
 use Rattle.tl_wide.specs.declared.beat.WideBeat.{WideBeat}
 use Rattle.tl_wide.specs.declared.beat.WideBeat.TheVariants as wide
 use Rattle.tl_wide.specs.declared.beat.WideBeatA.{WideBeatA}

@@ -8,11 +8,11 @@ use Rattle.tl_beat.specs.declared.beat.Link.{Link}
 use Rattle.tl_rules.specs.statement.History.{block_at}
 use Rattle.tl_wide.proofs.Asking.{asks-kept, nothing-asked}
 use Rattle.tl_wide.proofs.Names.{among-with, place-below, sources-other, sources-own}
-use Rattle.tl_wide.specs.statement.Narrowing.{Asks, Follows, KnowsNames}
-use Rattle.tl_wide.specs.code.Narrowing.{IsNamed, IsNumberedBeat}
+use Rattle.tl_wide.specs.statement.Narrowing.{Asks, Follows, IsNumberedBeat, KnowsNames}
+use Rattle.tl_wide.specs.code.Narrowing.{IsNamed, MessageNamed, ResponseNamed, SinkNamed}
 use Rattle.tl_wide.specs.statement.Numbers.{IsNumbered, KnowsNumbers, is_past}
 use Rattle.tl_wide.specs.code.Numbers.{AreNumbered}
-use Rattle.tl_wide.specs.code.Pieces.{pieces_of}
+use Rattle.tl_wide.specs.statement.Pieces.{pieces_of}
 use Rattle.tl_wide.specs.declared.beat.WideBeat.{WideBeat}
 use Rattle.tl_wide.specs.declared.beat.WideBeat.TheVariants as wide
 use Rattle.tl_wide.specs.declared.beat.WideBeatA.{WideBeatA}
@@ -343,6 +343,25 @@ handed-on link x t Becomes (Ok (Some n)) after h asks skips pieces =
     (h.0, pieces n h.1, (h.2, asks-kept link x t after.asked.items (h.2.few_sources link.0) skips asks))
 handed-on link x t Becomes (Ok None) after h asks skips pieces = (h.0, (h.1, asks))
 handed-on link x t Becomes (Err e) after h asks skips pieces = (h, asks)
+
+-- ---- what is named by its values
+
+-- the numbers for an address and a source of a beat are those for the beat's own
+pub message-own : {w : ℕ} (link : Link) (t : WideTrace w) (address own source own_source : ℕ) (n : Named)
+    → own ≡ address → own_source ≡ source → MessageNamed link address source t n → MessageNamed link own own_source t n
+message-own link t address own source own_source n ea es h = rw (ea, es) h
+
+pub response-own : {w : ℕ} (link : Link) (t : WideTrace w) (source own sink own_sink : ℕ) (n : Named)
+    → own ≡ source → own_sink ≡ sink → ResponseNamed link source sink t n → ResponseNamed link own own_sink t n
+response-own link t source own sink own_sink n es ek h = rw (es, ek) h
+
+pub sink-own : {w : ℕ} (t : WideTrace w) (sink own : ℕ) (n : Named) → own ≡ sink → SinkNamed sink t n
+    → SinkNamed own t n
+sink-own t sink own n ek h = rw ek h
+
+-- the block of an address
+pub block-own : (address own : ℕ) → own ≡ address → Some (block_at own) ≡ Some (address / 64)
+block-own address own ea = rw ea refl
 
 -- ---- before the first beat
 

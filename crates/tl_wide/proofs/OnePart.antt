@@ -2,21 +2,24 @@
 use Rattle.std.proofs.Common.{◌≡◌, ℕ, ◌+◌, ◌-◌, ◌*◌, ◌/◌, ◌%◌, ◌^◌, ◌<◌, ◌≤◌, Bool, true, false, not, cond, List, [], ◌∷◌}
 use Rattle.std.proofs.Common.{refl, sym, ap, ◌∙◌, arith, inl, inr, lit<}
 use Rattle.std.proofs.lemmas.Bool.{cases_lt, lt-ltb, ne_eqb}
+use Rattle.std.proofs.lemmas.List.{take_all}
 use Rattle.std.proofs.lemmas.Nat.{and_mask, pow-add, pow_pos}
 use Rattle.std.proofs.Math.Bool.{or-true}
 use Rattle.std.proofs.Math.Nat.{div-div-eq-div-mul, div-eq_of_lt, mod-eq_of_lt, mod-lt, zero-div}
-use Rattle.std.specs.Prelude.{◌||◌, if◌then◌else◌}
+use Rattle.std.specs.Prelude.{◌||◌, if◌then◌else◌, Option, Some, None}
 use Rattle.tl_beat.specs.declared.beat.Beat.{Beat}
+use Rattle.tl_beat.specs.statement.Line.{AreLanes}
 use Rattle.tl_burst.specs.statement.Burst.{bit}
 use Rattle.tl_rules.specs.statement.Legality.{is_one_of}
-use Rattle.tl_wide.proofs.Cut.{at}
+use Rattle.tl_wide.proofs.Cut.{all-left, at}
 use Rattle.tl_wide.proofs.Reached.{by_width, each-cong, each-true, reaches-all, reaches-some}
-use Rattle.tl_wide.specs.statement.Pieces.{carries_of, from, left_of, mask_in, parts_from, piece_of, reached_at, size_in}
+use Rattle.tl_wide.specs.statement.Pieces.{carries_of, from, left_of, mask_in, parts_from, piece_of, pieces_of}
+use Rattle.tl_wide.specs.statement.Pieces.{reached_at, size_in}
 use Rattle.tl_wide.specs.declared.beat.WideBeat.{WideBeat}
 use Rattle.tl_wide.specs.declared.parts.Named.{Named}
 use Rattle.tl_wide.specs.declared.parts.Parts.{Parts}
 use Rattle.tl_wide.specs.statement.Narrowed.{lone_mask}
-use Rattle.tl_wide.specs.statement.Parts.{below, has_stray, part_mask, parts_of, reaches_part, shown_mask}
+use Rattle.tl_wide.specs.statement.Parts.{below, has_stray, part_lanes, part_mask, parts_of, reaches_part, shown_mask}
 use Rattle.tl_wide.specs.statement.Width.{IsWideWidth, part_width}
 
 -- there is one
@@ -89,7 +92,7 @@ lone-only w mask false = and_mask (part_mask w mask 0) (part_width w)
     ∙ mod-eq_of_lt (mod-lt (mask / 2 ^ (part_width w * 0)) (pow_pos (part_width w)))
 
 -- the parts to come
-left-only : {w p : ℕ} (x : WideBeat w) (n : Named) (stray : Bool) → IsWideWidth w → w ≤ 16
+pub left-only : {w p : ℕ} (x : WideBeat w) (n : Named) (stray : Bool) → IsWideWidth w → w ≤ 16
     → left_of {p = p} x (at n stray 0) ≡ piece_of x n stray (shown_mask stray w (mask_in x) 0) 0 ∷ []
 left-only {w} {p} x n stray width le =
     rw (
@@ -140,3 +143,38 @@ none-stray w p size address mask width is le none =
       | inl lt ↦ rw (div-eq_of_lt lt) (or-true (not (bit mask lane)))
       | inr past ↦ rw (no-bit mask (part_width w) lane (rw is at none) past) refl
     ]
+
+-- ---- a beat whose mask has none
+
+-- the first part has the whole mask, and all lanes
+whole-mask : (w mask : ℕ) → IsWideWidth w → w ≤ 16 → mask < 2 ^ w → part_mask w mask 0 ≡ mask
+whole-mask w mask width le small =
+    let one = one-part w (part_width w) width refl le in
+    let none : w * 0 ≡ 0 = omega arith in
+    let whole : mask / 2 ^ 0 ≡ mask = omega arith in
+    rw (one.0, none, whole) (mod-eq_of_lt small)
+
+pub whole-lanes : (w : ℕ) (lanes : Option (List ℕ)) → IsWideWidth w → w ≤ 16 → AreLanes w lanes
+    → lanes ≡ part_lanes w 0 lanes
+whole-lanes w None width le are = refl
+whole-lanes w (Some bytes) width le are =
+    let one = one-part w (part_width w) width refl le in
+    let none : w * 0 ≡ 0 = omega arith in
+    let count : 0 + w - 0 ≡ w = omega arith in
+    rw (one.0, none, count) (ap Some (sym (take_all w bytes (omega (arith, are.0)))))
+
+-- it becomes one beat, with its mask
+pub becomes-one : {w p : ℕ} (x : WideBeat w) (n : Named) (b : Beat p) → IsWideWidth w → w ≤ 16 → mask_in x < 2 ^ w
+    → b ≡ piece_of x n false (mask_in x) 0 → left_of {p = p} x (at n false 0) ≡ b ∷ []
+becomes-one {w} {p} x n b width le small is =
+    left-only {w = w} {p = p} x n false width le
+    ∙ rw (whole-mask w (mask_in x) width le small) (ap (λ (y : Beat p). y ∷ []) (sym is))
+
+-- which is all that it becomes
+pub all-of-one : {w p : ℕ} (x : WideBeat w) (n : Named) → IsWideWidth w → w ≤ 16 → mask_in x < 2 ^ w
+    → left_of {p = p} x (at n false 0) ≡ pieces_of {p = p} x n
+all-of-one {w} {p} x n width le small =
+    let one = one-part w (part_width w) width refl le in
+    let gone : mask_in x / 2 ^ part_width w ≡ 0 = rw one.0 (div-eq_of_lt small) in
+    all-left {w = w} {p = p} x n false
+    (sym (none-stray w (part_width w) (size_in x) (reached_at x n.asked) (mask_in x) width refl le gone))

@@ -6,15 +6,19 @@ ghost use Rattle.tl_wide.specs.statement.Numbers.{KnowsNumbers};
 ghost use Rattle.tl_wide.specs.code.Numbers.{AreNumbered};
 ghost use Rattle.tl_wide.specs.declared.numbers.Numbers.{Numbers};
 ghost use Rattle.tl_beat.specs.declared.beat.Link.{Link};
-ghost use Rattle.tl_wide.specs.statement.Narrowing.{Follows, IsNarrowed, KnowsNames, key_of};
-ghost use Rattle.tl_wide.specs.code.Narrowing.{IsNamed, IsNumberedBeat, MessageNamed, ResponseNamed, SinkNamed};
+ghost use Rattle.tl_wide.specs.statement.Narrowing.{Follows, IsNarrowed, IsNumberedBeat, KnowsNames, key_of};
+ghost use Rattle.tl_wide.specs.code.Narrowing.{IsNamed, MessageNamed, ResponseNamed, SinkNamed};
 ghost use Rattle.tl_wide.specs.declared.beat.WideBeat.{WideBeat};
 ghost use Rattle.tl_wide.specs.declared.beat.WideBeat.TheVariants as wide;
 ghost use Rattle.tl_wide.specs.declared.beat.WideBeatA.{WideBeatA};
+ghost use Rattle.tl_wide.specs.declared.beat.WideBeatB.{WideBeatB};
+ghost use Rattle.tl_wide.specs.declared.beat.WideBeatC.{WideBeatC};
+ghost use Rattle.tl_wide.specs.declared.beat.WideBeatD.{WideBeatD};
+ghost use Rattle.tl_wide.specs.declared.beat.WideBeatE.{WideBeatE};
 ghost use Rattle.tl_wide.specs.statement.Naming.{WideTrace, block_named, in_block, sink_named, source_of};
 ghost use Rattle.tl_wide.specs.statement.Width.{IsWideWidth, part_width};
 
-use crate::beat::{WideBeat, WideBeatA};
+use crate::beat::WideBeat;
 use crate::numbers::{Numbers, number_both};
 use crate::parts::{Named, Parts};
 use std::alloc::{AllocError, Global};
@@ -248,21 +252,68 @@ impl Narrower {
         }
     }
 
-    /// The numbers for the names of a beat of channel A. Its address is kept for the beats that answer it.
+    /// The numbers for the names of the next beat, of channel A. Its address is kept for the beats that answer it.
+    /// `None` if no number is left for one of them. The error means that there is no memory left. In both cases
+    /// nothing changes.
     #[inline(always)]
-    fn request<const W: usize>(
+    pub fn request(
         &mut self,
         link: Link,
-        beat: &WideBeatA<W>,
+        address: u64,
+        source: u16,
     ) -> Result<Option<Named>, AllocError>
-        ensures { (t : WideTrace W) → Follows self.old t → IsNumberedBeat link (wide.A beat.now) t result self.new }
+        ensures { (w : ℕ) (x : WideBeatA w) (t : WideTrace w) → x.address ≡ address → x.source ≡ source →
+            Follows self.old t → IsNumberedBeat link (wide.A x) t result self.new }
     {
         make_room(&mut self.asked, link)?;
-        let Some(named) = self.names.message(link, beat.address, beat.source)? else {
+        let Some(named) = self.names.message(link, address, source)? else {
             return Ok(None);
         };
-        keep(&mut self.asked, key_of(link, named.source), beat.address);
+        keep(&mut self.asked, key_of(link, named.source), address);
         Ok(Some(named))
+    }
+
+    /// The same of channel B or C.
+    #[inline(always)]
+    pub fn message(
+        &mut self,
+        link: Link,
+        address: u64,
+        source: u16,
+    ) -> Result<Option<Named>, AllocError>
+        ensures b { (w : ℕ) (x : WideBeatB w) (t : WideTrace w) → x.address ≡ address → x.source ≡ source →
+            Follows self.old t → IsNumberedBeat link (wide.B x) t result self.new }
+        ensures c { (w : ℕ) (x : WideBeatC w) (t : WideTrace w) → x.address ≡ address → x.source ≡ source →
+            Follows self.old t → IsNumberedBeat link (wide.C x) t result self.new }
+    {
+        self.names.message(link, address, source)
+    }
+
+    /// The same of channel D, with the address of the request that it answers.
+    #[inline(always)]
+    pub fn response(
+        &mut self,
+        link: Link,
+        source: u16,
+        sink: u16,
+    ) -> Result<Option<Named>, AllocError>
+        ensures { (w : ℕ) (x : WideBeatD w) (t : WideTrace w) → x.source ≡ source → x.sink ≡ sink →
+            Follows self.old t → IsNumberedBeat link (wide.D x) t result self.new }
+    {
+        let Some(named) = self.names.response(link, source, sink)? else {
+            return Ok(None);
+        };
+        let asked = asked_at(&self.asked, key_of(link, named.source));
+        Ok(Some(Named { asked, ..named }))
+    }
+
+    /// The same of channel E.
+    #[inline(always)]
+    pub fn acknowledgement(&mut self, link: Link, sink: u16) -> Result<Option<Named>, AllocError>
+        ensures { (w : ℕ) (x : WideBeatE) (t : WideTrace w) → x.sink ≡ sink →
+            Follows self.old t → IsNumberedBeat link (wide.E x) t result self.new }
+    {
+        self.names.acknowledgement(link, sink)
     }
 
     /// The numbers for the names of a beat, and the address of the request that a beat of channel D answers.
@@ -275,17 +326,11 @@ impl Narrower {
         ensures { (t : WideTrace W) → Follows self.old t → IsNumberedBeat link beat.now t result self.new }
     {
         match beat {
-            WideBeat::A(x) => self.request(link, x),
-            WideBeat::B(x) => self.names.message(link, x.address, x.source),
-            WideBeat::C(x) => self.names.message(link, x.address, x.source),
-            WideBeat::D(x) => {
-                let Some(named) = self.names.response(link, x.source, x.sink)? else {
-                    return Ok(None);
-                };
-                let asked = asked_at(&self.asked, key_of(link, named.source));
-                Ok(Some(Named { asked, ..named }))
-            }
-            WideBeat::E(x) => self.names.acknowledgement(link, x.sink),
+            WideBeat::A(x) => self.request(link, x.address, x.source),
+            WideBeat::B(x) => self.message(link, x.address, x.source),
+            WideBeat::C(x) => self.message(link, x.address, x.source),
+            WideBeat::D(x) => self.response(link, x.source, x.sink),
+            WideBeat::E(x) => self.acknowledgement(link, x.sink),
         }
     }
 

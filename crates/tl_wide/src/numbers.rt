@@ -87,11 +87,19 @@ impl Numbers {
         }
     }
 
+    /// Whether a name is 0, and has the number 0 from the start.
+    #[inline(always)]
+    fn is_first_zero(&self, name: u64) -> bool
+        ensures { result ≡ (self.now.has_zero && (name == 0)) }
+    {
+        self.has_zero && name == 0
+    }
+
     /// The number of a name in the table, if it has one.
     fn kept_place(&self, name: u64) -> Option<u32>
         ensures { result ≡ found_in self.now name }
     {
-        if self.has_zero && name == 0 {
+        if self.is_first_zero(name) {
             return Some(0);
         }
         self.places.get(name)
@@ -118,6 +126,7 @@ impl Numbers {
     {
         match self.recent_place(name) {
             Some(place) => Some(place),
+            None if self.is_first_zero(name) => Some(0),
             None => self.seek(name),
         }
     }

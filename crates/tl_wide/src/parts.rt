@@ -5,8 +5,7 @@ ghost use Rattle.std.specs.Bool.{OnTrue};
 ghost use Rattle.std.specs.Prelude.{◌||◌, false, if◌then◌else◌, bit_and, is_some};
 ghost use Rattle.tl_beat.specs.statement.Opcode.{a_carries_data, b_carries_data, c_carries_data, d_carries_data};
 ghost use Rattle.tl_wide.specs.statement.Pieces.{carries_of, in_front, left_of, mask_in, piece_of};
-ghost use Rattle.tl_wide.specs.statement.Pieces.{reached_at, size_in};
-ghost use Rattle.tl_wide.specs.code.Pieces.{pieces_of};
+ghost use Rattle.tl_wide.specs.statement.Pieces.{pieces_of, reached_at, size_in};
 ghost use Rattle.tl_rules.specs.statement.Legality.{is_one_of};
 ghost use Rattle.tl_wide.specs.statement.Narrowed.{lone_mask};
 ghost use Rattle.tl_wide.specs.statement.Parts.{common_mask, has_stray, part_lanes, part_mask, parts_of, reaches_part};
@@ -19,11 +18,11 @@ use tl_beat::opcode::OpA;
 
 /// The numbers for the names of a beat, and the address of the request that a response answers.
 #[derive(Clone, Copy)]
-pub(crate) struct Named {
-    pub(crate) source: u8,
-    pub(crate) sink: u8,
-    pub(crate) address: u32,
-    pub(crate) asked: u64,
+pub struct Named {
+    pub source: u8,
+    pub sink: u8,
+    pub address: u32,
+    pub asked: u64,
 }
 
 /// The message of a beat: its size and its address, and the beat's mask.

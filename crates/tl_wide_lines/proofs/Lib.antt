@@ -3,6 +3,7 @@ mod Decoded
 pub mod FirstFaults
 pub mod JudgedLines
 mod JudgedOnce
+mod NumberedNames
 pub mod PartsJudged
 mod ShortLines
 pub mod TraceJudged

@@ -1,6 +1,5 @@
 -- The parts of a wide beat, judged one after another.
-use Rattle.std.proofs.Common.{◌≡◌, ◌≤◌, ◌∙◌, ℕ, Bool, List, [], ◌∷◌, ap, refl, subst, sym, inl, inr, arith, lit<}
-use Rattle.std.proofs.lemmas.Bool.{cases_lt}
+use Rattle.std.proofs.Common.{◌≡◌, ◌≤◌, ◌∙◌, ℕ, Bool, List, [], ◌∷◌, ap, refl, subst, sym, inl, inr, arith}
 use Rattle.std.specs.Prelude.{Option, Some, None}
 use Rattle.tl_beat.specs.declared.beat.Beat.{Beat}
 use Rattle.tl_beat.specs.declared.beat.Link.{Link}
@@ -12,16 +11,11 @@ use Rattle.tl_engine.specs.statement.JudgedLinks.{faults_by}
 use Rattle.tl_params.specs.declared.level.Level.{Level}
 use Rattle.tl_params.specs.declared.liberties.Liberties.{Liberties}
 use Rattle.tl_rules.specs.statement.Conformance.{Trace}
-use Rattle.tl_wide.proofs.Cut.{at}
-use Rattle.tl_wide.proofs.OnePart.{only-none, only-one}
 use Rattle.tl_wide.proofs.Reached.{by_width}
-use Rattle.tl_wide.specs.declared.beat.WideBeat.{WideBeat}
-use Rattle.tl_wide.specs.declared.parts.Parts.{Parts}
-use Rattle.tl_wide.specs.statement.Pieces.{in_front, left_of}
 use Rattle.tl_wide.specs.statement.Width.{IsWideWidth, part_width}
 use Rattle.tl_wide_lines.specs.code.FirstFault.{behind, with_parts}
 use Rattle.tl_wide_lines.specs.statement.PartFaults.{or_fault, part_fault, parts_taken, unless_fault}
-use Rattle.tl_wide_lines.specs.code.WideJudging.{JudgesParts, PartsLeft, one_part}
+use Rattle.tl_wide_lines.specs.code.WideJudging.{JudgesParts, PartsLeft}
 
 -- the parts of a wide beat have a width
 pub part-width : (w p : ℕ) → IsWideWidth w → p ≡ part_width w → IsWidth p
@@ -88,33 +82,6 @@ pub part-own : (w : ℕ) → IsWideWidth w → w ≤ 16 → w ≡ part_width w
 part-own w width few =
     by_width (λ w p. w ≤ 16 → w ≡ p) (λ le. refl) (λ le. refl) (λ le. refl) (λ le. absurd (omega arith))
     (λ le. absurd (omega arith)) w (part_width w) width refl few
-
--- no more than one part of a beat is left
-abbrev tail_of : {A : Type 0} → List A → List A
-tail_of [] = []
-tail_of (x ∷ xs) = xs
-
-left-few : {w p : ℕ} (x : WideBeat w) (s : Parts) (y : Beat p) (more : List (Beat p)) → IsWideWidth w → w ≤ 16
-    → left_of x s ≡ y ∷ more → more ≡ []
-left-few {w} {p} x s y more width few is =
-    elim (cases_lt 0 s.next) [
-      | inl past ↦ absurd (let none : y ∷ more ≡ [] = sym is ∙ only-none {w = w} {p = p} x s width few past in cc)
-      | inr le ↦
-          let first : s.next ≡ 0 = omega (arith, le) in
-          let none = only-none {w = w} {p = p} x (at s.named s.stray 1) width few (lit< tt) in
-          ap tail_of (sym is ∙ only-one {w = w} {p = p} x s _ width few first refl) ∙ none
-    ]
-
-pub one-left : {w p : ℕ} (x : WideBeat w) (s : Parts) (part : Option (Beat p)) (left : List (Beat p)) → IsWideWidth w
-    → w ≤ 16 → left_of x s ≡ in_front part left → left_of x s ≡ one_part part
-one-left x s None left width few is = is
-one-left x s (Some y) left width few is =
-    is ∙ ap (λ (more : List (Beat _)). y ∷ more) (left-few x s y left width few is)
-
--- nothing is left
-pub none-judged : {p : ℕ} (old : TraceJudge p) (link : Link) (parts : List (Beat p)) → parts ≡ []
-    → JudgesParts old old link parts None
-none-judged old link parts is = parts_good old old link parts parts is (λ together levels may t known. (t, known, refl, refl))
 
 -- where no part is at fault all are taken
 pub all-taken : {p : ℕ} (together : Bool) (levels : List Level) (may : Liberties) (link : Link) (parts : List (Beat p))

@@ -6,7 +6,7 @@ use Rattle.std.proofs.lemmas.Bool.{and_parts, ltb-true}
 use Rattle.std.proofs.lemmas.Nat.{le_bytes_8}
 use Rattle.std.specs.Int.{from_le_bytes, to_le_bytes}
 use lib.ListN.{get_or}
-use mir.Syntax.{w8, w64}
+use mir.Syntax.{w8, w16, w64}
 use mir.Val.{Fits}
 use Rattle.std.specs.Prelude.{Option, Some, None, Result, Ok, ◌&&◌, nat_lt, IfSome, slice_index}
 use Rattle.tl_beat.proofs.AtPlaces.{digit_is}
@@ -76,6 +76,14 @@ eight-zeros field number long small is zeros =
     rw same refl
 
 -- two digits
+pub two-zeros : (high low number : ℕ) → high < 2 ^ 8 → low < 2 ^ 8 → number ≡ from_le_bytes w16 (high ∷ low ∷ [])
+    → number ≡ 12336 → number_in 2 (high ∷ low ∷ []) ≡ Ok 0
+unfolding is_digits value_from
+two-zeros high low number h l is zeros =
+    let high_is : high ≡ 48 = omega (arith, h, l, is, zeros) in
+    let low_is : low ≡ 48 = omega (arith, h, l, is, zeros) in
+    rw (high_is, low_is) refl
+
 pub two-digits : (high low high_value low_value : ℕ) → high_value ≡ value_or_16 high → low_value ≡ value_or_16 low
     → (nat_lt high_value 16 && nat_lt low_value 16) ≡ true
     → number_in 2 (high ∷ low ∷ []) ≡ Ok (16 * high_value + low_value)

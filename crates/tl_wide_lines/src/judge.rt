@@ -2,12 +2,13 @@
 
 ghost use Rattle.std.specs.Prelude.{◌≡◌, ◌≤◌, IfOk};
 ghost use Rattle.tl_beat.specs.statement.Width.{IsWidth};
+ghost use Rattle.tl_wide.specs.statement.Line.{IsWideInRange, IsWideWritable};
 ghost use Rattle.tl_wide.specs.statement.Pieces.{left_of};
 ghost use Rattle.tl_wide.specs.statement.Width.{IsWideWidth, part_width};
 ghost use Rattle.tl_wide_lines.specs.code.ShortLine.{widened};
 ghost use Rattle.tl_wide_lines.specs.code.WideJudging.{JudgesParts, JudgesWideBeat, JudgesWideLine, KnowsNone};
-ghost use Rattle.tl_wide_lines.specs.code.WideJudging.{NarrowsToOne, part_if};
 
+use crate::numbered::number_halves;
 use crate::short::{High, read_short};
 use std::alloc::{AllocError, Global};
 use tl_beat::beat::{Beat, BeatE, Link};
@@ -74,67 +75,6 @@ fn push_parts<const W: usize, const P: usize>(
     Ok(None)
 }
 
-/// Replaces `part` by the beat that the next wide beat of the trace becomes, of at most 16 bytes, and says whether it
-/// becomes one. `None` if its names are beyond a limit. The error means that there is no memory left.
-#[inline(always)]
-fn narrow_one<const P: usize>(
-    narrower: &mut Narrower,
-    link: Link,
-    beat: &WideBeat<P>,
-    part: &mut Beat<P>,
-) -> Result<Option<bool>, AllocError>
-    requires width { IsWideWidth P }
-    requires few { P ≤ 16 }
-    ensures { IfOk result (λ is_one. NarrowsToOne narrower.old narrower.new link beat.now (part_if is_one part.new)) }
-{
-    let Some(parts) = narrower.narrow::<P, P>(link, beat)? else {
-        return Ok(None);
-    };
-    let mut left = parts;
-    let Some(only) = left.next::<P, P>(beat) else {
-        return Ok(Some(false));
-    };
-    *part = only;
-    Ok(Some(true))
-}
-
-/// The same of the wide beat of these halves, in the place of the lower one.
-#[inline(always)]
-fn narrow_halves<const P: usize>(
-    narrower: &mut Narrower,
-    link: Link,
-    beat: &mut Beat<P>,
-    high: High,
-) -> Result<Option<bool>, AllocError>
-    requires width { IsWideWidth P }
-    requires few { P ≤ 16 }
-    ensures { IfOk result (λ is_one. NarrowsToOne narrower.old narrower.new link (widened beat.old high)
-        (part_if is_one beat.new)) }
-{
-    match &*beat {
-        Beat::A(x) => {
-            let wide = WideBeat::A(high.widen_a(x));
-            narrow_one(narrower, link, &wide, beat)
-        }
-        Beat::B(x) => {
-            let wide = WideBeat::B(high.widen_b(x));
-            narrow_one(narrower, link, &wide, beat)
-        }
-        Beat::C(x) => {
-            let wide = WideBeat::C(high.widen_c(x));
-            narrow_one(narrower, link, &wide, beat)
-        }
-        Beat::D(x) => {
-            let wide = WideBeat::D(high.widen_d(x));
-            narrow_one(narrower, link, &wide, beat)
-        }
-        Beat::E(x) => {
-            let sink = high.whole_sink(x.sink);
-            narrow_one(narrower, link, &WideBeat::E(WideBeatE { sink }), beat)
-        }
-    }
-}
-
 impl<const P: usize> WideJudge<P> {
     /// A judge of the links that a header names, 1 to 16, which has seen no beat. The error means that there is no
     /// memory left.
@@ -178,12 +118,14 @@ impl<const P: usize> WideJudge<P> {
     ) -> Result<Option<Fault>, AllocError>
         requires width { IsWideWidth P }
         requires few { P ≤ 16 }
+        requires writable { IsWideWritable (widened beat.old high) }
+        requires range { IsWideInRange (widened beat.old high) }
         ensures { IfOk result (JudgesWideBeat self.old self.new link (widened beat.old high)) }
     {
-        match narrow_halves(&mut self.narrower, link, beat, high)? {
-            None => Ok(Some(Fault::Beyond)),
-            Some(false) => Ok(None),
-            Some(true) => self.judge.push(link, beat),
+        if number_halves(&mut self.narrower, link, beat, high)? {
+            self.judge.push(link, beat)
+        } else {
+            Ok(Some(Fault::Beyond))
         }
     }
 

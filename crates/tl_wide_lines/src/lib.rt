@@ -12,6 +12,7 @@ pub mod header;
 pub mod judge;
 pub mod law;
 pub mod lines;
+mod numbered;
 mod replay;
 mod reread;
 pub mod run;

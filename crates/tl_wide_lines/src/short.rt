@@ -3,17 +3,18 @@
 ghost use Rattle.std.specs.Prelude.{◌≡◌, ◌≤◌, ◌+◌, ◌∷◌, [], length, take, drop, IfSome, Ok};
 ghost use Rattle.tl_beat.specs.code.Reading.{number_in};
 ghost use Rattle.tl_beat.specs.statement.Width.{IsWidth};
-ghost use Rattle.tl_wide_lines.specs.code.ShortLine.{SpellsWidened, shortened};
-ghost use Rattle.tl_wide_lines.specs.code.ShortLine.{whole_address, whole_id, widened_a, widened_b, widened_c, widened_d};
+ghost use Rattle.tl_wide_lines.specs.code.ShortLine.{SpellsWidened, shortened, whole_address, whole_id};
 
-use tl_beat::beat::{Beat, BeatA, BeatB, BeatC, BeatD, Link};
+use tl_beat::beat::{Beat, Link};
 use tl_beat::lanes::eight_digit_number;
 use tl_beat::read::field::value;
 use tl_beat::read::read_into;
-use tl_wide::beat::{WideBeatA, WideBeatB, WideBeatC, WideBeatD};
 
 /// Eight bytes `0`, as a number.
 const ZEROS: u64 = 0x3030_3030_3030_3030;
+
+/// Two bytes `0`, as a number.
+const TWO_ZEROS: u16 = 0x3030;
 
 /// The higher halves of the names of a wide beat, 0 for a name that its channel doesn't have.
 #[derive(Clone, Copy)]
@@ -47,80 +48,16 @@ impl High {
     {
         (u64::from(self.address) << 32) + u64::from(low)
     }
-
-    /// The wide beat of channel A with this lower half.
-    #[inline(always)]
-    pub(crate) fn widen_a<const W: usize>(self, low: &BeatA<W>) -> WideBeatA<W>
-        ensures { result ≡ widened_a low.now self }
-    {
-        WideBeatA {
-            opcode: low.opcode,
-            param: low.param,
-            size: low.size,
-            source: self.whole_source(low.source),
-            address: self.whole_address(low.address),
-            mask: u64::from(low.mask),
-            lanes: low.lanes,
-            corrupt: low.corrupt,
-        }
-    }
-
-    /// The wide beat of channel B with this lower half.
-    #[inline(always)]
-    pub(crate) fn widen_b<const W: usize>(self, low: &BeatB<W>) -> WideBeatB<W>
-        ensures { result ≡ widened_b low.now self }
-    {
-        WideBeatB {
-            opcode: low.opcode,
-            param: low.param,
-            size: low.size,
-            source: self.whole_source(low.source),
-            address: self.whole_address(low.address),
-            mask: u64::from(low.mask),
-            lanes: low.lanes,
-            corrupt: low.corrupt,
-        }
-    }
-
-    /// The wide beat of channel C with this lower half.
-    #[inline(always)]
-    pub(crate) fn widen_c<const W: usize>(self, low: &BeatC<W>) -> WideBeatC<W>
-        ensures { result ≡ widened_c low.now self }
-    {
-        WideBeatC {
-            opcode: low.opcode,
-            param: low.param,
-            size: low.size,
-            source: self.whole_source(low.source),
-            address: self.whole_address(low.address),
-            lanes: low.lanes,
-            corrupt: low.corrupt,
-        }
-    }
-
-    /// The wide beat of channel D with this lower half.
-    #[inline(always)]
-    pub(crate) fn widen_d<const W: usize>(self, low: &BeatD<W>) -> WideBeatD<W>
-        ensures { result ≡ widened_d low.now self }
-    {
-        WideBeatD {
-            opcode: low.opcode,
-            param: low.param,
-            size: low.size,
-            source: self.whole_source(low.source),
-            sink: self.whole_sink(low.sink),
-            denied: low.denied,
-            lanes: low.lanes,
-            corrupt: low.corrupt,
-        }
-    }
 }
 
-/// The number of two digits, the high one first.
+/// The number of two digits, the high one first, which are mostly 0 in the higher half of a name.
 #[inline(always)]
 fn two_digits(high: u8, low: u8) -> Option<u8>
     ensures { IfSome result (λ number. number_in 2 (high ∷ low ∷ []) ≡ Ok number) }
 {
+    if u16::from_le_bytes([high, low]) == TWO_ZEROS {
+        return Some(0);
+    }
     let (high_value, low_value) = (value(high), value(low));
     if (high_value < 16) & (low_value < 16) {
         Some(16 * high_value + low_value)

@@ -1,15 +1,11 @@
 -- What the names of a wide beat become, before it is cut into its parts.
 use Rattle.std.specs.Prelude.{ℕ, ◌≡◌, false, true, ◌∷◌, Option, Some, None, Result, Ok, Err}
 use Rattle.tl_beat.specs.declared.beat.Link.{Link}
-use Rattle.tl_wide.specs.code.Pieces.{pieces_of}
 use Rattle.tl_wide.specs.declared.beat.WideBeat.{WideBeat}
 use Rattle.tl_wide.specs.declared.narrow.Names.{Names}
-use Rattle.tl_wide.specs.declared.narrow.Narrower.{Narrower}
 use Rattle.tl_wide.specs.declared.parts.Named.{Named}
 use Rattle.tl_wide.specs.statement.Naming.{WideTrace, is_beyond, narrow_address, place_in, sinks, sources}
-use Rattle.tl_wide.specs.statement.Narrowed.{beats_of}
-use Rattle.tl_wide.specs.statement.Width.{part_width}
-use Rattle.tl_wide.specs.statement.Narrowing.{KnowsNames, Follows}
+use Rattle.tl_wide.specs.statement.Narrowing.{KnowsNames}
 
 -- The answer to one more beat after these, whose names become such numbers, and what is known then. If its names are
 -- beyond a limit, and for want of memory, no number changes.
@@ -31,12 +27,3 @@ ResponseNamed link source sink t n =
 
 abbrev pub SinkNamed : {w : ℕ} → ℕ → WideTrace w → Named → Type 0
 SinkNamed sink t n = n.sink ≡ place_in (sinks t) sink
-
--- the same of a whole beat, with the beats that it becomes
-abbrev pub IsNumberedBeat : {w : ℕ} {E : Type 0} → Link → WideBeat w → WideTrace w → Result (Option Named) E → Narrower
-    → Type 0
-IsNumberedBeat {w} link x t (Ok (Some n)) after =
-    (is_beyond link ((link, x) ∷ t) ≡ false)
-    × (pieces_of {p = part_width w} x n ≡ beats_of link x ((link, x) ∷ t)) × Follows after ((link, x) ∷ t)
-IsNumberedBeat link x t (Ok None) after = (is_beyond link ((link, x) ∷ t) ≡ true) × Follows after t
-IsNumberedBeat link x t (Err e) after = Follows after t

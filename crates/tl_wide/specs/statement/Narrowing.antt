@@ -3,11 +3,12 @@ use Rattle.std.specs.Prelude.{ℕ, ◌≡◌, ◌≤◌, ◌<◌, ◌^◌, ◌+�
 use Rattle.std.specs.Prelude.{Some, None, Result, Ok, Err, slice_index_or, ◌∷◌}
 use Rattle.tl_beat.specs.declared.beat.Link.{Link}
 use Rattle.tl_wide.specs.statement.Numbers.{KnowsNumbers, place_among}
-use Rattle.tl_wide.specs.statement.Pieces.{left_of}
+use Rattle.tl_wide.specs.statement.Pieces.{left_of, pieces_of}
 use Rattle.tl_wide.specs.declared.beat.WideBeat.{WideBeat}
 use Rattle.tl_wide.specs.declared.narrow.Names.{Names}
 use Rattle.tl_wide.specs.declared.narrow.Narrower.{Narrower}
 use Rattle.tl_wide.specs.declared.numbers.Numbers.{Numbers}
+use Rattle.tl_wide.specs.declared.parts.Named.{Named}
 use Rattle.tl_wide.specs.declared.parts.Parts.{Parts}
 use Rattle.tl_wide.specs.statement.Naming.{WideTrace, blocks, is_beyond, sinks, sources}
 use Rattle.tl_wide.specs.statement.Narrowed.{asked_address, beats_of}
@@ -59,3 +60,12 @@ IsNarrowed {w} link x t (Ok (Some parts)) after =
     × (left_of {p = part_width w} x parts ≡ beats_of link x ((link, x) ∷ t)) × Follows after ((link, x) ∷ t)
 IsNarrowed link x t (Ok None) after = (is_beyond link ((link, x) ∷ t) ≡ true) × Follows after t
 IsNarrowed link x t (Err e) after = Follows after t
+
+-- the same of the names alone: numbers with which the beat becomes those beats
+abbrev pub IsNumberedBeat : {w : ℕ} {E : Type 0} → Link → WideBeat w → WideTrace w → Result (Option Named) E → Narrower
+    → Type 0
+IsNumberedBeat {w} link x t (Ok (Some n)) after =
+    (is_beyond link ((link, x) ∷ t) ≡ false)
+    × (pieces_of {p = part_width w} x n ≡ beats_of link x ((link, x) ∷ t)) × Follows after ((link, x) ∷ t)
+IsNumberedBeat link x t (Ok None) after = (is_beyond link ((link, x) ∷ t) ≡ true) × Follows after t
+IsNumberedBeat link x t (Err e) after = Follows after t

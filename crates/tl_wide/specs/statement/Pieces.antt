@@ -8,9 +8,9 @@ use Rattle.tl_wide.specs.declared.beat.WideBeat.{WideBeat}
 use Rattle.tl_wide.specs.declared.beat.WideBeat.TheVariants as wide
 use Rattle.tl_wide.specs.declared.parts.Named.{Named}
 use Rattle.tl_wide.specs.declared.parts.Parts.{Parts}
-use Rattle.tl_wide.specs.statement.Narrowed.{lone_mask}
-use Rattle.tl_wide.specs.statement.Parts.{part_carries, part_lanes, parts_of, shown_carries, shown_mask}
-use Rattle.tl_wide.specs.statement.Parts.{reaches_part, shown_opcode}
+use Rattle.tl_wide.specs.statement.Narrowed.{lone_mask, parts_where}
+use Rattle.tl_wide.specs.statement.Parts.{has_stray, part_carries, part_lanes, parts_of, reaches_part}
+use Rattle.tl_wide.specs.statement.Parts.{shown_carries, shown_mask, shown_opcode}
 use Rattle.tl_wide.specs.statement.Width.{part_width}
 
 -- ---- the message of a beat
@@ -124,3 +124,17 @@ left_of x s = left_by x s.named s.stray s.next
 abbrev pub in_front : {w : ℕ} → Option (Beat w) → List (Beat w) → List (Beat w)
 in_front None left = []
 in_front (Some x) left = x ∷ left
+
+-- ---- all parts
+
+-- the parts of a beat whose names have these numbers
+abbrev pub pieces_by : {w p : ℕ} → WideBeat w → Named → Bool → List ℕ → List (Beat p)
+pieces_by {w} x n stray parts =
+    parts_where (carries_of x) (λ part. piece_of x n stray (shown_mask stray w (mask_in x) part) part) parts
+    (piece_of x n stray (lone_mask w stray parts (mask_in x)) 0)
+
+abbrev pub pieces_in : {w p : ℕ} → WideBeat w → Named → List ℕ → List (Beat p)
+pieces_in {w} x n parts = pieces_by x n (has_stray w parts (mask_in x)) parts
+
+abbrev pub pieces_of : {w p : ℕ} → WideBeat w → Named → List (Beat p)
+pieces_of {w} x n = pieces_in x n (parts_of w (size_in x) (reached_at x n.asked))

@@ -46,23 +46,17 @@ JudgesWideBeat {w} {p} old new link x answer =
     ⊎ ((answer ≡ Some Beyond) × (new.judge ≡ old.judge)
     × ((t : WideTrace w) → Follows old.narrower t → (is_beyond link ((link, x) ∷ t) ≡ true) × Follows new.narrower t))
 
--- these parts, if there is one
-abbrev pub one_part : {p : ℕ} → Option (Beat p) → List (Beat p)
-one_part None = []
-one_part (Some x) = x ∷ []
+-- this part, if its names aren't too many
+abbrev pub part_named : {p : ℕ} → Bool → Beat p → Option (Beat p)
+part_named false x = None
+part_named true x = Some x
 
--- this part if there is one, which isn't known of too many names
-abbrev pub part_if : {p : ℕ} → Option Bool → Beat p → Option (Option (Beat p))
-part_if None x = None
-part_if (Some false) x = Some None
-part_if (Some true) x = Some (Some x)
-
--- what the next wide beat becomes: at most one part, or its names are too many
-abbrev pub NarrowsToOne : {w : ℕ} → Narrower → Narrower → Link → WideBeat w → Option (Option (Beat w)) → Type 0
+-- what the next wide beat becomes: one part, or its names are too many
+abbrev pub NarrowsToOne : {w : ℕ} → Narrower → Narrower → Link → WideBeat w → Option (Beat w) → Type 0
 NarrowsToOne {w} old new link x None =
     (t : WideTrace w) → Follows old t → (is_beyond link ((link, x) ∷ t) ≡ true) × Follows new t
 NarrowsToOne {w} old new link x (Some part) =
-    (parts : Parts) × (left_of {p = w} x parts ≡ one_part part)
+    (parts : Parts) × (left_of {p = w} x parts ≡ part ∷ [])
     × ((t : WideTrace w) → Follows old t → (is_beyond link ((link, x) ∷ t) ≡ false)
     × (left_of {p = part_width w} x parts ≡ beats_of link x ((link, x) ∷ t)) × Follows new ((link, x) ∷ t))
 

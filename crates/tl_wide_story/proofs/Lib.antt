@@ -1,0 +1,2 @@
+mod WideExplaining
+mod WideReplaying

@@ -1,2 +1,4 @@
+mod Lessons
+mod Stories
 mod WideExplaining
 mod WideReplaying

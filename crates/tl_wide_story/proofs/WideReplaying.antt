@@ -39,13 +39,15 @@ use Rattle.tl_wide_lines.proofs.FirstFaults.{all-become, behind-last, next-beats
 use Rattle.tl_wide_lines.proofs.JudgedLines.{begin-more, begin-none}
 use Rattle.tl_wide_lines.specs.code.FirstFault.{beats_taken, behind, with_parts}
 use Rattle.tl_wide_lines.specs.code.WideDecoding.{is_wide_width}
-use Rattle.tl_wide_story.specs.code.WideReplaying.{AreRecorded, Concludes, CountsLine, EndsReplay, GoesOnWide, GoesOrEnds}
+use Rattle.tl_wide_story.specs.code.WideReplaying.{AreRecorded, Concludes, CountsLine}
+use Rattle.tl_wide_story.specs.code.WideReplaying.{EndsReplay, GoesOnWide, GoesOrEnds}
 use Rattle.tl_wide_story.specs.code.WideReplaying.{HasReason, HasTold, IsFresh, IsGuilty, IsKept, IsNoted, KnowsReplay}
 use Rattle.tl_wide_story.specs.code.WideReplaying.{PassedBeat, PassesBeat, PassesParts, ReadsBeat, Records, TakesHeader}
 use Rattle.tl_wide_story.specs.code.WideReplaying.{TakesLine, TellsLine, sentence_of}
 use Rattle.tl_wide_story.specs.declared.reread.Passed.{Passed}
 use Rattle.tl_wide_story.specs.declared.reread.Passed.TheVariants.{Strange, Taken, Told}
 use Rattle.tl_wide_story.specs.declared.replay.WideReplay.{WideReplay}
+use Rattle.tl_wide_story.specs.declared.story.WideStory.{WideStory}
 use Rattle.tl_wide_story.specs.statement.WideExplained.{ExplainsWide, ExplainsWideFault, IsConvicted}
 use Rattle.tl_wide_lines.specs.statement.JudgedTrace.{BeginWith}
 use Rattle.tl_wide_story.specs.statement.WideExplained.{wide_front_text}
@@ -125,7 +127,8 @@ more_recorded {w} {p} old now new link first x one more = record {
   records = λ t counted recorded.
       let (so_far, number) = one.records t counted recorded in
       let (next, last) = more.records (with_parts link first t) number
-      (subst (λ (l : Liberties). IsRecordUnder l now.recorder (with_parts link first t)) (sym one.kept.may_is) so_far) in
+      (subst (λ (l : Liberties). IsRecordUnder l now.recorder (with_parts link first t)) (sym one.kept.may_is) so_far)
+      in
       subst (λ (u : Trace p). IsRecordUnder old.may new.recorder u × (new.recorded + 1 ≡ next_line u))
       (one_part link x (with_parts link first t) ∙ sym (parts_more link first x t)) (
         subst (λ (l : Liberties). IsRecordUnder l new.recorder (with_parts link (x ∷ []) (with_parts link first t)))
@@ -458,20 +461,22 @@ header_line old new line false none same takes = unread old new line same
 -- ---- the reasons
 
 -- what is told of the line at fault explains it
-pub told_explains : {w : ℕ} (r : WideReplay w) (allow : Liberties) (old new : Option (List ℕ)) (read reasons : List ℕ)
-    (status : Status) (verdict : List ℕ) → Consumes old new read → r.allow ≡ allow → r.told ≡ true
-    → HasAll (λ (r : WideReplay w) lines (text : List ℕ). KnowsReplay r lines) EndsReplay r (lines_of read) status
-    → reasons ≡ r.reasons.items → verdict ≡ fault_text (r.count + 1) r.fault
+pub told_explains : {w p : ℕ} (s : WideStory w p) (allow : Liberties) (old new : Option (List ℕ))
+    (read reasons learned : List ℕ) (status : Status) (verdict : List ℕ) → Consumes old new read
+    → s.replay.allow ≡ allow → s.replay.told ≡ true
+    → HasAll (λ (s : WideStory w p) lines (text : List ℕ). KnowsReplay s.replay lines) (λ s. EndsReplay s.replay) s
+    (lines_of read) status
+    → reasons ≡ s.replay.reasons.items ++ learned → verdict ≡ fault_text (s.replay.count + 1) s.replay.fault
     → ExplainsWide allow old new verdict reasons Broken
-told_explains r allow old new read reasons Clean verdict consumed is told (text, known) same says =
+told_explains s allow old new read reasons learned Clean verdict consumed is told (text, known) same says =
     let no : true ≡ false = sym told ∙ known.0 in absurd cc
-told_explains {w} r allow old new read reasons Broken verdict consumed is told ends same says =
-    (r.count + 1, r.fault, says, go r.fault refl)
+told_explains {w} s allow old new read reasons learned Broken verdict consumed is told ends same says =
+    (s.replay.count + 1, s.replay.fault, says, go s.replay.fault refl)
   where
-    it : HasTold r (lines_of read)
+    it : HasTold s.replay (lines_of read)
     it = ends told
 
-    go : (f : Fault) → r.fault ≡ f → ExplainsWideFault allow old new (r.count + 1) reasons f
+    go : (f : Fault) → s.replay.fault ≡ f → ExplainsWideFault allow old new (s.replay.count + 1) reasons f
     go (fault.Rule rule) at = record {
       width = it.width;
       may = it.may;
@@ -493,9 +498,12 @@ told_explains {w} r allow old new read reasons Broken verdict consumed is told e
       beat = it.beat;
       spells = it.spells;
       claimed = it.guilty rule at;
-      grounds = it.grounds;
-      begins = same ∙ it.says
-          ∙ ap (λ (f : Fault). wide_front_text (sentence_of f) (r.count + 1) it.link it.beat ++ it.grounds) at;
+      grounds = it.grounds ++ learned;
+      begins = same
+          ∙ ap (λ (xs : List ℕ). xs ++ learned) (it.says
+          ∙ ap (λ (f : Fault). wide_front_text (sentence_of f) (s.replay.count + 1) it.link it.beat ++ it.grounds) at)
+          ∙ append_assoc (wide_front_text (sentence_of (fault.Rule rule)) (s.replay.count + 1) it.link it.beat)
+          it.grounds learned;
     }
     go (fault.MemoryRule rule) at = record {
       width = it.width;
@@ -518,9 +526,12 @@ told_explains {w} r allow old new read reasons Broken verdict consumed is told e
       beat = it.beat;
       spells = it.spells;
       claimed = tt;
-      grounds = it.grounds;
-      begins = same ∙ it.says
-          ∙ ap (λ (f : Fault). wide_front_text (sentence_of f) (r.count + 1) it.link it.beat ++ it.grounds) at;
+      grounds = it.grounds ++ learned;
+      begins = same
+          ∙ ap (λ (xs : List ℕ). xs ++ learned) (it.says
+          ∙ ap (λ (f : Fault). wide_front_text (sentence_of f) (s.replay.count + 1) it.link it.beat ++ it.grounds) at)
+          ∙ append_assoc (wide_front_text (sentence_of (fault.MemoryRule rule)) (s.replay.count + 1) it.link it.beat)
+          it.grounds learned;
     }
     go (fault.CommitRule rule) at = tt
     go (fault.Line of_line) at = tt

@@ -1,1 +1,2 @@
 pub mod WideExplained
+pub mod WideNaming

@@ -4,15 +4,16 @@ ghost use Rattle.std.specs.Prelude.{IsTrue};
 ghost use Rattle.tl_wide.specs.statement.Width.{IsWideWidth};
 ghost use Rattle.tl_wide_lines.specs.code.WideDecoding.{is_wide_width};
 
-use tl_wide_lines::text::append_wide_text;
 use arrayvec::ArrayVec;
+use std::alloc::AllocError;
 use std::io;
 use std::io::Write;
 use tl_explain::tell::size_of;
-use tl_explain::told::Told;
+use tl_explain::told::{Spelling, Told};
 use tl_explain::wording::Wording;
 use tl_wide::beat::{WideBeat, WideBeatE};
 use tl_wide::read::read_wide_into;
+use tl_wide_lines::text::append_wide_text;
 
 /// The number of a line's bytes that a citation keeps. A line without data has no more.
 const KEPT: usize = 56;
@@ -26,16 +27,16 @@ pub fn citation(number: u64, line: &[u8]) -> ArrayVec<u8, 64> {
 }
 
 /// The number of a cited line.
-fn number_of(told: &Told) -> u64 {
-    match told.spelling.line().first_chunk::<8>() {
+fn number_of(spelling: &Spelling) -> u64 {
+    match spelling.line().first_chunk::<8>() {
         None => 0,
         Some(bytes) => u64::from_le_bytes(*bytes),
     }
 }
 
 /// The bytes that are kept of a cited line.
-fn front_of(told: &Told) -> &[u8] {
-    let bytes = told.spelling.line();
+fn front_of(spelling: &Spelling) -> &[u8] {
+    let bytes = spelling.line();
     &bytes[bytes.len().min(8)..]
 }
 
@@ -103,9 +104,26 @@ pub struct WideWording<const W: usize> {
     pub ghost width: { IsTrue (is_wide_width W) },
 }
 
+/// Appends the words of a cited line, after its number.
+fn append_cited<const W: usize>(spelling: &Spelling, out: &mut Vec<u8>) -> io::Result<()>
+    requires { IsWideWidth W }
+{
+    let number = number_of(spelling);
+    let front = front_of(spelling);
+    write!(out, "  {number}: ")?;
+    match front {
+        [.., b'\n'] => append_spelled::<W>(front, out),
+        _ => append_cut::<W>(front, out),
+    }
+}
+
 impl<const W: usize, const P: usize> Wording<P> for WideWording<W> {
+    ghost use Rattle.std.specs.Prelude.{⊤};
+
+    ghost says = { λ _ _ _ _ _. ⊤ };
+
     fn line_of(&self, told: &Told) -> u64 {
-        number_of(told)
+        number_of(&told.spelling)
     }
 
     fn length_of(&self, told: &Told) -> u8 {
@@ -119,17 +137,20 @@ impl<const W: usize, const P: usize> Wording<P> for WideWording<W> {
     }
 
     fn append_told(&self, told: &Told, out: &mut Vec<u8>) -> io::Result<()> {
-        let number = number_of(told);
-        let front = front_of(told);
-        write!(out, "  {number}: ")?;
-        match front {
-            [.., b'\n'] => append_spelled::<W>(front, out),
-            _ => append_cut::<W>(front, out),
-        }
+        append_cited::<W>(&told.spelling, out)
+    }
+
+    fn append_recorded(
+        &self,
+        _number: u64,
+        spelling: &Spelling,
+        out: &mut Vec<u8>,
+    ) -> Result<(), AllocError> {
+        append_cited::<W>(spelling, out).map_err(|_| AllocError)
     }
 
     fn append_source_of(&self, told: &Told, out: &mut Vec<u8>) -> io::Result<()> {
-        match front_of(told) {
+        match front_of(&told.spelling) {
             [_, _, _, _, _, _, _, _, _, _, _, source @ ..] => {
                 out.write_all(&source[..source.len().min(4)])
             }

@@ -7,9 +7,6 @@ ghost use Rattle.tl_engine.specs.statement.Unexplained.{IsUnjudged};
 ghost use Rattle.tl_wide_lines.specs.statement.JudgedTrace.{JudgedTrace, TraceSoFar};
 ghost use Rattle.tl_wide_story.specs.statement.WideExplained.{ReachesWide};
 
-use tl_wide_lines::header::read_wide_for;
-use tl_wide_lines::judge::Clue;
-use tl_wide_lines::lines::TraceLines;
 use std::alloc::{AllocError, Global};
 use std::io::Read;
 use tl_engine::engine::handle_input;
@@ -20,6 +17,9 @@ use tl_engine::line_handler::LineHandler;
 use tl_engine::status::Status;
 use tl_params::liberties::Liberties;
 use tl_wide::width::WideWidth;
+use tl_wide_lines::header::read_wide_for;
+use tl_wide_lines::judge::Clue;
+use tl_wide_lines::lines::TraceLines;
 
 /// The facts that were found in a wide trace.
 #[derive(Clone, Copy)]

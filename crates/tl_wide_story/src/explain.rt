@@ -1,9 +1,9 @@
 //! Explains the verdict on a wide trace, which is read twice.
 
-ghost use Rattle.std.specs.Prelude.{◌≡◌, ◌≢◌, [], ℕ, List, Option, IfErr, IfOk, OnOk};
+ghost use Rattle.std.specs.Prelude.{◌≡◌, ◌≢◌, ◌++◌, [], ℕ, List, Option, IfErr, IfOk, OnOk};
 ghost use Rattle.std.specs.Io.KnownBytes.{Appends};
 ghost use Rattle.tl_engine.specs.declared.status.Status.{Status};
-ghost use Rattle.tl_wide.specs.statement.Width.{IsWideWidth};
+ghost use Rattle.tl_wide.specs.statement.Width.{IsWideWidth, part_width};
 ghost use Rattle.tl_engine.specs.declared.explain_fault.ExplainFault.{ExplainFault};
 ghost use Rattle.tl_engine.specs.declared.status.ToolFault.{ToolFault};
 ghost use Rattle.tl_params.specs.declared.liberties.Liberties.{Liberties};
@@ -12,8 +12,10 @@ ghost use Rattle.tl_wide_story.specs.statement.WideExplained.{ExplainsWide, Give
 
 use crate::citation::WideWording;
 use crate::examine::{Found, examine, is_verdict};
-use tl_wide_lines::judge::Clue;
+use crate::learner::Question;
+use crate::lesson::Lesson;
 use crate::replay::WideReplay;
+use crate::story::WideStory;
 use std::alloc::Global;
 use std::io::{Read, Write};
 use tl_beat::fault::LineFault;
@@ -27,12 +29,22 @@ use tl_explain::recorder::Recorder;
 use tl_params::liberties::Liberties;
 use tl_wide::narrow::Narrower;
 use tl_wide::width::WideWidth;
+use tl_wide_lines::judge::Clue;
 
 /// Whether the fault is a breach of a rule.
 fn is_rule(fault: Fault) -> bool
     ensures { result ≡ is_rule fault }
 {
     matches!(fault, Fault::Rule(_) | Fault::MemoryRule(_))
+}
+
+/// The question about the wide beat at fault, beside the record of its link.
+fn question_of(coherent: bool, fault: Fault, clue: &Clue) -> Question {
+    match fault {
+        Fault::MemoryRule(rule) => Question::Memory(rule, clue.subject.block),
+        _ if coherent => Question::Nothing,
+        _ => Question::Allowed,
+    }
 }
 
 #[tactic(auto, using(crate::proofs::WideReplaying::is_wide))]
@@ -68,9 +80,28 @@ fn start_of<const W: usize>(
     }
 }
 
-/// Explains a wide beat that breaks a rule.
-fn explain_rule<const W: usize, R: Read>(
+/// Appends the answer that a lesson of so many lines has found.
+fn append_lesson<const W: usize, const P: usize>(
     alloc: Global,
+    lesson: &mut Lesson<W, P>,
+    count: u64,
+    out: &mut Vec<u8>,
+) -> Result<(), ExplainFault>
+    ensures ok { OnOk result ((more : List ℕ) × (out.new.items ≡ out.old.items ++ more)) }
+    ensures fault { IfErr result (λ fault. fault ≢ ExplainFault.Tool ToolFault.Write) }
+{
+    let mut learned = Vec::new(alloc);
+    if !lesson.has_read(count) || !lesson.tell(&mut learned)? {
+        return Err(ExplainFault::Changed);
+    }
+    out.extend_from_slice(&learned)?;
+    Ok(())
+}
+
+/// Explains a wide beat that breaks a rule.
+fn explain_rule<const W: usize, const P: usize, R: Read>(
+    alloc: Global,
+    coherent: bool,
     allow: Liberties,
     reader: &mut R,
     good: u64,
@@ -80,15 +111,20 @@ fn explain_rule<const W: usize, R: Read>(
     out: &mut Vec<u8>,
 ) -> Result<(), ExplainFault>
     requires width { IsWideWidth W }
+    requires part { P ≡ part_width W }
     requires empty { out.old.items ≡ [] }
     ensures ok { OnOk result (ExplainsWide allow (R.remaining reader.old) (R.remaining reader.new) verdict.now
         out.new.items Status.Broken) }
     ensures fault { IfErr result (λ fault. fault ≢ ExplainFault.Tool ToolFault.Write) }
 {
-    let mut lines = Lines::new(start_of::<W>(alloc, allow, good, fault, clue));
+    let mut lines = Lines::new(WideStory {
+        replay: start_of::<W>(alloc, allow, good, fault, clue),
+        lesson: Lesson::<W, P>::new(alloc, allow, question_of(coherent, fault, clue), good),
+    });
     let mut text = Vec::new(alloc);
     judge_input(alloc, &mut lines, reader, &mut text)?;
-    let replay = lines.into_handler();
+    let mut story = lines.into_handler();
+    let replay = &story.replay;
     if !replay.told {
         return Err(ExplainFault::Changed);
     }
@@ -99,12 +135,13 @@ fn explain_rule<const W: usize, R: Read>(
         return Err(ExplainFault::Changed);
     }
     out.extend_from_slice(&replay.reasons)?;
-    Ok(())
+    append_lesson(alloc, &mut story.lesson, good.saturating_add(1), out)
 }
 
 /// Explains a beat of a trace of this width that breaks a rule.
 fn explain_beat<R: Read>(
     alloc: Global,
+    coherent: bool,
     allow: Liberties,
     reader: &mut R,
     width: WideWidth,
@@ -121,19 +158,29 @@ fn explain_beat<R: Read>(
 {
     match width {
         WideWidth::Four => {
-            explain_rule::<4, R>(alloc, allow, reader, good, fault, clue, verdict, out)
+            explain_rule::<4, 4, R>(
+                alloc, coherent, allow, reader, good, fault, clue, verdict, out,
+            )
         }
         WideWidth::Eight => {
-            explain_rule::<8, R>(alloc, allow, reader, good, fault, clue, verdict, out)
+            explain_rule::<8, 8, R>(
+                alloc, coherent, allow, reader, good, fault, clue, verdict, out,
+            )
         }
         WideWidth::Sixteen => {
-            explain_rule::<16, R>(alloc, allow, reader, good, fault, clue, verdict, out)
+            explain_rule::<16, 16, R>(
+                alloc, coherent, allow, reader, good, fault, clue, verdict, out,
+            )
         }
         WideWidth::ThirtyTwo => {
-            explain_rule::<32, R>(alloc, allow, reader, good, fault, clue, verdict, out)
+            explain_rule::<32, 16, R>(
+                alloc, coherent, allow, reader, good, fault, clue, verdict, out,
+            )
         }
         WideWidth::SixtyFour => {
-            explain_rule::<64, R>(alloc, allow, reader, good, fault, clue, verdict, out)
+            explain_rule::<64, 16, R>(
+                alloc, coherent, allow, reader, good, fault, clue, verdict, out,
+            )
         }
     }
 }
@@ -154,6 +201,7 @@ fn explain_other(alloc: Global, good: u64, fault: Fault, verdict: &[u8]) -> Resu
 /// Appends the reasons of a verdict that a line is at fault.
 fn explain_found<R: Read>(
     alloc: Global,
+    coherent: bool,
     allow: Liberties,
     reader: &mut R,
     found: &Found,
@@ -169,14 +217,61 @@ fn explain_found<R: Read>(
     match (found.width, &found.clue) {
         (Some(width), Some(clue)) if is_rule(fault) => {
             explain_beat(
-                alloc, allow, reader, width, found.good, fault, clue, verdict, out,
+                alloc, coherent, allow, reader, width, found.good, fault, clue, verdict, out,
             )
         }
         _ => explain_other(alloc, found.good, fault, verdict),
     }
 }
 
-/// Appends the reasons of a verdict. A trace at fault is read again.
+/// Lists the messages that are pending at the end of a trace of wide beats of this width without a fault.
+fn list_pending<const W: usize, const P: usize, R: Read>(
+    alloc: Global,
+    allow: Liberties,
+    reader: &mut R,
+    good: u64,
+    out: &mut Vec<u8>,
+) -> Result<(), ExplainFault>
+    requires width { IsWideWidth W }
+    requires part { P ≡ part_width W }
+    ensures { IfErr result (λ fault. fault ≢ ExplainFault.Tool ToolFault.Write) }
+{
+    let mut lines = Lines::new(Lesson::<W, P>::new(alloc, allow, Question::Pending, u64::MAX));
+    let mut text = Vec::new(alloc);
+    judge_input(alloc, &mut lines, reader, &mut text)?;
+    append_lesson(alloc, &mut lines.into_handler(), good, out)
+}
+
+/// Lists the messages that are pending at the end of a trace without a fault, and appends the limits of the verdict.
+fn explain_clean<R: Read>(
+    alloc: Global,
+    coherent: bool,
+    allow: Liberties,
+    reader: &mut R,
+    found: &Found,
+    out: &mut Vec<u8>,
+) -> Result<(), ExplainFault>
+    ensures { IfErr result (λ fault. fault ≢ ExplainFault.Tool ToolFault.Write) }
+{
+    match found.width {
+        None => {}
+        Some(WideWidth::Four) => list_pending::<4, 4, R>(alloc, allow, reader, found.good, out)?,
+        Some(WideWidth::Eight) => list_pending::<8, 8, R>(alloc, allow, reader, found.good, out)?,
+        Some(WideWidth::Sixteen) => list_pending::<16, 16, R>(
+            alloc, allow, reader, found.good, out,
+        )?,
+        Some(WideWidth::ThirtyTwo) => list_pending::<32, 16, R>(
+            alloc, allow, reader, found.good, out,
+        )?,
+        Some(WideWidth::SixtyFour) => list_pending::<64, 16, R>(
+            alloc, allow, reader, found.good, out,
+        )?,
+    }
+    out.extend_from_slice(unsaid(coherent).as_bytes())?;
+    Ok(())
+}
+
+/// Appends the reasons of a verdict. The trace is read again.
 fn reasons<R: Read>(
     alloc: Global,
     coherent: bool,
@@ -193,11 +288,8 @@ fn reasons<R: Read>(
     ensures fault { IfErr result (λ fault. fault ≢ ExplainFault.Tool ToolFault.Write) }
 {
     match status {
-        Status::Clean => {
-            out.extend_from_slice(unsaid(coherent).as_bytes())?;
-            Ok(())
-        }
-        Status::Broken => explain_found(alloc, allow, reader, found, verdict, out),
+        Status::Clean => explain_clean(alloc, coherent, allow, reader, found, out),
+        Status::Broken => explain_found(alloc, coherent, allow, reader, found, verdict, out),
     }
 }
 
@@ -205,9 +297,11 @@ fn reasons<R: Read>(
 /// liberties that the header names and those that are allowed. The two readers read the same file from its front. The
 /// second reads up to the line at fault.
 ///
-/// For a broken rule they are its sentence and the wide beat that breaks it, as it was written. For a rule of a link the
-/// evidence follows, from the beats that those before it became; a cited line of more than 56 bytes is shown without
-/// its data. After a trace without a fault come the limits of the verdict, and no list of pending messages.
+/// For a broken rule they are its sentence and the wide beat that breaks it, as it was written. The evidence follows,
+/// from
+/// the beats that those before it became; a cited line of more than 56 bytes is shown without its data. If each link is
+/// judged by itself, the last line names the further liberties that would allow the wide beat. After a trace without a
+/// fault come its pending messages and the limits of the verdict.
 ///
 /// Nothing is written before both readings have reached their ends. After that the only fault is `Write`: the writer
 /// took only a front of the text. `Read` and `Memory` are faults of the first reading, before its verdict and before

@@ -5,13 +5,13 @@ ghost use Rattle.tl_wide.specs.statement.Width.{IsWideWidth};
 ghost use Rattle.tl_wide_story.specs.code.WideReplaying.{sentence_of};
 ghost use Rattle.tl_wide_story.specs.statement.WideExplained.{wide_beat_line, wide_front_text};
 
-use tl_wide_lines::text::append_wide_text;
 use itoa::Buffer;
 use std::alloc::AllocError;
 use tl_beat::beat::Link;
 use tl_engine::fault::Fault;
 use tl_explain::named::{append_memory_sentence, append_sentence};
 use tl_wide::beat::WideBeat;
+use tl_wide_lines::text::append_wide_text;
 
 #[tactic(auto, unfolding(crate::specs::statement::WideExplained::wide_beat_line))]
 /// Appends the readable line of a wide beat, after the number of its line.

@@ -10,7 +10,6 @@ ghost use Rattle.tl_wide_story.specs.code.WideReplaying.{TakesHeader};
 
 use crate::citation::citation;
 use crate::front::append_front;
-use tl_wide_lines::header::read_wide_for;
 use crate::replay::WideReplay;
 use std::alloc::AllocError;
 use tl_beat::beat::{Beat, Link};
@@ -21,6 +20,7 @@ use tl_wide::beat::{WideBeat, WideBeatE};
 use tl_wide::parts::Parts;
 use tl_wide::read::read_wide_into;
 use tl_wide::width::WideWidth;
+use tl_wide_lines::header::read_wide_for;
 
 /// The outcome of passing the parts of a wide beat.
 #[derive(Clone, Copy, PartialEq, Eq)]

@@ -51,10 +51,12 @@ values-same names one other told heard any (suc n) v same said =
       values-same names one other told heard any n (v + 1) same said,
     ) refl
 
-line-same : (names : Naming) (address v : ℕ) (one other : ℕ → Bool) (told heard : ℕ → Option ℕ) → ((u : ℕ) → one u ≡ other u)
+line-same : (names : Naming) (address v : ℕ) (one other : ℕ → Bool) (told heard : ℕ → Option ℕ)
+    → ((u : ℕ) → one u ≡ other u)
     → ((u : ℕ) → told u ≡ heard u) → stray_line names address v one told ≡ stray_line names address v other heard
 unfolding stray_line
-line-same names address v one other told heard same said = rw (values-same names one other told heard false 256 0 same said) refl
+line-same names address v one other told heard same said =
+    rw (values-same names one other told heard false 256 0 same said) refl
 
 -- the tests and what was told agree at an address
 abbrev Agree : (ℕ → ℕ → Bool) → (ℕ → ℕ → Bool) → (ℕ → ℕ → Option ℕ) → (ℕ → ℕ → Option ℕ) → ℕ → Type 0
@@ -91,10 +93,12 @@ told-same judge n address v t known =
 -- a response that may bring this brings beat k inside of its block, and this is the text of the bytes that it may not
 pub record Brings {w : ℕ} (names : Naming) (e : Expected) (judge : Judge w) (k : ℕ) (lanes text : List ℕ) : Type 0 where
   pub room : base_of w e.address + w * k + w ≤ 64
-  pub text_is : strays_text names (allows e) (told_of judge) 0 (64 * block_at e.address + (base_of w e.address + w * k)) lanes
+  pub text_is : strays_text names (allows e) (told_of judge) 0 (64 * block_at e.address + (base_of w e.address + w * k))
+      lanes
       ≡ text
 
-module _ {w : ℕ} (names : Naming) (levels : List Level) (l : Liberties) (link : Link) (x : BeatD w) (t : Trace w) (is : IsWidth w)
+module _ {w : ℕ} (names : Naming) (levels : List Level) (l : Liberties) (link : Link) (x : BeatD w) (t : Trace w)
+    (is : IsWidth w)
     (judge : Judge w) (knows : KnowsTrace judge levels l t)
     (fine : KeepsRules l levels (link, Beat.D x) t) (lanes : List ℕ) (has : x.lanes ≡ Some lanes)
     (wide : length lanes ≡ w) where
@@ -119,7 +123,8 @@ module _ {w : ℕ} (names : Naming) (levels : List Level) (l : Liberties) (link 
       record {
         room = omega (arith, base, inside);
         text_is = rw (start, has)
-            (strays-same names (allows e) (may_grant n begun) (told_of judge) (told_after n t) 0 (64 * asked.block + w * k)
+            (strays-same names (allows e) (may_grant n begun) (told_of judge) (told_after n t) 0
+            (64 * asked.block + w * k)
             lanes (λ i low high. agree i low high inside));
       }
     where
@@ -148,7 +153,8 @@ module _ {w : ℕ} (names : Naming) (levels : List Level) (l : Liberties) (link 
       record {
         room = omega (arith, base, inside);
         text_is = rw (start, has)
-            (strays-same names (allows e) (may_answer n access (found_after (Some access) link.0 k t)) (told_of judge) (told_after n t) 0
+            (strays-same names (allows e) (may_answer n access (found_after (Some access) link.0 k t)) (told_of judge)
+            (told_after n t) 0
             (w * (access.request.address / w) + w * k) lanes
             (λ i low high. agree i low high whole inside));
       }
@@ -157,13 +163,15 @@ module _ {w : ℕ} (names : Naming) (levels : List Level) (l : Liberties) (link 
           → i < w * (access.request.address / w) + w * k + length lanes
           → w * (access.request.address / w) ≡ 64 * (access.request.address / 64) + base_of w access.request.address
           → base_of w access.request.address + w * k + w ≤ 64
-          → Agree (allows e) (may_answer n access (found_after (Some access) link.0 k t)) (told_of judge) (told_after n t) i
+          → Agree (allows e) (may_answer n access (found_after (Some access) link.0 k t)) (told_of judge)
+          (told_after n t) i
       agree i low high whole inside = (
         λ v.
             let block = access.request.address / 64 in
             let place : i - 64 * block < 64 = omega (arith, low, high, inside, wide, whole) in
             let same : 64 * block + (i - 64 * block) ≡ i = omega (arith, low, whole) in
-            rw same at (read-byte e n block (i - 64 * block) v access (found_after (Some access) link.0 k t) known place),
+            rw same at (read-byte e n block (i - 64 * block) v access (found_after (Some access) link.0 k t) known
+            place),
         λ v. told-same judge n i v t knows.memory_is,
       )
 
@@ -196,7 +204,8 @@ brings-nothing {w} names n link x t OpD.AccessAckData known =
 brings-nothing names n link x t v known = refl
 
 -- nor where a beat has none
-pub no-bytes : {w : ℕ} (names : Naming) (n link : ℕ) (x : BeatD w) (t : Trace w) (opcode : OpD) → opcode ≡ x.opcode → x.lanes ≡ None
+pub no-bytes : {w : ℕ} (names : Naming) (n link : ℕ) (x : BeatD w) (t : Trace w) (opcode : OpD) → opcode ≡ x.opcode
+    → x.lanes ≡ None
     → bytes_text names opcode n link x t ≡ []
 no-bytes names n link x t OpD.GrantData op none =
     let never : false ≡ true = ap is_some (sym none) ∙ x.carries ∙ ap d_carries_data (sym op) in absurd cc

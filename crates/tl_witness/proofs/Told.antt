@@ -2,18 +2,27 @@
 use Rattle.std.proofs.Common.{◌≡◌, ℕ, suc, Bool, true, false, List, ◌∷◌, ◌++◌, ◌+◌, ◌-◌, ◌*◌, ◌/◌, ◌%◌, ◌<◌, ◌≤◌}
 use Rattle.std.proofs.Common.{length, refl, ◌∙◌, arith, append_assoc, drop}
 use Rattle.std.proofs.lemmas.List.{drop_all}
-use Rattle.std.specs.Prelude.{Option}
+use Rattle.std.specs.Fmt.{decimal}
+use Rattle.std.specs.Prelude.{codes, Option, Some}
 use Rattle.tl_memory.specs.code.Lines.{told_by}
 use Rattle.tl_memory.specs.statement.Blocks.{state_in}
 use Rattle.tl_together.specs.declared.judge.Judge.{Judge}
 use Rattle.tl_witness.specs.code.Strays.{told_of}
 use Rattle.tl_witness.specs.statement.Naming.{Naming}
-use Rattle.tl_witness.specs.statement.Strays.{lead_text, more_text, next_line, strays_text, value_text, values_text}
+use Rattle.tl_witness.specs.statement.Strays.{lead_text, more_text, next_line, strays_text, told_text, value_text, values_text}
 
 -- ---- what one byte may be
 
+-- the line that showed it
+pub moment-told : (names : Naming) (moment : Option ℕ) (m n number : ℕ) (out a b : List ℕ) → moment ≡ Some m → n ≡ m
+    → number ≡ names.line (n + 2) → a ≡ out ++ codes ", set in line " → b ≡ a ++ decimal number
+    → b ≡ out ++ told_text names moment
+moment-told names moment m n number out a b is same at a_is b_is =
+    rw (b_is, a_is, at, same, is) (append_assoc out (codes ", set in line ") (decimal (names.line (m + 2))))
+
 -- a value that it may not be
-pub may-not-be : (names : Naming) (test : ℕ → Bool) (told : ℕ → Option ℕ) (any : Bool) (n v : ℕ) (out : List ℕ) → test v ≡ false
+pub may-not-be : (names : Naming) (test : ℕ → Bool) (told : ℕ → Option ℕ) (any : Bool) (n v : ℕ) (out : List ℕ)
+    → test v ≡ false
     → out ++ values_text names test told any n (v + 1) ≡ out ++ values_text names test told any (suc n) v
 unfolding values_text
 may-not-be names test told any n v out fails = rw fails refl
@@ -22,7 +31,8 @@ three : (out a b c : List ℕ) → ((out ++ a) ++ b) ++ c ≡ out ++ (a ++ (b ++
 three out a b c = append_assoc (out ++ a) b c ∙ append_assoc out a (b ++ c)
 
 -- and one that it may be
-pub may-be : (names : Naming) (test : ℕ → Bool) (told : ℕ → Option ℕ) (any : Bool) (n v : ℕ) (out front new : List ℕ) → test v ≡ true
+pub may-be : (names : Naming) (test : ℕ → Bool) (told : ℕ → Option ℕ) (any : Bool) (n v : ℕ) (out front new : List ℕ)
+    → test v ≡ true
     → front ≡ out ++ lead_text any → new ≡ front ++ value_text names v (told v)
     → new ++ values_text names test told true n (v + 1) ≡ out ++ values_text names test told any (suc n) v
 unfolding values_text
@@ -31,7 +41,8 @@ may-be names test told any n v out front new passes first second =
     (three out (lead_text any) (value_text names v (told v)) (values_text names test told true n (v + 1)))
 
 -- the moment that is told of it is that of its address
-pub told-there : {w : ℕ} (names : Naming) (j : Judge w) (block at place v : ℕ) (moment : Option ℕ) (front new : List ℕ) → place < 64
+pub told-there : {w : ℕ} (names : Naming) (j : Judge w) (block at place v : ℕ) (moment : Option ℕ) (front new : List ℕ)
+    → place < 64
     → at ≡ block → moment ≡ told_by (state_in j.memory.blocks at) place v → new ≡ front ++ value_text names v moment
     → new ≡ front ++ value_text names v (told_of j (64 * block + place) v)
 told-there names j block at place v moment front new small same is line =
@@ -40,7 +51,8 @@ told-there names j block at place v moment front new small same is line =
     rw (here, inside, ← same, ← is) line
 
 -- one of the values that are left is the next
-pub next-value : (names : Naming) (test : ℕ → Bool) (told : ℕ → Option ℕ) (any now : Bool) (total v : ℕ) (out new whole : List ℕ)
+pub next-value : (names : Naming) (test : ℕ → Bool) (told : ℕ → Option ℕ) (any now : Bool) (total v : ℕ)
+    (out new whole : List ℕ)
     → v < total
     → ((n : ℕ) → new ++ values_text names test told now n (v + 1) ≡ out ++ values_text names test told any (suc n) v)
     → out ++ values_text names test told any (total - v) v ≡ whole
@@ -50,9 +62,11 @@ next-value names test told any now total v out new whole below next so_far =
     next (total - (v + 1)) ∙ rw left at so_far
 
 -- no value is left
-pub all-values : (names : Naming) (test : ℕ → Bool) (told : ℕ → Option ℕ) (any : Bool) (total v : ℕ) (out new whole : List ℕ)
+pub all-values : (names : Naming) (test : ℕ → Bool) (told : ℕ → Option ℕ) (any : Bool) (total v : ℕ)
+    (out new whole : List ℕ)
     → total ≤ v
-    → ((names : Naming) (test : ℕ → Bool) (told : ℕ → Option ℕ) (v : ℕ) → new ≡ out ++ values_text names test told any 0 v)
+    → ((names : Naming) (test : ℕ → Bool) (told : ℕ → Option ℕ) (v : ℕ)
+    → new ≡ out ++ values_text names test told any 0 v)
     → out ++ values_text names test told any (total - v) v ≡ whole → new ≡ whole
 all-values names test told any total v out new whole past none so_far =
     let left : total - v ≡ 0 = omega (arith, past) in

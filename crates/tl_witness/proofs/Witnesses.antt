@@ -41,7 +41,8 @@ use Rattle.tl_together.specs.code.Windows.{asked_at}
 use Rattle.tl_witness.specs.code.Witness.{IsFresh, KnowsWitness, Records}
 use Rattle.tl_witness.specs.declared.witness.Witness.{Witness}
 use Rattle.tl_witness.specs.statement.Naming.{Naming}
-use Rattle.tl_witness.specs.statement.Grounds.{access_text, asked_line, conflict_by, conflicts_text, early_text, holder_text}
+use Rattle.tl_witness.specs.statement.Grounds.{access_text, asked_line, conflict_by}
+use Rattle.tl_witness.specs.statement.Grounds.{conflicts_text, early_text, holder_text}
 use Rattle.tl_witness.specs.statement.Grounds.{holders_text, permission_line, since_text}
 
 -- ---- elements of lists
@@ -148,7 +149,8 @@ passed h n block link x t none k = record {
 
 -- ---- what is told of links
 
-perm-held : {w : ℕ} (link block : ℕ) (p : Perm) (m : Option Mention) (t : Trace w) → IsHeldSinceUnder all_liberties link block p m t
+perm-held : {w : ℕ} (link block : ℕ) (p : Perm) (m : Option Mention) (t : Trace w)
+    → IsHeldSinceUnder all_liberties link block p m t
     → p ≡ may_hold block (on_link link t)
 perm-held link block p None t is = is.0
 perm-held link block p (Some m) t is = is.0
@@ -167,16 +169,20 @@ since-is r h link block t is rec =
     (held_told r.held all_liberties r.subject.link.0 r.subject.block t rec.recorded.held_is)
 
 -- a link that holds no more than may be held
-pub holder-left : {w : ℕ} (names : Naming) (link block : ℕ) (given p : Perm) (m : Option Mention) (left : Bool) (t : Trace w)
-    → IsHeldSinceUnder all_liberties link block p m t → left ≡ leaves given p → left ≡ true → [] ≡ holder_text names link given block t
+pub holder-left : {w : ℕ} (names : Naming) (link block : ℕ) (given p : Perm) (m : Option Mention) (left : Bool)
+    (t : Trace w)
+    → IsHeldSinceUnder all_liberties link block p m t → left ≡ leaves given p → left ≡ true
+    → [] ≡ holder_text names link given block t
 holder-left names link block given p m left t since is leaving =
     let test : leaves given (may_hold block (on_link link t)) ≡ true =
     rw (perm-held link block p m t since) at (sym is ∙ leaving) in
     rw test refl
 
 -- one that holds more
-pub holder-told : {w : ℕ} (names : Naming) (link block : ℕ) (given p : Perm) (m : Option Mention) (left : Bool) (t : Trace w)
-    → IsHeldSinceUnder all_liberties link block p m t → m ≡ last_saying_under all_liberties link block t → left ≡ leaves given p → left ≡ false
+pub holder-told : {w : ℕ} (names : Naming) (link block : ℕ) (given p : Perm) (m : Option Mention) (left : Bool)
+    (t : Trace w)
+    → IsHeldSinceUnder all_liberties link block p m t → m ≡ last_saying_under all_liberties link block t
+    → left ≡ leaves given p → left ≡ false
     → permission_line names link (codes " holds ") block p m ≡ holder_text names link given block t
 holder-told names link block given p m left t since said is conflicting =
     let test : leaves given (may_hold block (on_link link t)) ≡ false =
@@ -195,7 +201,8 @@ pub holders-more : {w : ℕ} (names : Naming) (n m : ℕ) (given : Perm) (block 
     → after ≡ before ++ holder_text names n given block t → after ≡ first ++ holders_text names m given block t
 unfolding holders_text
 holders-more names n m given block t first before after next so_far more =
-    rw (more, so_far, next) (append_assoc first (holders_text names n given block t) (holder_text names n given block t))
+    rw (more, so_far, next) (append_assoc first (holders_text names n given block t)
+    (holder_text names n given block t))
 
 -- ---- what conflicts with a Grant
 
@@ -204,7 +211,8 @@ pub opening-is : {w : ℕ} (o : Option Begun) (link block : ℕ) (given : Perm) 
     → coming block (on_link link t) ≡ Some given
     → mention_of (option_map (λ b. b.first) o) ≡ burst_opening link channel.D t
 opening-is None link block given t is e =
-    absurd (never (pending (GrantAckOf block) (on_link link t)) (ap (λ beats. given_by block beats (on_link link t)) is) e)
+    absurd (never (pending (GrantAckOf block) (on_link link t)) (ap (λ beats. given_by block beats (on_link link t)) is)
+    e)
   where
     never : (b : Bool) {o : Option Perm} → o ≡ None → (if b then o else None) ≡ Some given → ⊥
     never true none f = let no : None ≡ Some given = sym none ∙ f in cc
@@ -228,15 +236,18 @@ pub conflict-none : {w : ℕ} (names : Naming) (coming' : Option Perm) (link : �
 conflict-none names None link given block t out new apart is = is
 conflict-none names (Some p) link given block t out new apart is = absurd (apart p refl)
 
-pub conflict-left : {w : ℕ} (names : Naming) (link block : ℕ) (given perm : Perm) (coming' : Option Perm) (left : Bool) (t : Trace w)
+pub conflict-left : {w : ℕ} (names : Naming) (link block : ℕ) (given perm : Perm) (coming' : Option Perm) (left : Bool)
+    (t : Trace w)
     → coming' ≡ Some perm → left ≡ leaves given perm → left ≡ true → [] ≡ conflict_by names coming' link given block t
 conflict-left names link block given perm coming' left t is left_is leaving =
     rw (is, sym left_is ∙ leaving) refl
 
-pub conflict-told : {w : ℕ} (names : Naming) (link block : ℕ) (given perm : Perm) (coming' : Option Perm) (m : Option Mention)
+pub conflict-told : {w : ℕ} (names : Naming) (link block : ℕ) (given perm : Perm) (coming' : Option Perm)
+    (m : Option Mention)
     (left : Bool) (t : Trace w) → coming' ≡ Some perm → left ≡ leaves given perm → left ≡ false
     → m ≡ burst_opening link channel.D t
-    → permission_line names link (codes " is being granted ") block perm m ≡ conflict_by names coming' link given block t
+    → permission_line names link (codes " is being granted ") block perm m ≡ conflict_by names coming' link given block
+    t
 conflict-told names link block given perm coming' m left t is left_is conflicting opening =
     rw (is, sym left_is ∙ conflicting, opening) refl
 
@@ -246,7 +257,8 @@ unfolding conflicts_text
 conflicts-none names own given block t out = sym (append-nil out)
 
 -- one link more: nothing of the Grant's own
-pub conflicts-own : {w : ℕ} (names : Naming) (n m own : ℕ) (given : Perm) (block : ℕ) (t : Trace w) (first before : List ℕ)
+pub conflicts-own : {w : ℕ} (names : Naming) (n m own : ℕ) (given : Perm) (block : ℕ) (t : Trace w)
+    (first before : List ℕ)
     → m ≡ suc n → n ≡ own → before ≡ first ++ conflicts_text names n own given block t
     → before ≡ first ++ conflicts_text names m own given block t
 unfolding conflicts_text
@@ -255,15 +267,18 @@ conflicts-own names n m own given block t first before next is so_far =
     (sym (append-nil (conflicts_text names n own given block t))))
 
 -- of another its line
-pub conflicts-more : {w : ℕ} (names : Naming) (n m own : ℕ) (given : Perm) (block : ℕ) (t : Trace w) (coming' : Option Perm)
+pub conflicts-more : {w : ℕ} (names : Naming) (n m own : ℕ) (given : Perm) (block : ℕ) (t : Trace w)
+    (coming' : Option Perm)
     (first before after : List ℕ)
     → m ≡ suc n → (n ≡ own → ⊥) → before ≡ first ++ conflicts_text names n own given block t
     → coming' ≡ coming block (on_link n t)
-    → after ≡ before ++ conflict_by names coming' n given block t → after ≡ first ++ conflicts_text names m own given block t
+    → after ≡ before ++ conflict_by names coming' n given block t → after ≡ first ++ conflicts_text names m own given
+    block t
 unfolding conflicts_text
 conflicts-more names n m own given block t coming' first before after next apart so_far is more =
     rw (more, so_far, next, ne_eqb own n (λ e. apart (sym e)), is)
-    (append_assoc first (conflicts_text names n own given block t) (conflict_by names (coming block (on_link n t)) n given block t))
+    (append_assoc first (conflicts_text names n own given block t)
+    (conflict_by names (coming block (on_link n t)) n given block t))
 
 -- what a judge says of a link
 pub coming-here : {w : ℕ} (levels : List Level) (link : Link) (block known : ℕ) (t : Trace w) (o : Option Perm)
@@ -273,18 +288,30 @@ coming-here levels link block known t o same lt is =
     is ∙ rw (same, lt-ltb link.0 (length levels) lt) refl
 
 -- and in which line the request was complete
-pub access-told : {w : ℕ} (names : Naming) (n link source : ℕ) (asked other : Request) (block moment : ℕ) (given : Perm) (t : Trace w)
+pub access-told : {w : ℕ} (names : Naming) (n link source : ℕ) (asked other : Request) (block moment : ℕ) (given : Perm)
+    (t : Trace w)
     (out mid new : List ℕ) → other ≡ asked → given ≡ needs other.opcode → moment ≡ asked_at link source t
     → mid ≡ out ++ asked_line names (moment + 1) → new ≡ mid ++ holders_text names n given block t
     → new ≡ out ++ access_text names n link source asked block t
 access-told names n link source asked other block moment given t out mid new same given_is at first more =
     rw (more, first, given_is, at, same)
-    (append_assoc out (asked_line names (asked_at link source t + 1)) (holders_text names n (needs asked.opcode) block t))
+    (append_assoc out (asked_line names (asked_at link source t + 1))
+    (holders_text names n (needs asked.opcode) block t))
+
+pub asked-told : (names : Naming) (line number : ℕ) (out a b c : List ℕ) → number ≡ names.line line
+    → a ≡ out ++ codes "  its request was complete in line " → b ≡ a ++ decimal number → c ≡ b ++ codes "\n"
+    → c ≡ out ++ asked_line names line
+unfolding asked_line
+asked-told names line number out a b c at a_is b_is c_is =
+    rw (c_is, b_is, a_is, at)
+    (append_assoc (out ++ codes "  its request was complete in line ") (decimal (names.line line)) (codes "\n")
+    ∙ append_assoc out (codes "  its request was complete in line ") (decimal (names.line line) ++ codes "\n"))
 
 -- ---- the line of a permission, piece by piece
 
 pub since-told : (names : Naming) (since : Option Told) (m : Told) (out a b c : List ℕ) → since ≡ Some m
-    → a ≡ out ++ codes " since line " → b ≡ a ++ decimal (names.line m.mention.line) → c ≡ b ++ early_text m.mention.control
+    → a ≡ out ++ codes " since line " → b ≡ a ++ decimal (names.line m.mention.line)
+    → c ≡ b ++ early_text m.mention.control
     → c ≡ out ++ since_text names (mention_of since)
 since-told names since m out a b c is a_is b_is c_is =
     rw (c_is, b_is, a_is, is)
@@ -295,11 +322,14 @@ since-told names since m out a b c is a_is b_is c_is =
 pub permission-told : (names : Naming) (link block times : ℕ) (verb : List ℕ) (perm : Perm) (since : Option Mention)
     (out a b c d e f g h : List ℕ) → times ≡ 64 * block → a ≡ out ++ codes "  link " → b ≡ a ++ digits 2 link
     → c ≡ b ++ verb → d ≡ c ++ perm_name perm → e ≡ d ++ codes " of block " → f ≡ e ++ names.address times
-    → g ≡ f ++ since_text names since → h ≡ g ++ codes "\n" → h ≡ out ++ permission_line names link verb block perm since
+    → g ≡ f ++ since_text names since → h ≡ g ++ codes "\n" → h ≡ out ++ permission_line names link verb block perm
+    since
 unfolding permission_line
-permission-told names link block times verb perm since out a b c d e f g h times_is a_is b_is c_is d_is e_is f_is g_is h_is =
+permission-told names link block times verb perm since out a b c d e f g h times_is a_is b_is c_is d_is e_is f_is g_is
+    h_is =
     rw (h_is, g_is, f_is, e_is, d_is, c_is, b_is, a_is, times_is)
-    (pieces out (codes "  link ") (digits 2 link) verb (perm_name perm) (codes " of block ") (names.address (64 * block))
+    (pieces out (codes "  link ") (digits 2 link) verb (perm_name perm) (codes " of block ")
+    (names.address (64 * block))
     (since_text names since) (codes "\n"))
   where
     pieces : (o p q r s t u v z : List ℕ)

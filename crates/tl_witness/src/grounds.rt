@@ -64,7 +64,8 @@ fn tell_lanes_of<const W: usize, X: Places>(
     out: &mut Vec<u8>,
 ) -> Result<(), AllocError>
     requires { IsWidth W }
-    ensures { OnOk result ((levels : List Level) (l : Liberties) (x : BeatD W) (t : Trace W) → x.lanes ≡ Some lanes.now →
+    ensures { OnOk result ((levels : List Level) (l : Liberties) (x : BeatD W) (t : Trace W) →
+        x.lanes ≡ Some lanes.now →
         Knows judge.now levels l t false → KeepsRules l levels (link, beat.D x) t →
         IsChange change.now judge.now.memory (length levels) (link, beat.D x) t →
         out.new.items ≡ out.old.items ++ bytes_text (X.names places.now) x.opcode (length levels) link.0 x t) }
@@ -87,7 +88,8 @@ fn tell_bytes<const W: usize, X: Places>(
     requires { IsWidth W }
     ensures knows { (levels : List Level) (l : Liberties) (t : Trace W) (closed : Bool) →
         Knows judge.old levels l t closed → Knows judge.new levels l t closed }
-    ensures bytes { OnOk result ((levels : List Level) (l : Liberties) (t : Trace W) → Knows judge.old levels l t false →
+    ensures bytes { OnOk result ((levels : List Level) (l : Liberties) (t : Trace W) →
+        Knows judge.old levels l t false →
         KeepsRules l levels (link, beat.D x.now) t →
         out.new.items ≡ out.old.items ++ bytes_text (X.names places.now) x.now.opcode (length levels) link.0 x.now t) }
 {
@@ -114,7 +116,8 @@ pub fn tell<const W: usize, X: Places>(
     requires { IsWidth W }
     ensures knows { (levels : List Level) (l : Liberties) (t : Trace W) (closed : Bool) →
         Knows judge.old levels l t closed → Knows judge.new levels l t closed }
-    ensures grant { rule ≡ MemoryRule.M1 → OnOk result ((levels : List Level) (l : Liberties) (block : ℕ) (t : Trace W) →
+    ensures grant { rule ≡ MemoryRule.M1 →
+        OnOk result ((levels : List Level) (l : Liberties) (block : ℕ) (t : Trace W) →
         Knows judge.old levels l t false → KnowsWitness witness.now (length levels) block t →
         out.new.items ≡ out.old.items
         ++ conflicts_text (X.names places.now) (length levels) link.0 (history.capped x.now.param) block t) }
@@ -122,7 +125,8 @@ pub fn tell<const W: usize, X: Places>(
         (block : ℕ) (t : Trace W) → Knows judge.old levels l t false →
         KnowsWitness witness.now (length levels) block t → link.0 < length levels →
         open_request x.now.source (on_link link.0 t) ≡ Some asked →
-        out.new.items ≡ out.old.items ++ access_text (X.names places.now) (length levels) link.0 x.now.source asked block t) }
+        out.new.items ≡ out.old.items ++ access_text (X.names places.now) (length levels) link.0 x.now.source asked
+        block t) }
     ensures bytes { rule ≢ MemoryRule.M1 → rule ≢ MemoryRule.M4 → OnOk result ((levels : List Level) (l : Liberties)
         (t : Trace W) → Knows judge.old levels l t false → KeepsRules l levels (link, beat.D x.now) t →
         out.new.items ≡ out.old.items ++ bytes_text (X.names places.now) x.now.opcode (length levels) link.0 x.now t) }

@@ -5,5 +5,5 @@
 pub mod grounds;
 pub mod places;
 mod strays;
-mod text;
+pub mod text;
 pub mod witness;

@@ -18,7 +18,7 @@ use tl_explain::words::perm_name;
 use tl_rules::kind::is_release_ack;
 
 /// Appends the lowest hexadecimal digits of a number, this many of them, the highest first.
-pub(crate) fn append_hex(number: u32, count: u8, out: &mut Vec<u8>) -> Result<(), AllocError>
+pub fn append_hex(number: u32, count: u8, out: &mut Vec<u8>) -> Result<(), AllocError>
     requires { count ≤ 8 }
     ensures { OnOk result (out.new.items ≡ out.old.items ++ digits count number) }
 {

@@ -179,7 +179,14 @@ impl Witness {
             perm,
             since: self.begun(link),
         };
-        append_permission(places, link, " is being granted ", self.block, &granted, out)
+        append_permission(
+            places,
+            link,
+            " is being granted ",
+            self.block,
+            &granted,
+            out,
+        )
     }
 
     /// Appends a line for each link but this one that holds, or is being granted, a permission of the block which

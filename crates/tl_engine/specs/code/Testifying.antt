@@ -103,7 +103,8 @@ TellsBeat {w} old new judge number line link x =
     (levels : List Level) (may : Liberties) (t : Trace w) → KnowsBeats true judge levels may t
     → KnowsRecord old (length levels) t → Spells line link x → broken_on_link_under may levels (link, x) t ≡ None
     → (y : BeatD w) × (x ≡ beat.D y)
-    × (new.reasons.items ≡ memory_front_text old.rule number link x ++ grounds_text as_recorded old.rule (length levels) link.0 y t)
+    × (new.reasons.items ≡ memory_front_text old.rule number link x
+    ++ grounds_text as_recorded old.rule (length levels) link.0 y t)
 
 -- the line of this number is the one at fault, and for its response the text of the definition was written
 pub record TellsFault {w : ℕ} (old new : Inquiry) (judge : TraceJudge w) (number : ℕ) (line : List ℕ) : Type 0 where

@@ -55,7 +55,8 @@ missing Burst = codes "a burst that isn't complete"
 unfoldable pub missing_line : Kind → List ℕ
 missing_line kind = codes "  " ++ missing kind ++ codes ":\n"
 
--- how the words of a beat are appended as it was recorded: a line that spells a beat of w bytes has the words of that beat
+-- how the words of a beat are appended as it was recorded: a line that spells a beat of w bytes has the words of that
+-- beat
 abbrev pub says_recorded : ℕ → ℕ → Spelling → List ℕ → List ℕ → Type 0
 says_recorded w number line old new = (link : Link) (beat : Beat w) → Spells (spelled line) link beat
     → new ≡ old ++ beat_line number link beat

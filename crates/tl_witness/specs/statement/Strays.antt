@@ -43,7 +43,8 @@ values_text names test told any (suc n) v =
 -- the byte at an address is v, and may have each value for which the test is true
 unfoldable pub stray_line : Naming → ℕ → ℕ → (ℕ → Bool) → (ℕ → Option ℕ) → List ℕ
 stray_line names address v test told =
-    codes "  byte " ++ names.address address ++ codes " is " ++ digits 2 v ++ values_text names test told false 256 0 ++ codes "\n"
+    codes "  byte " ++ names.address address ++ codes " is " ++ digits 2 v ++ values_text names test told false 256
+    0 ++ codes "\n"
 
 -- the line of a byte after n others; only the first eight have one
 abbrev pub next_line : Naming → ℕ → ℕ → ℕ → (ℕ → Bool) → (ℕ → Option ℕ) → List ℕ

@@ -15,8 +15,10 @@ returns-in-None g c = λ levels l x t has k fine is.
 pub returns-in-Some : goal.returns-in-Some
 returns-in-Some g c = on_ok_weaker c.tell_strays.result
     (λ told. λ levels l x t has k fine is.
-    let so = brings (g.X.Places.names c.args.places.now) levels l c.args.link x t c.requires c.args.judge.now (k.open_knows refl) fine c.args.lanes.now has
-    c.told-lanes c.in-Some.expected.now x.opcode refl (rw c.in-Some.is at (c.expected.ensures levels l x t k fine is)) in
+    let so = brings (g.X.Places.names c.args.places.now) levels l c.args.link x t c.requires c.args.judge.now
+    (k.open_knows refl) fine c.args.lanes.now has
+    c.told-lanes c.in-Some.expected.now x.opcode refl (rw c.in-Some.is at (c.expected.ensures levels l x t k fine is))
+    in
     let come : c.beats_come.result ≡ beats_come c.args.link.0 t =
     c.beats_come.ensures levels l t k (link-there _ levels (c.args.link, Beat.D x) t fine) in
     let said = rw come at told in

@@ -6,7 +6,8 @@ use Rattle.tl_witness.proofs.text.append_permission.Goals as goal
 
 pub returns : goal.returns
 returns g c = λ small.
-    permission-told (g.X.Places.names c.args.places.now) c.args.link c.args.block c.saturating_mul.result c.args.verb.now c.args.held.now.perm
+    permission-told (g.X.Places.names c.args.places.now) c.args.link c.args.block c.saturating_mul.result
+    c.args.verb.now c.args.held.now.perm
     (mention_of c.args.held.now.since) c.args.out.now.items _ _ _ _ _ _ _ _
     (omega (arith, c.saturating_mul.ensures, small))
     c.in_ok-extend_from_slice.ensures.items

@@ -5,8 +5,9 @@ one; some with a line spoiled. TOOL must say of each what it says of the narrow 
 docs/FORMATS.md, at the line of the wide beat whose part is at fault, `monitor` and `coherent` each. `cover --json` must count
 what it counts of the narrow trace, with the lines of the wide beats. Traces with names beyond a limit are F9. With `--all` and a
 report it must find what it finds line by line in the trace without the lines found before, and count the beats of the others.
-`explain` must write of a trace at fault what it writes of
-the narrow trace, with the lines and the names of the wide one. `decode --wide` must write of each what this program writes of its
+`explain`, also with `--coherent`, must write what it writes of the narrow trace, with the lines and the names of the wide one: the
+grounds, the liberties that would allow the beat, and after a trace without a fault, whole or cut off, the pending messages. So it
+must of the examples of rules, pending messages and situations in crates/tl_examples/data, written wide. `decode --wide` must write of each what this program writes of its
 fields. Ends with 'wide: N passed, M failed'."""
 import collections
 import concurrent.futures
@@ -337,6 +338,7 @@ def in_wide_words(told, owners, lines, names, width):
     for pattern, other in (
         (r"line (\d+)", lambda it: f"line {owners[int(it) - 2]}"),
         (r"block ([0-9a-f]{8})", lambda it: f"block {names['blocks'][int(it, 16) // BLOCK] * BLOCK:016x}"),
+        (r"(?<=byte )([0-9a-f]{8})(?= is)", lambda it: f"{names['blocks'][int(it, 16) // BLOCK] * BLOCK + int(it, 16) % BLOCK:016x}"),
         (r"(?<=source is )(..)(?=,)", lambda it: f"{names['sources'][int(it, 16)]:04x}"),
         (r"(?<=sink is )(..)(?=,)", lambda it: f"{names['sinks'][int(it, 16)]:04x}"),
         (r"(?<=source )([0-9a-f]{2})(?=[ :])", lambda it: f"{names['sources'][int(it, 16)]:04x}"),
@@ -351,33 +353,81 @@ def in_wide_words(told, owners, lines, names, width):
     return told
 
 
-def wanted_reasons(tool, liberties, levels, beats, width):
-    """The explanation of a wide trace, by that of the narrow one; None if it has no part at fault."""
-    lines, owners, _ = narrow_trace(liberties, levels, beats, width)
-    _, text = file_of(tool, ["explain"], "\n".join(lines) + "\n")
-    verdict, *told = text.splitlines()
-    if not verdict.startswith("line "):
-        return None
+def names_of(beats, width, link):
+    """The names of blocks and sinks, and of the sources of a link, by the numbers that they have in the narrow trace."""
     names = {"blocks": {}, "sources": {0: 0}, "sinks": {0: 0}}
-    at_fault = owners[int(verdict.split()[1]) - 2]
-    for beat, parts in zip(beats[:at_fault - 1], narrowed(beats, width)):
+    for beat, parts in zip(beats, narrowed(beats, width)):
         if beat.channel in "ABC":
             names["blocks"][parts[0].address // BLOCK] = beat.address // BLOCK
-        if beat.channel in "ABCD" and beat.link == beats[at_fault - 2].link:
+        if beat.channel in "ABCD" and beat.link == link:
             names["sources"][parts[0].source] = beat.source
         if beat.channel in "DE":
             names["sinks"][parts[0].sink] = beat.sink
+    return names
+
+
+def wanted_reasons(tool, commands, liberties, levels, beats, width):
+    """The status and the text of the explanation of a wide trace, by that of the narrow one; None if a beat names too much."""
+    lines, owners, beyond = narrow_trace(liberties, levels, beats, width)
+    status, text = file_of(tool, commands, "\n".join(lines) + "\n")
+    verdict, *told = text.splitlines()
     wide = [it.line(width, 4, 16) for it in beats]
-    ought = [in_wide_words(verdict, owners, wide, names, width)]
+    if verdict.startswith("line "):
+        at_fault = owners[int(verdict.split()[1]) - 2]
+        names = names_of(beats[:at_fault - 1], width, beats[at_fault - 2].link)
+        ought = [in_wide_words(verdict, owners, wide, names, width)]
+    elif beyond:
+        return None
+    else:
+        at_fault, names, ought = None, {}, [f"{verdict.split()[0]} {len(beats)}"]
     for line in told:
         number = re.match(r"  (\d+): ", line)
         if number:
             owner = owners[int(number[1]) - 2]
-            shown = words if len(ought) == 2 else cited
+            shown = words if at_fault and len(ought) == 2 else cited
             ought.append(f"  {owner}: {shown(wide[owner - 2])}")
-        elif not line.startswith("  (allowed") and (width <= 16 or not line.startswith("  mask is ")):
-            ought.append(line if len(ought) == 1 else in_wide_words(line, owners, wide, names, width))
-    return "\n".join(ought) + "\n"
+        elif width <= 16 or not line.startswith("  mask is "):
+            ought.append(in_wide_words(line, owners, wide, names, width) if at_fault and len(ought) > 1 else line)
+    return status, "\n".join(ought) + "\n"
+
+
+def misexplained(tool, text, liberties, levels, beats, width):
+    """What is wrong with the explanations of a wide trace."""
+    for commands in ["explain"], ["explain", "--coherent"], ["explain", "--allow", "standard"]:
+        ought = wanted_reasons(tool, commands, liberties, levels, beats, width)
+        says = file_of(tool, commands, text)
+        if ought and says != ought:
+            yield f"{' '.join(commands)} says {says}, and ought to say {ought}"
+
+
+def text_of(liberties, levels, beats, width):
+    """The text of a wide trace."""
+    return "\n".join([f"tltrace 5 {width} {liberties} {levels}", *(it.line(width, 4, 16) for it in beats)]) + "\n"
+
+
+def example(file, rng):
+    """The traces of a file with a header of one of the forms 1, 2 and 4, written wide, with what they are written by."""
+    header, *lines = file.read_text().splitlines()
+    _, version, *words_behind = header.split()
+    if version not in "124" or "+" in header:
+        return
+    narrow = 8 if version == "1" else int(words_behind.pop(0))
+    liberties = words_behind.pop(0) if version == "4" else "none"
+    levels, beats = " ".join(words_behind), [beat_of(it) for it in lines]
+    for width in sorted({narrow, 32, 64}):
+        wide = list(renamed(joined(beats, narrow, width), rng))
+        yield text_of(liberties, levels, wide, width), liberties, levels, wide, width
+
+
+def examples(tool):
+    """What is wrong with the explanations of the examples that are written wide, and the verdicts of `coherent` on them."""
+    rng, wrong, verdicts = random.Random(1), [], collections.Counter()
+    data = pathlib.Path(__file__).resolve().parent.parent / "crates/tl_examples/data"
+    for file in [it for folder in ("rules", "pending", "situations") for it in sorted((data / folder).glob("*.trace"))]:
+        for text, *written in example(file, rng):
+            wrong += [f"{file.name} at {written[-1]} bytes: {it}" for it in misexplained(tool, text, *written)]
+            verdicts[of(tool, "coherent", text=text)[1].split()[-1]] += 1
+    return wrong, verdicts
 
 
 def message(beat):
@@ -437,7 +487,7 @@ def slips(tool, seed):
     if not right:
         beats = spoiled(beats, width, rng)
     liberties = rng.choice(["none", "none", "ids", "drops", "writer,drops"])
-    text = "\n".join([f"tltrace 5 {width} {liberties} {levels}", *(it.line(width, 4, 16) for it in beats)]) + "\n"
+    text = text_of(liberties, levels, beats, width)
     wrong = []
     lines = text.splitlines()[1:]
     said = of(tool, "decode", "--wide", "--width", str(width), text="".join(f"{it}\n" for it in lines))
@@ -449,9 +499,9 @@ def slips(tool, seed):
             wrong.append(f"{' '.join(command)} says {says}, and ought to say {ought}")
         if right and width == narrow and ought[0]:
             wrong.append(f"{' '.join(command)} finds a fault in a right trace: {ought[1]}")
-    ought = wanted_reasons(tool, liberties, levels, beats, width)
-    if ought and file_of(tool, ["explain"], text) != (1, ought):
-        wrong.append(f"explain ought to say {ought}")
+    wrong += misexplained(tool, text, liberties, levels, beats, width)
+    cut = beats[:rng.randrange(len(beats))]
+    wrong += [f"cut after {len(cut)} beats: {it}" for it in misexplained(tool, text_of(liberties, levels, cut, width), liberties, levels, cut, width)]
     if miscounted(tool, text, liberties, levels, beats, width):
         wrong.append("cover counts other situations than those of the narrow trace")
         most = rng.choice([1, 2, 3, 20])
@@ -495,10 +545,12 @@ def main():
             print(f"seed {seed}: {it}")
     print("verdicts:", ", ".join(f"{count} {name}" for name, count in sorted(told.items())))
     slipped = list(beyond(tool))
-    for it in slipped:
+    misexplains, verdicts = examples(tool)
+    print("examples:", ", ".join(f"{count} {name}" for name, count in sorted(verdicts.items())))
+    for it in slipped + misexplains:
         print(it)
-    failed = sum(bool(wrong) for wrong, _ in found) + bool(slipped)
-    print(f"wide: {seeds + 1 - failed} passed, {failed} failed")
+    failed = sum(bool(wrong) for wrong, _ in found) + bool(slipped) + bool(misexplains)
+    print(f"wide: {seeds + 2 - failed} passed, {failed} failed")
     return 1 if failed else 0
 
 

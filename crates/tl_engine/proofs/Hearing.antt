@@ -32,6 +32,7 @@ use Rattle.tl_together.specs.statement.Coherence.{broken_memory, broken_together
 use Rattle.tl_together.specs.statement.Knows as of_all
 use Rattle.tl_witness.specs.code.Witness.{KnowsWitness}
 use Rattle.tl_witness.specs.declared.witness.Witness.{Witness}
+use Rattle.tl_witness.specs.statement.Naming.{as_recorded}
 use Rattle.tl_witness.specs.statement.Grounds.{access_grounds, access_text, conflicts_text, grant_grounds, grounds_text}
 use Rattle.tl_witness.specs.statement.Strays.{bytes_text}
 use Rattle.tl_engine.specs.code.Judging.{Ends, Finishes, Judges, Stops}
@@ -123,26 +124,26 @@ beat-lost w old new number line none = λ n t k y spells at known. rw none tt
 
 module _ {w : ℕ} (levels : List Level) (link : Link) (x : BeatD w) (t : Trace w) (block : ℕ) (mid new : List ℕ) where
   for-grant : (o : Option Request) → block_asked o ≡ Some block
-      → new ≡ mid ++ conflicts_text (length levels) link.0 (capped x.param) block t
-      → new ≡ mid ++ grant_grounds (length levels) link.0 x o t
+      → new ≡ mid ++ conflicts_text as_recorded (length levels) link.0 (capped x.param) block t
+      → new ≡ mid ++ grant_grounds as_recorded (length levels) link.0 x o t
   for-grant None of e = absurd cc
   for-grant (Some asked) of e = let same : asked.block ≡ block = same_Some asked.block block of in rw same e
 
   for-access : (o : Option Request) → block_asked o ≡ Some block
       → ((asked : Request) → o ≡ Some asked
-      → new ≡ mid ++ access_text (length levels) link.0 x.source asked block t)
-      → new ≡ mid ++ access_grounds (length levels) link.0 x o t
+      → new ≡ mid ++ access_text as_recorded (length levels) link.0 x.source asked block t)
+      → new ≡ mid ++ access_grounds as_recorded (length levels) link.0 x o t
   for-access None of e = absurd cc
   for-access (Some asked) of e =
       let same : asked.block ≡ block = same_Some asked.block block of in rw same (e asked refl)
 
   -- by what tells it of each rule
   grounds-told : (rule : MemoryRule) → block_asked (open_request x.source (on_link link.0 t)) ≡ Some block
-      → (rule ≡ M1 → new ≡ mid ++ conflicts_text (length levels) link.0 (capped x.param) block t)
+      → (rule ≡ M1 → new ≡ mid ++ conflicts_text as_recorded (length levels) link.0 (capped x.param) block t)
       → (rule ≡ M4 → (asked : Request) → open_request x.source (on_link link.0 t) ≡ Some asked
-      → new ≡ mid ++ access_text (length levels) link.0 x.source asked block t)
-      → (rule ≢ M1 → rule ≢ M4 → new ≡ mid ++ bytes_text x.opcode (length levels) link.0 x t)
-      → new ≡ mid ++ grounds_text rule (length levels) link.0 x t
+      → new ≡ mid ++ access_text as_recorded (length levels) link.0 x.source asked block t)
+      → (rule ≢ M1 → rule ≢ M4 → new ≡ mid ++ bytes_text as_recorded x.opcode (length levels) link.0 x t)
+      → new ≡ mid ++ grounds_text as_recorded rule (length levels) link.0 x t
   grounds-told M1 of grant access bytes = for-grant (open_request x.source (on_link link.0 t)) of (grant refl)
   grounds-told M4 of grant access bytes = for-access (open_request x.source (on_link link.0 t)) of (access refl)
   grounds-told M2 of grant access bytes = bytes (λ e. absurd cc) (λ e. absurd cc)
@@ -152,14 +153,14 @@ pub recorded-told : {w : ℕ} (witness : Option Witness) (h : Witness) (judge : 
     (x : BeatD w) (was is : List ℕ) → witness ≡ Some h
     → (rule ≡ M1 → (levels : List Level) (may : Liberties) (block : ℕ) (t : Trace w)
     → of_all.Knows judge levels may t false → KnowsWitness h (length levels) block t
-    → is ≡ was ++ conflicts_text (length levels) link.0 (capped x.param) block t)
+    → is ≡ was ++ conflicts_text as_recorded (length levels) link.0 (capped x.param) block t)
     → (rule ≡ M4 → (levels : List Level) (may : Liberties) (asked : Request) (block : ℕ) (t : Trace w)
     → of_all.Knows judge levels may t false → KnowsWitness h (length levels) block t → link.0 < length levels
     → open_request x.source (on_link link.0 t) ≡ Some asked
-    → is ≡ was ++ access_text (length levels) link.0 x.source asked block t)
+    → is ≡ was ++ access_text as_recorded (length levels) link.0 x.source asked block t)
     → (rule ≢ M1 → rule ≢ M4 → (levels : List Level) (may : Liberties) (t : Trace w)
     → of_all.Knows judge levels may t false → broken_on_link_under may levels (link, Beat.D x) t ≡ None
-    → is ≡ was ++ bytes_text x.opcode (length levels) link.0 x t)
+    → is ≡ was ++ bytes_text as_recorded x.opcode (length levels) link.0 x t)
     → TellsRecorded witness judge rule link x was is
 recorded-told witness h judge rule link x was is some grant access bytes = λ levels may block t k known of fine.
     let lt = link-there may levels (link, Beat.D x) t fine in
@@ -182,7 +183,7 @@ response-told old new judge number line link x asked empty mid says of none fron
     let first : mid ≡ memory_front_text old.rule number link (Beat.D x) =
     front link (Beat.D x) spells ∙ ap (λ (e : List ℕ). e ++ memory_front_text old.rule number link (Beat.D x)) none in
     told levels may old.block t k known (ap block_asked (sym opened) ∙ of) fine
-    ∙ ap (λ (text : List ℕ). text ++ grounds_text old.rule (length levels) link.0 x t) first
+    ∙ ap (λ (text : List ℕ). text ++ grounds_text as_recorded old.rule (length levels) link.0 x t) first
 
 -- the beat is that response
 pub beat-told : {w : ℕ} (old new : Inquiry) (judge : TraceJudge w) (inner : Judge w) (number : ℕ) (line : List ℕ)
@@ -192,7 +193,7 @@ beat-told {w} old new judge inner number line link x y is of_d told = λ levels 
   y,
   of_d,
   subst (λ (z : Beat w). new.reasons.items ≡ memory_front_text old.rule number link z
-      ++ grounds_text old.rule (length levels) link.0 y t) (sym of_d)
+      ++ grounds_text as_recorded old.rule (length levels) link.0 y t) (sym of_d)
       (told levels may t (rw is at known) kept (rw of_d at spells) (rw of_d at fine)),
 )
 
@@ -207,7 +208,7 @@ fault-told {w} old new judge number line link x width same_line next here told =
       let same = same_beat line link k x y width here spells in
       subst (λ (z : Link × Beat w). Spells line z.0 z.1 → broken_on_link_under may levels z t ≡ None
       → (d : BeatD w) × (z.1 ≡ Beat.D d) × (new.reasons.items ≡ memory_front_text old.rule number z.0 z.1
-      ++ grounds_text old.rule (length levels) z.0.0 d t)) same
+      ++ grounds_text as_recorded old.rule (length levels) z.0.0 d t)) same
       (λ own good. told levels may t known kept own good) spells fine;
 }
 

@@ -32,6 +32,7 @@ use Rattle.tl_together.specs.statement.Coherence.{broken_memory, broken_together
 use Rattle.tl_together.specs.statement.Knows as of_all
 use Rattle.tl_witness.specs.code.Witness.{KnowsWitness}
 use Rattle.tl_witness.specs.declared.witness.Witness.{Witness}
+use Rattle.tl_witness.specs.statement.Naming.{as_recorded}
 use Rattle.tl_witness.specs.statement.Grounds.{access_grounds, access_text, conflicts_text, grant_grounds, grounds_text}
 use Rattle.tl_witness.specs.statement.Strays.{bytes_text}
 use Rattle.tl_engine.specs.code.Judging.{Ends, Finishes, Judges, Stops}
@@ -188,7 +189,7 @@ told-at {w} allow old mid new i j k number line fault lines more h still heard c
     told : (link : Link) (x : Beat w) → Spells line link x
         → faults_by true w s.levels s.may (link, x) s.trace ≡ Some (BreaksTogether i.rule)
         → (y : BeatD w) × (x ≡ Beat.D y) × (j.reasons.items ≡ memory_front_text i.rule number link x
-        ++ grounds_text i.rule (length s.levels) link.0 y s.trace) → HasTold allow k (lines ++ line ∷ more)
+        ++ grounds_text as_recorded i.rule (length s.levels) link.0 y s.trace) → HasTold allow k (lines ++ line ∷ more)
     told link x spells at (y, of_d, text) = record {
       before = lines;
       behind = more;

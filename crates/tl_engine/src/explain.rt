@@ -38,6 +38,7 @@ use tl_explain::reason::find_reason_under;
 use tl_explain::recorder::Recorder;
 use tl_explain::told::Spelling;
 use tl_explain::turns::Subject;
+use tl_explain::wording::AsRecorded;
 use tl_explain::words::append_beat_line;
 use tl_explain::{legal, tell};
 use tl_params::key::block_at;
@@ -265,7 +266,7 @@ fn explain_clean<const W: usize>(
     requires { IsWidth W }
     ensures fault { IfErr result (λ fault. fault ≢ ExplainFault.Tool ToolFault.Write) }
 {
-    ledger.tell::<W>(out)?;
+    ledger.tell::<W, AsRecorded>(&AsRecorded, out)?;
     io::Write::write_all(out, unsaid(coherent).as_bytes())?;
     Ok(())
 }

@@ -27,6 +27,7 @@ use tl_beat::beat::{Beat, BeatD, Link};
 use tl_beat::read::read_line;
 use tl_explain::named::append_memory_sentence;
 use tl_explain::told::Spelling;
+use tl_explain::wording::AsRecorded;
 use tl_explain::words::append_beat_line;
 use tl_rules::memory_rule::MemoryRule;
 use tl_rules::past::Request;
@@ -72,7 +73,7 @@ fn tell_recorded<const W: usize>(
     let Some(witness) = witness else {
         return Ok(false);
     };
-    tell(witness, judge, rule, link, x, out)?;
+    tell(&AsRecorded, witness, judge, rule, link, x, out)?;
     Ok(true)
 }
 

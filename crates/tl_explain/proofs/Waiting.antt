@@ -8,6 +8,7 @@ use Rattle.std.proofs.lemmas.Bool.Decides.{nat_tests}
 use Rattle.std.proofs.lemmas.List.{take_more}
 use Rattle.std.proofs.lemmas.List.Elements.{All-append, All-cons, All-nil, Contains-append_left, Contains-append_right}
 use Rattle.tl_explain.specs.declared.ledger.Pending.{Pending}
+use Rattle.tl_explain.specs.declared.told.Spelling.{Spelling}
 use Rattle.tl_explain.specs.statement.Pending.{IsNext, TellsOldest, TellsOne, is_before, is_behind, pending_heading}
 
 -- ---- one message more
@@ -88,21 +89,24 @@ younger-one before after p x late is = (
 
 -- ---- one after another
 
-pub told-none : (w n k : ℕ) (pending : List Pending) (after : Option Pending) (old : List ℕ) → n ≡ suc k
-    → IsNext pending after None → TellsOldest w pending after n old old
+pub told-none : (says : ℕ → Spelling → List ℕ → List ℕ → Type 0) (n k : ℕ) (pending : List Pending)
+    (after : Option Pending) (old : List ℕ) → n ≡ suc k
+    → IsNext pending after None → TellsOldest says pending after n old old
 unfolding TellsOldest
-told-none w n k pending after old e is = rw e (inl (is, refl))
+told-none says n k pending after old e is = rw e (inl (is, refl))
 
-pub told-next : (w n k : ℕ) (pending : List Pending) (after : Option Pending) (next : Pending) (old mid new : List ℕ)
-    → n ≡ suc k → IsNext pending after (Some next) → TellsOne w next old mid
-    → TellsOldest w pending (Some next) k mid new → TellsOldest w pending after n old new
+pub told-next : (says : ℕ → Spelling → List ℕ → List ℕ → Type 0) (n k : ℕ) (pending : List Pending)
+    (after : Option Pending) (next : Pending) (old mid new : List ℕ)
+    → n ≡ suc k → IsNext pending after (Some next) → TellsOne says next old mid
+    → TellsOldest says pending (Some next) k mid new → TellsOldest says pending after n old new
 unfolding TellsOldest
-told-next w n k pending after next old mid new e is one more = rw e (inr (next, mid, is, one, more))
+told-next says n k pending after next old mid new e is one more = rw e (inr (next, mid, is, one, more))
 
-pub told-all : (w n : ℕ) (pending : List Pending) (after : Option Pending) (old : List ℕ) → n ≡ 0
-    → TellsOldest w pending after n old old
+pub told-all : (says : ℕ → Spelling → List ℕ → List ℕ → Type 0) (n : ℕ) (pending : List Pending)
+    (after : Option Pending) (old : List ℕ) → n ≡ 0
+    → TellsOldest says pending after n old old
 unfolding TellsOldest
-told-all w n pending after old e = rw e refl
+told-all says n pending after old e = rw e refl
 
 -- one more of the messages was looked at
 pub next-kept : (items seen : List Pending) (i : ℕ) (d : Pending) (after oldest result : Option Pending)

@@ -7,7 +7,7 @@ ghost use Rattle.tl_explain.specs.declared.ledger.Pending.{Pending};
 ghost use Rattle.tl_explain.specs.statement.Pending.{IsNext, TellsOldest, TellsOne, TellsPending};
 
 use crate::told::Spelling;
-use crate::words::append_beat_line;
+use crate::wording::Wording;
 use itoa::Buffer;
 use std::alloc::{AllocError, Global};
 use std::collections::BTreeMap;
@@ -131,16 +131,27 @@ impl Pending {
     }
 
     /// Appends the answer that the message lacks, and its line.
-    #[tactic(auto, unfolding(crate::specs::statement::Pending::pending_text))]
-    fn append<const W: usize>(&self, out: &mut Vec<u8>) -> Result<(), AllocError>
+    fn append<const W: usize, X: Wording<W>>(
+        &self,
+        wording: &X,
+        out: &mut Vec<u8>,
+    ) -> Result<(), AllocError>
         requires { IsWidth W }
-        ensures { OnOk result (TellsOne W self.now out.old.items out.new.items) }
+        ensures { OnOk result (TellsOne (X.says wording.now) self.now out.old.items out.new.items) }
     {
-        out.extend_from_slice(b"  ")?;
-        out.extend_from_slice(missing(self.kind).as_bytes())?;
-        out.extend_from_slice(b":\n")?;
-        append_beat_line::<W>(self.opening.line, self.opening.spelling.line(), out)
+        append_missing(self.kind, out)?;
+        wording.append_recorded(self.opening.line, &self.opening.spelling, out)
     }
+}
+
+/// Appends the answer that a message lacks, in a line of its own.
+#[tactic(auto, unfolding(crate::specs::statement::Pending::missing_line))]
+fn append_missing(kind: Kind, out: &mut Vec<u8>) -> Result<(), AllocError>
+    ensures { OnOk result (out.new.items ≡ out.old.items ++ order.missing_line kind) }
+{
+    out.extend_from_slice(b"  ")?;
+    out.extend_from_slice(missing(kind).as_bytes())?;
+    out.extend_from_slice(b":\n")
 }
 
 /// Appends the number of pending messages.
@@ -336,25 +347,34 @@ impl Ledger {
     }
 
     /// Appends the oldest pending messages, in their order.
-    fn append_oldest<const W: usize>(&self, out: &mut Vec<u8>) -> Result<(), AllocError>
+    fn append_oldest<const W: usize, X: Wording<W>>(
+        &self,
+        wording: &X,
+        out: &mut Vec<u8>,
+    ) -> Result<(), AllocError>
         requires { IsWidth W }
-        ensures { OnOk result (TellsOldest W self.now.pending.items None 20 out.old.items out.new.items) }
+        ensures { OnOk result (TellsOldest (X.says wording.now) self.now.pending.items None 20 out.old.items
+            out.new.items) }
     {
         let mut after = None;
         for _ in 0..TOLD {
             let Some(pending) = self.next(&after) else {
                 return Ok(());
             };
-            pending.append::<W>(out)?;
+            pending.append(wording, out)?;
             after = Some(pending);
         }
         Ok(())
     }
 
-    /// Appends the number of pending messages, the oldest of them, and the number of the others.
-    pub fn tell<const W: usize>(&mut self, out: &mut Vec<u8>) -> Result<(), AllocError>
+    /// Appends the number of pending messages, the oldest of them in this wording, and the number of the others.
+    pub fn tell<const W: usize, X: Wording<W>>(
+        &mut self,
+        wording: &X,
+        out: &mut Vec<u8>,
+    ) -> Result<(), AllocError>
         requires { IsWidth W }
-        ensures { OnOk result (TellsPending W self.new.pending.items out.old.items out.new.items) }
+        ensures { OnOk result (TellsPending (X.says wording.now) self.new.pending.items out.old.items out.new.items) }
     {
         self.pending.clear();
         for link in &self.links {
@@ -365,7 +385,7 @@ impl Ledger {
         }
         let count = self.pending.len() as u64;
         append_heading(count, out)?;
-        self.append_oldest::<W>(out)?;
+        self.append_oldest(wording, out)?;
         append_rest(count, out)
     }
 }

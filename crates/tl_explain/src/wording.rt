@@ -1,10 +1,13 @@
 //! How an explanation writes the beats and the names that it cites.
 
+ghost use Rattle.std.specs.Prelude.{ℕ, List, OnOk};
 ghost use Rattle.tl_beat.specs.statement.Width.{IsWidth};
+ghost use Rattle.tl_explain.specs.declared.told.Spelling.{Spelling};
 
 use crate::bursts::is_small;
-use crate::told::Told;
-use crate::words::append_told;
+use crate::told::{Spelling, Told};
+use crate::words::{append_beat_line, append_told};
+use std::alloc::AllocError;
 use std::io;
 use std::io::Write;
 use tl_beat::control::Control;
@@ -14,6 +17,10 @@ use tl_burst::burst::burst_length;
 /// Writes the beats that an explanation cites, and the blocks, sources and sinks that its sentences name, as the lines
 /// of the trace have them.
 pub trait Wording<const W: usize> {
+    /// How the words of a beat are appended that was recorded with this number and this line: the text before, and the
+    /// text after.
+    ghost says: { Self → ℕ → Spelling → List ℕ → List ℕ → Type 0 };
+
     /// The number of a cited beat's line.
     fn line_of(&self, told: &Told) -> u64;
 
@@ -27,6 +34,16 @@ pub trait Wording<const W: usize> {
     /// Appends the words of a cited beat, after the number of its line.
     fn append_told(&self, told: &Told, out: &mut Vec<u8>) -> io::Result<()>
         requires { IsWidth W };
+
+    /// Appends the words of the beat that was recorded with this number and this line, after the number of its line.
+    fn append_recorded(
+        &self,
+        number: u64,
+        spelling: &Spelling,
+        out: &mut Vec<u8>,
+    ) -> Result<(), AllocError>
+        requires { IsWidth W }
+        ensures { OnOk result (says self.now number spelling.now out.old.items out.new.items) };
 
     /// Appends the source of a cited beat.
     fn append_source_of(&self, told: &Told, out: &mut Vec<u8>) -> io::Result<()>;
@@ -57,6 +74,10 @@ fn source_of(control: &Control) -> u8 {
 }
 
 impl<const W: usize> Wording<W> for AsRecorded {
+    ghost use Rattle.tl_explain.specs.statement.Pending.{says_recorded};
+
+    ghost says = { λ _. says_recorded W };
+
     fn line_of(&self, told: &Told) -> u64 {
         told.mention.line
     }
@@ -74,6 +95,15 @@ impl<const W: usize> Wording<W> for AsRecorded {
 
     fn append_told(&self, told: &Told, out: &mut Vec<u8>) -> io::Result<()> {
         append_told::<W>(told, out)
+    }
+
+    fn append_recorded(
+        &self,
+        number: u64,
+        spelling: &Spelling,
+        out: &mut Vec<u8>,
+    ) -> Result<(), AllocError> {
+        append_beat_line::<W>(number, spelling.line(), out)
     }
 
     fn append_source_of(&self, told: &Told, out: &mut Vec<u8>) -> io::Result<()> {

@@ -1,5 +1,5 @@
 mod AsBefore
-mod Decoded
+pub mod Decoded
 pub mod FirstFaults
 pub mod JudgedLines
 mod JudgedOnce
@@ -8,7 +8,5 @@ pub mod PartsJudged
 mod ShortLines
 pub mod TraceJudged
 pub mod WideHeaders
-pub mod WideExplaining
-pub mod WideReplaying
 mod WideTexts
 mod Worked

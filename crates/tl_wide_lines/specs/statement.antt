@@ -2,6 +2,5 @@ pub mod Behind
 pub mod JudgedTrace
 pub mod PartFaults
 pub mod WideDecoded
-pub mod WideExplained
 pub mod WideHeader
 pub mod WideText

@@ -32,48 +32,51 @@ use Rattle.tl_memory.specs.statement.Links.{KeepsRules}
 use Rattle.tl_together.proofs.Following.{followed, one_more}
 use Rattle.tl_together.specs.statement.Knows.{KnowsTrace}
 use Rattle.tl_witness.specs.code.Strays.{told_of}
+use Rattle.tl_witness.specs.statement.Naming.{Naming}
 use Rattle.tl_witness.specs.statement.Strays.{answered_text, beats_come, bytes_text, granted_text, stray_line}
 use Rattle.tl_witness.specs.statement.Strays.{strays_text, told_after, values_text}
 
 -- ---- texts by tests that agree
 
-values-same : (one other : ℕ → Bool) (told heard : ℕ → Option ℕ) (any : Bool) (n v : ℕ)
+values-same : (names : Naming) (one other : ℕ → Bool) (told heard : ℕ → Option ℕ) (any : Bool) (n v : ℕ)
     → ((u : ℕ) → one u ≡ other u) → ((u : ℕ) → told u ≡ heard u)
-    → values_text one told any n v ≡ values_text other heard any n v
+    → values_text names one told any n v ≡ values_text names other heard any n v
 unfolding values_text
-values-same one other told heard any zero v same said = refl
-values-same one other told heard any (suc n) v same said =
+values-same names one other told heard any zero v same said = refl
+values-same names one other told heard any (suc n) v same said =
     rw (
       same v,
       said v,
-      values-same one other told heard true n (v + 1) same said,
-      values-same one other told heard any n (v + 1) same said,
+      values-same names one other told heard true n (v + 1) same said,
+      values-same names one other told heard any n (v + 1) same said,
     ) refl
 
-line-same : (address v : ℕ) (one other : ℕ → Bool) (told heard : ℕ → Option ℕ) → ((u : ℕ) → one u ≡ other u)
-    → ((u : ℕ) → told u ≡ heard u) → stray_line address v one told ≡ stray_line address v other heard
+line-same : (names : Naming) (address v : ℕ) (one other : ℕ → Bool) (told heard : ℕ → Option ℕ)
+    → ((u : ℕ) → one u ≡ other u)
+    → ((u : ℕ) → told u ≡ heard u) → stray_line names address v one told ≡ stray_line names address v other heard
 unfolding stray_line
-line-same address v one other told heard same said = rw (values-same one other told heard false 256 0 same said) refl
+line-same names address v one other told heard same said =
+    rw (values-same names one other told heard false 256 0 same said) refl
 
 -- the tests and what was told agree at an address
 abbrev Agree : (ℕ → ℕ → Bool) → (ℕ → ℕ → Bool) → (ℕ → ℕ → Option ℕ) → (ℕ → ℕ → Option ℕ) → ℕ → Type 0
 Agree one other told heard address =
     ((v : ℕ) → one address v ≡ other address v) × ((v : ℕ) → told address v ≡ heard address v)
 
-strays-same : (one other : ℕ → ℕ → Bool) (told heard : ℕ → ℕ → Option ℕ) (n from : ℕ) (lanes : List ℕ)
+strays-same : (names : Naming) (one other : ℕ → ℕ → Bool) (told heard : ℕ → ℕ → Option ℕ) (n from : ℕ) (lanes : List ℕ)
     → ((i : ℕ) → from ≤ i → i < from + length lanes → Agree one other told heard i)
-    → strays_text one told n from lanes ≡ strays_text other heard n from lanes
+    → strays_text names one told n from lanes ≡ strays_text names other heard n from lanes
 unfolding strays_text
-strays-same one other told heard n from [] agree = refl
-strays-same one other told heard n from (v ∷ lanes) agree =
+strays-same names one other told heard n from [] agree = refl
+strays-same names one other told heard n from (v ∷ lanes) agree =
     let here = agree from (omega arith) (omega arith) in
     let more = λ (i : ℕ) (low : from + 1 ≤ i) (high : i < from + 1 + length lanes).
     agree i (omega (arith, low)) (omega (arith, high)) in
     rw (
       here.0 v,
-      line-same from v (one from) (other from) (told from) (heard from) here.0 here.1,
-      strays-same one other told heard n (from + 1) lanes more,
-      strays-same one other told heard (n + 1) (from + 1) lanes more,
+      line-same names from v (one from) (other from) (told from) (heard from) here.0 here.1,
+      strays-same names one other told heard n (from + 1) lanes more,
+      strays-same names one other told heard (n + 1) (from + 1) lanes more,
     ) refl
 
 -- ---- what is kept
@@ -88,12 +91,14 @@ told-same judge n address v t known =
     (omega arith))
 
 -- a response that may bring this brings beat k inside of its block, and this is the text of the bytes that it may not
-pub record Brings {w : ℕ} (e : Expected) (judge : Judge w) (k : ℕ) (lanes text : List ℕ) : Type 0 where
+pub record Brings {w : ℕ} (names : Naming) (e : Expected) (judge : Judge w) (k : ℕ) (lanes text : List ℕ) : Type 0 where
   pub room : base_of w e.address + w * k + w ≤ 64
-  pub text_is : strays_text (allows e) (told_of judge) 0 (64 * block_at e.address + (base_of w e.address + w * k)) lanes
+  pub text_is : strays_text names (allows e) (told_of judge) 0 (64 * block_at e.address + (base_of w e.address + w * k))
+      lanes
       ≡ text
 
-module _ {w : ℕ} (levels : List Level) (l : Liberties) (link : Link) (x : BeatD w) (t : Trace w) (is : IsWidth w)
+module _ {w : ℕ} (names : Naming) (levels : List Level) (l : Liberties) (link : Link) (x : BeatD w) (t : Trace w)
+    (is : IsWidth w)
     (judge : Judge w) (knows : KnowsTrace judge levels l t)
     (fine : KeepsRules l levels (link, Beat.D x) t) (lanes : List ℕ) (has : x.lanes ≡ Some lanes)
     (wide : length lanes ≡ w) where
@@ -107,7 +112,7 @@ module _ {w : ℕ} (levels : List Level) (l : Liberties) (link : Link) (x : Beat
   begun = before_last link.0 k t
 
   brings-granted : (e : Expected) (o : Option Request) → ExpectsGrant (Some e) n o begun
-      → Brings e judge k lanes (granted_text n link.0 x o t)
+      → Brings names e judge k lanes (granted_text names n link.0 x o t)
   brings-granted e None never = absurd never
   brings-granted e (Some asked) (at, sized, known) =
       let base = base-of_block w e.address asked.block at in
@@ -118,7 +123,8 @@ module _ {w : ℕ} (levels : List Level) (l : Liberties) (link : Link) (x : Beat
       record {
         room = omega (arith, base, inside);
         text_is = rw (start, has)
-            (strays-same (allows e) (may_grant n begun) (told_of judge) (told_after n t) 0 (64 * asked.block + w * k)
+            (strays-same names (allows e) (may_grant n begun) (told_of judge) (told_after n t) 0
+            (64 * asked.block + w * k)
             lanes (λ i low high. agree i low high inside));
       }
     where
@@ -134,7 +140,7 @@ module _ {w : ℕ} (levels : List Level) (l : Liberties) (link : Link) (x : Beat
 
   brings-answered : (e : Expected) (o : Option (Access w)) → x.opcode ≡ OpD.AccessAckData
       → find (is_of link.0 x.source) (pending_accesses t) ≡ o → ExpectsRead (Some e) n o (found_after o link.0 k t)
-      → Brings e judge k lanes (answered_text n link.0 x o t)
+      → Brings names e judge k lanes (answered_text names n link.0 x o t)
   brings-answered e None op pending never = absurd never
   brings-answered e (Some access) op pending known =
       let inside = read_inside levels n link x t is (followed _ levels l t knows.monitor_is)
@@ -147,7 +153,8 @@ module _ {w : ℕ} (levels : List Level) (l : Liberties) (link : Link) (x : Beat
       record {
         room = omega (arith, base, inside);
         text_is = rw (start, has)
-            (strays-same (allows e) (may_answer n access (found_after (Some access) link.0 k t)) (told_of judge) (told_after n t) 0
+            (strays-same names (allows e) (may_answer n access (found_after (Some access) link.0 k t)) (told_of judge)
+            (told_after n t) 0
             (w * (access.request.address / w) + w * k) lanes
             (λ i low high. agree i low high whole inside));
       }
@@ -156,20 +163,22 @@ module _ {w : ℕ} (levels : List Level) (l : Liberties) (link : Link) (x : Beat
           → i < w * (access.request.address / w) + w * k + length lanes
           → w * (access.request.address / w) ≡ 64 * (access.request.address / 64) + base_of w access.request.address
           → base_of w access.request.address + w * k + w ≤ 64
-          → Agree (allows e) (may_answer n access (found_after (Some access) link.0 k t)) (told_of judge) (told_after n t) i
+          → Agree (allows e) (may_answer n access (found_after (Some access) link.0 k t)) (told_of judge)
+          (told_after n t) i
       agree i low high whole inside = (
         λ v.
             let block = access.request.address / 64 in
             let place : i - 64 * block < 64 = omega (arith, low, high, inside, wide, whole) in
             let same : 64 * block + (i - 64 * block) ≡ i = omega (arith, low, whole) in
-            rw same at (read-byte e n block (i - 64 * block) v access (found_after (Some access) link.0 k t) known place),
+            rw same at (read-byte e n block (i - 64 * block) v access (found_after (Some access) link.0 k t) known
+            place),
         λ v. told-same judge n i v t knows.memory_is,
       )
 
   -- a response with this opcode
   pub brings : (e : Expected) (opcode : OpD) → opcode ≡ x.opcode
       → ExpectsBeat (Some e) n link.0 opcode x.source k t
-      → Brings e judge k lanes (bytes_text opcode n link.0 x t)
+      → Brings names e judge k lanes (bytes_text names opcode n link.0 x t)
   brings e OpD.GrantData op known = brings-granted e (open_request x.source (on_link link.0 t)) known
   brings e OpD.AccessAckData op known =
       brings-answered e (find (is_of link.0 x.source) (pending_accesses t)) (sym op) refl known
@@ -177,28 +186,29 @@ module _ {w : ℕ} (levels : List Level) (l : Liberties) (link : Link) (x : Beat
       let never : true ≡ d_carries_data v = ap is_some (sym has) ∙ x.carries ∙ ap d_carries_data (sym op) in absurd cc
 
 -- where a response may bring nothing that is judged, none of its bytes is told of
-pub brings-nothing : {w : ℕ} (n link : ℕ) (x : BeatD w) (t : Trace w) (opcode : OpD)
-    → ExpectsBeat None n link opcode x.source (beats_come link t) t → bytes_text opcode n link x t ≡ []
-brings-nothing {w} n link x t OpD.GrantData known = go (open_request x.source (on_link link t)) known
+pub brings-nothing : {w : ℕ} (names : Naming) (n link : ℕ) (x : BeatD w) (t : Trace w) (opcode : OpD)
+    → ExpectsBeat None n link opcode x.source (beats_come link t) t → bytes_text names opcode n link x t ≡ []
+brings-nothing {w} names n link x t OpD.GrantData known = go (open_request x.source (on_link link t)) known
   where
     go : (o : Option Request) → ExpectsGrant None n o (before_last link (beats_come link t) t)
-        → granted_text n link x o t ≡ []
+        → granted_text names n link x o t ≡ []
     go None known = refl
     go (Some asked) never = absurd never
-brings-nothing {w} n link x t OpD.AccessAckData known =
+brings-nothing {w} names n link x t OpD.AccessAckData known =
     go (find (is_of link x.source) (pending_accesses t)) known
   where
     go : (o : Option (Access w)) → ExpectsRead None n o (found_after o link (beats_come link t) t)
-        → answered_text n link x o t ≡ []
+        → answered_text names n link x o t ≡ []
     go None known = refl
     go (Some access) never = absurd never
-brings-nothing n link x t v known = refl
+brings-nothing names n link x t v known = refl
 
 -- nor where a beat has none
-pub no-bytes : {w : ℕ} (n link : ℕ) (x : BeatD w) (t : Trace w) (opcode : OpD) → opcode ≡ x.opcode → x.lanes ≡ None
-    → bytes_text opcode n link x t ≡ []
-no-bytes n link x t OpD.GrantData op none =
+pub no-bytes : {w : ℕ} (names : Naming) (n link : ℕ) (x : BeatD w) (t : Trace w) (opcode : OpD) → opcode ≡ x.opcode
+    → x.lanes ≡ None
+    → bytes_text names opcode n link x t ≡ []
+no-bytes names n link x t OpD.GrantData op none =
     let never : false ≡ true = ap is_some (sym none) ∙ x.carries ∙ ap d_carries_data (sym op) in absurd cc
-no-bytes n link x t OpD.AccessAckData op none =
+no-bytes names n link x t OpD.AccessAckData op none =
     let never : false ≡ true = ap is_some (sym none) ∙ x.carries ∙ ap d_carries_data (sym op) in absurd cc
-no-bytes n link x t v op none = refl
+no-bytes names n link x t v op none = refl

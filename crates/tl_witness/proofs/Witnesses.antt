@@ -40,7 +40,9 @@ use Rattle.tl_rules.specs.statement.Windows.{needs}
 use Rattle.tl_together.specs.code.Windows.{asked_at}
 use Rattle.tl_witness.specs.code.Witness.{IsFresh, KnowsWitness, Records}
 use Rattle.tl_witness.specs.declared.witness.Witness.{Witness}
-use Rattle.tl_witness.specs.statement.Grounds.{access_text, asked_line, conflict_by, conflicts_text, early_text, holder_text}
+use Rattle.tl_witness.specs.statement.Naming.{Naming}
+use Rattle.tl_witness.specs.statement.Grounds.{access_text, asked_line, conflict_by}
+use Rattle.tl_witness.specs.statement.Grounds.{conflicts_text, early_text, holder_text}
 use Rattle.tl_witness.specs.statement.Grounds.{holders_text, permission_line, since_text}
 
 -- ---- elements of lists
@@ -147,7 +149,8 @@ passed h n block link x t none k = record {
 
 -- ---- what is told of links
 
-perm-held : {w : ℕ} (link block : ℕ) (p : Perm) (m : Option Mention) (t : Trace w) → IsHeldSinceUnder all_liberties link block p m t
+perm-held : {w : ℕ} (link block : ℕ) (p : Perm) (m : Option Mention) (t : Trace w)
+    → IsHeldSinceUnder all_liberties link block p m t
     → p ≡ may_hold block (on_link link t)
 perm-held link block p None t is = is.0
 perm-held link block p (Some m) t is = is.0
@@ -166,35 +169,40 @@ since-is r h link block t is rec =
     (held_told r.held all_liberties r.subject.link.0 r.subject.block t rec.recorded.held_is)
 
 -- a link that holds no more than may be held
-pub holder-left : {w : ℕ} (link block : ℕ) (given p : Perm) (m : Option Mention) (left : Bool) (t : Trace w)
-    → IsHeldSinceUnder all_liberties link block p m t → left ≡ leaves given p → left ≡ true → [] ≡ holder_text link given block t
-holder-left link block given p m left t since is leaving =
+pub holder-left : {w : ℕ} (names : Naming) (link block : ℕ) (given p : Perm) (m : Option Mention) (left : Bool)
+    (t : Trace w)
+    → IsHeldSinceUnder all_liberties link block p m t → left ≡ leaves given p → left ≡ true
+    → [] ≡ holder_text names link given block t
+holder-left names link block given p m left t since is leaving =
     let test : leaves given (may_hold block (on_link link t)) ≡ true =
     rw (perm-held link block p m t since) at (sym is ∙ leaving) in
     rw test refl
 
 -- one that holds more
-pub holder-told : {w : ℕ} (link block : ℕ) (given p : Perm) (m : Option Mention) (left : Bool) (t : Trace w)
-    → IsHeldSinceUnder all_liberties link block p m t → m ≡ last_saying_under all_liberties link block t → left ≡ leaves given p → left ≡ false
-    → permission_line link (codes " holds ") block p m ≡ holder_text link given block t
-holder-told link block given p m left t since said is conflicting =
+pub holder-told : {w : ℕ} (names : Naming) (link block : ℕ) (given p : Perm) (m : Option Mention) (left : Bool)
+    (t : Trace w)
+    → IsHeldSinceUnder all_liberties link block p m t → m ≡ last_saying_under all_liberties link block t
+    → left ≡ leaves given p → left ≡ false
+    → permission_line names link (codes " holds ") block p m ≡ holder_text names link given block t
+holder-told names link block given p m left t since said is conflicting =
     let test : leaves given (may_hold block (on_link link t)) ≡ false =
     rw (perm-held link block p m t since) at (sym is ∙ conflicting) in
     rw (test, perm-held link block p m t since, said) refl
 
 -- none of no links
-pub holders-none : {w : ℕ} (given : Perm) (block : ℕ) (t : Trace w) (out : List ℕ)
-    → out ≡ out ++ holders_text 0 given block t
+pub holders-none : {w : ℕ} (names : Naming) (given : Perm) (block : ℕ) (t : Trace w) (out : List ℕ)
+    → out ≡ out ++ holders_text names 0 given block t
 unfolding holders_text
-holders-none given block t out = sym (append-nil out)
+holders-none names given block t out = sym (append-nil out)
 
 -- and of one more
-pub holders-more : {w : ℕ} (n m : ℕ) (given : Perm) (block : ℕ) (t : Trace w)
-    (first before after : List ℕ) → m ≡ suc n → before ≡ first ++ holders_text n given block t
-    → after ≡ before ++ holder_text n given block t → after ≡ first ++ holders_text m given block t
+pub holders-more : {w : ℕ} (names : Naming) (n m : ℕ) (given : Perm) (block : ℕ) (t : Trace w)
+    (first before after : List ℕ) → m ≡ suc n → before ≡ first ++ holders_text names n given block t
+    → after ≡ before ++ holder_text names n given block t → after ≡ first ++ holders_text names m given block t
 unfolding holders_text
-holders-more n m given block t first before after next so_far more =
-    rw (more, so_far, next) (append_assoc first (holders_text n given block t) (holder_text n given block t))
+holders-more names n m given block t first before after next so_far more =
+    rw (more, so_far, next) (append_assoc first (holders_text names n given block t)
+    (holder_text names n given block t))
 
 -- ---- what conflicts with a Grant
 
@@ -203,7 +211,8 @@ pub opening-is : {w : ℕ} (o : Option Begun) (link block : ℕ) (given : Perm) 
     → coming block (on_link link t) ≡ Some given
     → mention_of (option_map (λ b. b.first) o) ≡ burst_opening link channel.D t
 opening-is None link block given t is e =
-    absurd (never (pending (GrantAckOf block) (on_link link t)) (ap (λ beats. given_by block beats (on_link link t)) is) e)
+    absurd (never (pending (GrantAckOf block) (on_link link t)) (ap (λ beats. given_by block beats (on_link link t)) is)
+    e)
   where
     never : (b : Bool) {o : Option Perm} → o ≡ None → (if b then o else None) ≡ Some given → ⊥
     never true none f = let no : None ≡ Some given = sym none ∙ f in cc
@@ -221,48 +230,55 @@ opening-at r link n block given t h o is k there e =
     opening-is o link block given t begun e
 
 -- a link to which nothing is being granted
-pub conflict-none : {w : ℕ} (coming' : Option Perm) (link : ℕ) (given : Perm) (block : ℕ) (t : Trace w)
-    (out new : List ℕ) → ((p : Perm) → coming' ≡ Some p → ⊥) → new ≡ out ++ holder_text link given block t
-    → new ≡ out ++ conflict_by coming' link given block t
-conflict-none None link given block t out new apart is = is
-conflict-none (Some p) link given block t out new apart is = absurd (apart p refl)
+pub conflict-none : {w : ℕ} (names : Naming) (coming' : Option Perm) (link : ℕ) (given : Perm) (block : ℕ) (t : Trace w)
+    (out new : List ℕ) → ((p : Perm) → coming' ≡ Some p → ⊥) → new ≡ out ++ holder_text names link given block t
+    → new ≡ out ++ conflict_by names coming' link given block t
+conflict-none names None link given block t out new apart is = is
+conflict-none names (Some p) link given block t out new apart is = absurd (apart p refl)
 
-pub conflict-left : {w : ℕ} (link block : ℕ) (given perm : Perm) (coming' : Option Perm) (left : Bool) (t : Trace w)
-    → coming' ≡ Some perm → left ≡ leaves given perm → left ≡ true → [] ≡ conflict_by coming' link given block t
-conflict-left link block given perm coming' left t is left_is leaving =
+pub conflict-left : {w : ℕ} (names : Naming) (link block : ℕ) (given perm : Perm) (coming' : Option Perm) (left : Bool)
+    (t : Trace w)
+    → coming' ≡ Some perm → left ≡ leaves given perm → left ≡ true → [] ≡ conflict_by names coming' link given block t
+conflict-left names link block given perm coming' left t is left_is leaving =
     rw (is, sym left_is ∙ leaving) refl
 
-pub conflict-told : {w : ℕ} (link block : ℕ) (given perm : Perm) (coming' : Option Perm) (m : Option Mention)
+pub conflict-told : {w : ℕ} (names : Naming) (link block : ℕ) (given perm : Perm) (coming' : Option Perm)
+    (m : Option Mention)
     (left : Bool) (t : Trace w) → coming' ≡ Some perm → left ≡ leaves given perm → left ≡ false
     → m ≡ burst_opening link channel.D t
-    → permission_line link (codes " is being granted ") block perm m ≡ conflict_by coming' link given block t
-conflict-told link block given perm coming' m left t is left_is conflicting opening =
+    → permission_line names link (codes " is being granted ") block perm m ≡ conflict_by names coming' link given block
+    t
+conflict-told names link block given perm coming' m left t is left_is conflicting opening =
     rw (is, sym left_is ∙ conflicting, opening) refl
 
-pub conflicts-none : {w : ℕ} (own : ℕ) (given : Perm) (block : ℕ) (t : Trace w) (out : List ℕ)
-    → out ≡ out ++ conflicts_text 0 own given block t
+pub conflicts-none : {w : ℕ} (names : Naming) (own : ℕ) (given : Perm) (block : ℕ) (t : Trace w) (out : List ℕ)
+    → out ≡ out ++ conflicts_text names 0 own given block t
 unfolding conflicts_text
-conflicts-none own given block t out = sym (append-nil out)
+conflicts-none names own given block t out = sym (append-nil out)
 
 -- one link more: nothing of the Grant's own
-pub conflicts-own : {w : ℕ} (n m own : ℕ) (given : Perm) (block : ℕ) (t : Trace w) (first before : List ℕ)
-    → m ≡ suc n → n ≡ own → before ≡ first ++ conflicts_text n own given block t
-    → before ≡ first ++ conflicts_text m own given block t
+pub conflicts-own : {w : ℕ} (names : Naming) (n m own : ℕ) (given : Perm) (block : ℕ) (t : Trace w)
+    (first before : List ℕ)
+    → m ≡ suc n → n ≡ own → before ≡ first ++ conflicts_text names n own given block t
+    → before ≡ first ++ conflicts_text names m own given block t
 unfolding conflicts_text
-conflicts-own n m own given block t first before next is so_far =
+conflicts-own names n m own given block t first before next is so_far =
     so_far ∙ rw (next, eq-eqb own n (sym is)) (ap (λ text. first ++ text)
-    (sym (append-nil (conflicts_text n own given block t))))
+    (sym (append-nil (conflicts_text names n own given block t))))
 
 -- of another its line
-pub conflicts-more : {w : ℕ} (n m own : ℕ) (given : Perm) (block : ℕ) (t : Trace w) (coming' : Option Perm)
+pub conflicts-more : {w : ℕ} (names : Naming) (n m own : ℕ) (given : Perm) (block : ℕ) (t : Trace w)
+    (coming' : Option Perm)
     (first before after : List ℕ)
-    → m ≡ suc n → (n ≡ own → ⊥) → before ≡ first ++ conflicts_text n own given block t
+    → m ≡ suc n → (n ≡ own → ⊥) → before ≡ first ++ conflicts_text names n own given block t
     → coming' ≡ coming block (on_link n t)
-    → after ≡ before ++ conflict_by coming' n given block t → after ≡ first ++ conflicts_text m own given block t
+    → after ≡ before ++ conflict_by names coming' n given block t → after ≡ first ++ conflicts_text names m own given
+    block t
 unfolding conflicts_text
-conflicts-more n m own given block t coming' first before after next apart so_far is more =
+conflicts-more names n m own given block t coming' first before after next apart so_far is more =
     rw (more, so_far, next, ne_eqb own n (λ e. apart (sym e)), is)
-    (append_assoc first (conflicts_text n own given block t) (conflict_by (coming block (on_link n t)) n given block t))
+    (append_assoc first (conflicts_text names n own given block t)
+    (conflict_by names (coming block (on_link n t)) n given block t))
 
 -- what a judge says of a link
 pub coming-here : {w : ℕ} (levels : List Level) (link : Link) (block known : ℕ) (t : Trace w) (o : Option Perm)
@@ -272,34 +288,49 @@ coming-here levels link block known t o same lt is =
     is ∙ rw (same, lt-ltb link.0 (length levels) lt) refl
 
 -- and in which line the request was complete
-pub access-told : {w : ℕ} (n link source : ℕ) (asked other : Request) (block moment : ℕ) (given : Perm) (t : Trace w)
+pub access-told : {w : ℕ} (names : Naming) (n link source : ℕ) (asked other : Request) (block moment : ℕ) (given : Perm)
+    (t : Trace w)
     (out mid new : List ℕ) → other ≡ asked → given ≡ needs other.opcode → moment ≡ asked_at link source t
-    → mid ≡ out ++ asked_line (moment + 1) → new ≡ mid ++ holders_text n given block t
-    → new ≡ out ++ access_text n link source asked block t
-access-told n link source asked other block moment given t out mid new same given_is at first more =
+    → mid ≡ out ++ asked_line names (moment + 1) → new ≡ mid ++ holders_text names n given block t
+    → new ≡ out ++ access_text names n link source asked block t
+access-told names n link source asked other block moment given t out mid new same given_is at first more =
     rw (more, first, given_is, at, same)
-    (append_assoc out (asked_line (asked_at link source t + 1)) (holders_text n (needs asked.opcode) block t))
+    (append_assoc out (asked_line names (asked_at link source t + 1))
+    (holders_text names n (needs asked.opcode) block t))
+
+pub asked-told : (names : Naming) (line number : ℕ) (out a b c : List ℕ) → number ≡ names.line line
+    → a ≡ out ++ codes "  its request was complete in line " → b ≡ a ++ decimal number → c ≡ b ++ codes "\n"
+    → c ≡ out ++ asked_line names line
+unfolding asked_line
+asked-told names line number out a b c at a_is b_is c_is =
+    rw (c_is, b_is, a_is, at)
+    (append_assoc (out ++ codes "  its request was complete in line ") (decimal (names.line line)) (codes "\n")
+    ∙ append_assoc out (codes "  its request was complete in line ") (decimal (names.line line) ++ codes "\n"))
 
 -- ---- the line of a permission, piece by piece
 
-pub since-told : (since : Option Told) (m : Told) (out a b c : List ℕ) → since ≡ Some m
-    → a ≡ out ++ codes " since line " → b ≡ a ++ decimal m.mention.line → c ≡ b ++ early_text m.mention.control
-    → c ≡ out ++ since_text (mention_of since)
-since-told since m out a b c is a_is b_is c_is =
+pub since-told : (names : Naming) (since : Option Told) (m : Told) (out a b c : List ℕ) → since ≡ Some m
+    → a ≡ out ++ codes " since line " → b ≡ a ++ decimal (names.line m.mention.line)
+    → c ≡ b ++ early_text m.mention.control
+    → c ≡ out ++ since_text names (mention_of since)
+since-told names since m out a b c is a_is b_is c_is =
     rw (c_is, b_is, a_is, is)
     (ap (λ text. text ++ early_text m.mention.control)
-    (append_assoc out (codes " since line ") (decimal m.mention.line))
-    ∙ append_assoc out (codes " since line " ++ decimal m.mention.line) (early_text m.mention.control))
+    (append_assoc out (codes " since line ") (decimal (names.line m.mention.line)))
+    ∙ append_assoc out (codes " since line " ++ decimal (names.line m.mention.line)) (early_text m.mention.control))
 
-pub permission-told : (link block times : ℕ) (verb : List ℕ) (perm : Perm) (since : Option Mention)
+pub permission-told : (names : Naming) (link block times : ℕ) (verb : List ℕ) (perm : Perm) (since : Option Mention)
     (out a b c d e f g h : List ℕ) → times ≡ 64 * block → a ≡ out ++ codes "  link " → b ≡ a ++ digits 2 link
-    → c ≡ b ++ verb → d ≡ c ++ perm_name perm → e ≡ d ++ codes " of block " → f ≡ e ++ digits 8 times
-    → g ≡ f ++ since_text since → h ≡ g ++ codes "\n" → h ≡ out ++ permission_line link verb block perm since
+    → c ≡ b ++ verb → d ≡ c ++ perm_name perm → e ≡ d ++ codes " of block " → f ≡ e ++ names.address times
+    → g ≡ f ++ since_text names since → h ≡ g ++ codes "\n" → h ≡ out ++ permission_line names link verb block perm
+    since
 unfolding permission_line
-permission-told link block times verb perm since out a b c d e f g h times_is a_is b_is c_is d_is e_is f_is g_is h_is =
+permission-told names link block times verb perm since out a b c d e f g h times_is a_is b_is c_is d_is e_is f_is g_is
+    h_is =
     rw (h_is, g_is, f_is, e_is, d_is, c_is, b_is, a_is, times_is)
-    (pieces out (codes "  link ") (digits 2 link) verb (perm_name perm) (codes " of block ") (digits 8 (64 * block))
-    (since_text since) (codes "\n"))
+    (pieces out (codes "  link ") (digits 2 link) verb (perm_name perm) (codes " of block ")
+    (names.address (64 * block))
+    (since_text names since) (codes "\n"))
   where
     pieces : (o p q r s t u v z : List ℕ)
         → o ++ p ++ q ++ r ++ s ++ t ++ u ++ v ++ z ≡ o ++ (p ++ q ++ r ++ s ++ t ++ u ++ v ++ z)

@@ -3,6 +3,7 @@
 #![tactic(auto)]
 
 pub mod grounds;
+pub mod places;
 mod strays;
-mod text;
+pub mod text;
 pub mod witness;

@@ -6,9 +6,11 @@ ghost use Rattle.tl_memory.specs.code.Expected.{allows};
 ghost use Rattle.tl_rules.specs.code.Place.{base_of};
 ghost use Rattle.tl_rules.specs.statement.History as history;
 ghost use Rattle.tl_witness.specs.code.Strays.{told_of};
+ghost use Rattle.tl_witness.specs.statement.Naming.{Naming};
 ghost use Rattle.tl_witness.specs.statement.Strays.{lead_text, more_text, next_line, stray_line, strays_text};
 ghost use Rattle.tl_witness.specs.statement.Strays.{told_text, value_text, values_text};
 
+use crate::places::Places;
 use crate::text::{append_hex, append_number};
 use std::alloc::AllocError;
 use tl_memory::expected::Expected;
@@ -31,26 +33,36 @@ fn lead(any: bool) -> &'static str
 
 /// Appends the line that showed a value, if the byte may still have it. `moment` is the number of beats before that
 /// line's.
-fn append_told(moment: Option<u64>, out: &mut Vec<u8>) -> Result<(), AllocError>
-    ensures { OnOk result (out.new.items ≡ out.old.items ++ told_text moment) }
+fn append_told<X: Places>(
+    places: &X,
+    moment: Option<u64>,
+    out: &mut Vec<u8>,
+) -> Result<(), AllocError>
+    ensures { OnOk result (out.new.items ≡ out.old.items ++ told_text (X.names places.now) moment) }
 {
     let Some(moment) = moment else {
         return Ok(());
     };
     out.extend_from_slice(b", set in line ")?;
-    append_number(u128::from(moment) + 2, out)
+    append_number(places.line_at(u128::from(moment) + 2), out)
 }
 
 /// Appends a value, and the line that showed it.
-fn append_value(value: u8, moment: Option<u64>, out: &mut Vec<u8>) -> Result<(), AllocError>
-    ensures { OnOk result (out.new.items ≡ out.old.items ++ value_text value moment) }
+fn append_value<X: Places>(
+    places: &X,
+    value: u8,
+    moment: Option<u64>,
+    out: &mut Vec<u8>,
+) -> Result<(), AllocError>
+    ensures { OnOk result (out.new.items ≡ out.old.items ++ value_text (X.names places.now) value moment) }
 {
     append_hex(u32::from(value), 2, out)?;
-    append_told(moment, out)
+    append_told(places, moment, out)
 }
 
 /// Appends a value if the byte at a place may have it. Returns whether any value has been appended.
-fn append_allowed<const W: usize>(
+fn append_allowed<const W: usize, X: Places>(
+    places: &X,
     expected: &Expected,
     judge: &Judge<W>,
     place: u8,
@@ -60,10 +72,10 @@ fn append_allowed<const W: usize>(
 ) -> Result<bool, AllocError>
     requires { place < 64 }
     ensures { IfOk result (λ now. (n : ℕ) →
-        out.new.items ++ values_text
+        out.new.items ++ values_text (X.names places.now)
         (allows expected.now (64 * history.block_at expected.now.address + place))
         (told_of judge.now (64 * history.block_at expected.now.address + place)) now n (value + 1)
-        ≡ out.old.items ++ values_text
+        ≡ out.old.items ++ values_text (X.names places.now)
         (allows expected.now (64 * history.block_at expected.now.address + place))
         (told_of judge.now (64 * history.block_at expected.now.address + place)) any (suc n) value) }
 {
@@ -72,15 +84,15 @@ fn append_allowed<const W: usize>(
     }
     let moment = judge.told_at(block_at(expected.address), place, value);
     out.extend_from_slice(lead(any).as_bytes())?;
-    append_value(value, moment, out)?;
+    append_value(places, value, moment, out)?;
     Ok(true)
 }
 
 #[tactic(auto, unfolding(crate::specs::statement::Strays::values_text))]
 /// Appends that no value is known, if `any` is false.
 fn append_nothing(any: bool, out: &mut Vec<u8>) -> Result<(), AllocError>
-    ensures { OnOk result ((test : ℕ → Bool) (told : ℕ → Option ℕ) (v : ℕ) →
-        out.new.items ≡ out.old.items ++ values_text test told any 0 v) }
+    ensures { OnOk result ((names : Naming) (test : ℕ → Bool) (told : ℕ → Option ℕ) (v : ℕ) →
+        out.new.items ≡ out.old.items ++ values_text names test told any 0 v) }
 {
     if any {
         return Ok(());
@@ -89,20 +101,21 @@ fn append_nothing(any: bool, out: &mut Vec<u8>) -> Result<(), AllocError>
 }
 
 /// Appends the values that the byte at a place may have.
-fn append_values<const W: usize>(
+fn append_values<const W: usize, X: Places>(
+    places: &X,
     expected: &Expected,
     judge: &Judge<W>,
     place: u8,
     out: &mut Vec<u8>,
 ) -> Result<(), AllocError>
     requires { place < 64 }
-    ensures { OnOk result (out.new.items ≡ out.old.items ++ values_text
+    ensures { OnOk result (out.new.items ≡ out.old.items ++ values_text (X.names places.now)
         (allows expected.now (64 * history.block_at expected.now.address + place))
         (told_of judge.now (64 * history.block_at expected.now.address + place)) false 256 0) }
 {
     let mut any = false;
     for value in 0..VALUES {
-        any = append_allowed(expected, judge, place, value as u8, any, out)?;
+        any = append_allowed(places, expected, judge, place, value as u8, any, out)?;
     }
     append_nothing(any, out)
 }
@@ -117,7 +130,8 @@ fn address_at(address: u32, place: u8) -> u32
 
 #[tactic(auto, unfolding(crate::specs::statement::Strays::stray_line))]
 /// Appends the byte at a place of its block, and the values that it may have.
-fn append_stray<const W: usize>(
+fn append_stray<const W: usize, X: Places>(
+    places: &X,
     expected: &Expected,
     judge: &Judge<W>,
     place: u8,
@@ -126,21 +140,22 @@ fn append_stray<const W: usize>(
 ) -> Result<(), AllocError>
     requires { place < 64 }
     ensures { OnOk result (out.new.items ≡ out.old.items
-        ++ stray_line (64 * history.block_at expected.now.address + place) byte
+        ++ stray_line (X.names places.now) (64 * history.block_at expected.now.address + place) byte
         (allows expected.now (64 * history.block_at expected.now.address + place))
         (told_of judge.now (64 * history.block_at expected.now.address + place))) }
 {
     out.extend_from_slice(b"  byte ")?;
-    append_hex(address_at(expected.address, place), 8, out)?;
+    places.append_place(address_at(expected.address, place), out)?;
     out.extend_from_slice(b" is ")?;
     append_hex(u32::from(byte), 2, out)?;
-    append_values(expected, judge, place, out)?;
+    append_values(places, expected, judge, place, out)?;
     out.push(b'\n')?;
     Ok(())
 }
 
 /// Appends a line for the byte at a place of its block, after `count` others, if it is one of the first eight.
-fn append_counted<const W: usize>(
+fn append_counted<const W: usize, X: Places>(
+    places: &X,
     expected: &Expected,
     judge: &Judge<W>,
     place: u8,
@@ -150,19 +165,20 @@ fn append_counted<const W: usize>(
 ) -> Result<(), AllocError>
     requires { place < 64 }
     ensures { OnOk result (out.new.items ≡ out.old.items
-        ++ next_line count (64 * history.block_at expected.now.address + place) byte
+        ++ next_line (X.names places.now) count (64 * history.block_at expected.now.address + place) byte
         (allows expected.now (64 * history.block_at expected.now.address + place))
         (told_of judge.now (64 * history.block_at expected.now.address + place))) }
 {
     if count >= TOLD {
         return Ok(());
     }
-    append_stray(expected, judge, place, byte, out)
+    append_stray(places, expected, judge, place, byte, out)
 }
 
 /// Appends a line for the byte at a place of its block, after `count` others, if the response may not have it. Returns
 /// the number of such bytes.
-fn tell_lane<const W: usize>(
+fn tell_lane<const W: usize, X: Places>(
+    places: &X,
     expected: &Expected,
     judge: &Judge<W>,
     place: u8,
@@ -173,16 +189,16 @@ fn tell_lane<const W: usize>(
     requires place { place < 64 }
     requires count { count < 64 }
     ensures told { IfOk result (λ now. (rest : List ℕ) → out.new.items
-        ++ strays_text (allows expected.now) (told_of judge.now) now
+        ++ strays_text (X.names places.now) (allows expected.now) (told_of judge.now) now
         (64 * history.block_at expected.now.address + place + 1) rest
-        ≡ out.old.items ++ strays_text (allows expected.now) (told_of judge.now) count
+        ≡ out.old.items ++ strays_text (X.names places.now) (allows expected.now) (told_of judge.now) count
         (64 * history.block_at expected.now.address + place) (byte ∷ rest)) }
     ensures few { IfOk result (λ now. now ≤ count + 1) }
 {
     if expected.allows(usize::from(place), byte) {
         return Ok(count);
     }
-    append_counted(expected, judge, place, byte, count, out)?;
+    append_counted(places, expected, judge, place, byte, count, out)?;
     Ok(count + 1)
 }
 
@@ -200,7 +216,8 @@ fn append_more(count: u8, out: &mut Vec<u8>) -> Result<(), AllocError>
 
 /// Appends a line for each of these bytes, from a place of their block on, that the response may not have: for the
 /// first eight, and then the number of the others.
-fn tell_lanes<const W: usize>(
+fn tell_lanes<const W: usize, X: Places>(
+    places: &X,
     expected: &Expected,
     judge: &Judge<W>,
     first: usize,
@@ -210,12 +227,13 @@ fn tell_lanes<const W: usize>(
     requires width { IsWidth W }
     requires inside { first + W ≤ 64 }
     ensures { OnOk result (out.new.items ≡ out.old.items
-        ++ strays_text (allows expected.now) (told_of judge.now) 0
+        ++ strays_text (X.names places.now) (allows expected.now) (told_of judge.now) 0
         (64 * history.block_at expected.now.address + first) lanes.now) }
 {
     let mut count = 0u8;
     for lane in 0..W {
         count = tell_lane(
+            places,
             expected,
             judge,
             (first + lane) as u8,
@@ -229,7 +247,8 @@ fn tell_lanes<const W: usize>(
 
 /// Appends a line for each byte of a beat, the one after `beats` others of the response, that it may not have: for the
 /// first eight, and then the number of the others.
-pub(crate) fn tell_strays<const W: usize>(
+pub(crate) fn tell_strays<const W: usize, X: Places>(
+    places: &X,
     expected: &Expected,
     judge: &Judge<W>,
     beats: usize,
@@ -238,12 +257,12 @@ pub(crate) fn tell_strays<const W: usize>(
 ) -> Result<(), AllocError>
     requires { IsWidth W }
     ensures { OnOk result (base_of W expected.now.address + W * beats + W ≤ 64 →
-        out.new.items ≡ out.old.items ++ strays_text (allows expected.now) (told_of judge.now) 0
+        out.new.items ≡ out.old.items ++ strays_text (X.names places.now) (allows expected.now) (told_of judge.now) 0
         (64 * history.block_at expected.now.address + (base_of W expected.now.address + W * beats)) lanes.now) }
 {
     let first = base::<W>(expected.address).saturating_add(W.saturating_mul(beats));
     if first.saturating_add(W) > 64 {
         return Ok(());
     }
-    tell_lanes(expected, judge, first, lanes, out)
+    tell_lanes(places, expected, judge, first, lanes, out)
 }

@@ -6,6 +6,7 @@ ghost use Rattle.tl_beat.specs.statement.Digits.{digits};
 ghost use Rattle.tl_explain.specs.statement.Evidence.{mention_of};
 ghost use Rattle.tl_witness.specs.statement.Grounds.{asked_line, early_text, permission_line, since_text};
 
+use crate::places::Places;
 use arrayvec::ArrayVec;
 use itoa::Buffer;
 use std::alloc::AllocError;
@@ -17,7 +18,7 @@ use tl_explain::words::perm_name;
 use tl_rules::kind::is_release_ack;
 
 /// Appends the lowest hexadecimal digits of a number, this many of them, the highest first.
-pub(crate) fn append_hex(number: u32, count: u8, out: &mut Vec<u8>) -> Result<(), AllocError>
+pub fn append_hex(number: u32, count: u8, out: &mut Vec<u8>) -> Result<(), AllocError>
     requires { count ≤ 8 }
     ensures { OnOk result (out.new.items ≡ out.old.items ++ digits count number) }
 {
@@ -48,14 +49,18 @@ fn early(control: &Control) -> &'static str
 }
 
 /// Appends the line since which a block is held, if a message is cited.
-fn append_since(since: &Option<Told>, out: &mut Vec<u8>) -> Result<(), AllocError>
-    ensures { OnOk result (out.new.items ≡ out.old.items ++ since_text (mention_of since.now)) }
+fn append_since<X: Places>(
+    places: &X,
+    since: &Option<Told>,
+    out: &mut Vec<u8>,
+) -> Result<(), AllocError>
+    ensures { OnOk result (out.new.items ≡ out.old.items ++ since_text (X.names places.now) (mention_of since.now)) }
 {
     match since {
         None => Ok(()),
         Some(told) => {
             out.extend_from_slice(b" since line ")?;
-            append_number(u128::from(told.mention.line), out)?;
+            append_number(places.line_at(u128::from(told.mention.line)), out)?;
             out.extend_from_slice(early(&told.mention.control).as_bytes())?;
             Ok(())
         }
@@ -64,7 +69,8 @@ fn append_since(since: &Option<Told>, out: &mut Vec<u8>) -> Result<(), AllocErro
 
 #[tactic(auto, unfolding(crate::specs::statement::Grounds::permission_line))]
 /// Appends the permission that a link holds or is being granted, and since which line.
-pub(crate) fn append_permission(
+pub(crate) fn append_permission<X: Places>(
+    places: &X,
     link: u8,
     verb: &str,
     block: u32,
@@ -72,26 +78,31 @@ pub(crate) fn append_permission(
     out: &mut Vec<u8>,
 ) -> Result<(), AllocError>
     ensures { OnOk result (block < 2 ^ 26 → out.new.items
-        ≡ out.old.items ++ permission_line link verb.now block held.now.perm (mention_of held.now.since)) }
+        ≡ out.old.items ++ permission_line (X.names places.now) link verb.now block held.now.perm
+        (mention_of held.now.since)) }
 {
     out.extend_from_slice(b"  link ")?;
     append_hex(u32::from(link), 2, out)?;
     out.extend_from_slice(verb.as_bytes())?;
     out.extend_from_slice(perm_name(held.perm).as_bytes())?;
     out.extend_from_slice(b" of block ")?;
-    append_hex(block.saturating_mul(64), 8, out)?;
-    append_since(&held.since, out)?;
+    places.append_place(block.saturating_mul(64), out)?;
+    append_since(places, &held.since, out)?;
     out.push(b'\n')?;
     Ok(())
 }
 
 #[tactic(auto, unfolding(crate::specs::statement::Grounds::asked_line))]
 /// Appends the line in which a request was complete.
-pub(crate) fn append_asked(line: u128, out: &mut Vec<u8>) -> Result<(), AllocError>
-    ensures { OnOk result (out.new.items ≡ out.old.items ++ asked_line line) }
+pub(crate) fn append_asked<X: Places>(
+    places: &X,
+    line: u128,
+    out: &mut Vec<u8>,
+) -> Result<(), AllocError>
+    ensures { OnOk result (out.new.items ≡ out.old.items ++ asked_line (X.names places.now) line) }
 {
     out.extend_from_slice(b"  its request was complete in line ")?;
-    append_number(line, out)?;
+    append_number(places.line_at(line), out)?;
     out.push(b'\n')?;
     Ok(())
 }

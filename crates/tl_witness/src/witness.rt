@@ -16,6 +16,7 @@ ghost use Rattle.tl_together.specs.statement.Knows.{Knows};
 ghost use Rattle.tl_witness.specs.statement.Grounds.{conflict_by, conflicts_text, holder_text, holders_text};
 ghost use Rattle.tl_witness.specs.code.Witness.{IsFresh};
 
+use crate::places::Places;
 use crate::text::append_permission;
 use std::alloc::{AllocError, Global};
 use tl_beat::beat::{Beat, Link};
@@ -122,31 +123,43 @@ impl Witness {
     }
 
     /// Appends the permission that a link holds of the block, if it conflicts with `given`.
-    fn tell_holder(&self, link: u8, given: Perm, out: &mut Vec<u8>) -> Result<(), AllocError>
+    fn tell_holder<X: Places>(
+        &self,
+        places: &X,
+        link: u8,
+        given: Perm,
+        out: &mut Vec<u8>,
+    ) -> Result<(), AllocError>
         ensures { OnOk result ((w n block : ℕ) (t : Trace w) → KnowsWitness self.now n block t → link < n →
-            out.new.items ≡ out.old.items ++ holder_text link given block t) }
+            out.new.items ≡ out.old.items ++ holder_text (X.names places.now) link given block t) }
     {
         let held = self.held(link);
         if leaves(given, held.perm) {
             return Ok(());
         }
-        append_permission(link, " holds ", self.block, &held, out)
+        append_permission(places, link, " holds ", self.block, &held, out)
     }
 
     /// Appends a line for each link that holds a permission of the block which conflicts with `given`.
-    pub fn tell_holders(&self, given: Perm, out: &mut Vec<u8>) -> Result<(), AllocError>
+    pub fn tell_holders<X: Places>(
+        &self,
+        places: &X,
+        given: Perm,
+        out: &mut Vec<u8>,
+    ) -> Result<(), AllocError>
         ensures { OnOk result ((w n block : ℕ) (t : Trace w) → KnowsWitness self.now n block t →
-            out.new.items ≡ out.old.items ++ holders_text n given block t) }
+            out.new.items ≡ out.old.items ++ holders_text (X.names places.now) n given block t) }
     {
         for link in 0..self.links {
-            self.tell_holder(link, given, out)?;
+            self.tell_holder(places, link, given, out)?;
         }
         Ok(())
     }
 
     /// Appends the permission that a link holds of the block, or is being granted, if it conflicts with `given`.
-    fn tell_conflict(
+    fn tell_conflict<X: Places>(
         &self,
+        places: &X,
         coming: Option<Perm>,
         link: u8,
         given: Perm,
@@ -154,10 +167,10 @@ impl Witness {
     ) -> Result<(), AllocError>
         ensures { OnOk result ((w n block : ℕ) (t : Trace w) → KnowsWitness self.now n block t → link < n →
             coming ≡ Granting.coming block (on_link link t) →
-            out.new.items ≡ out.old.items ++ conflict_by coming link given block t) }
+            out.new.items ≡ out.old.items ++ conflict_by (X.names places.now) coming link given block t) }
     {
         let Some(perm) = coming else {
-            return self.tell_holder(link, given, out);
+            return self.tell_holder(places, link, given, out);
         };
         if leaves(given, perm) {
             return Ok(());
@@ -166,13 +179,21 @@ impl Witness {
             perm,
             since: self.begun(link),
         };
-        append_permission(link, " is being granted ", self.block, &granted, out)
+        append_permission(
+            places,
+            link,
+            " is being granted ",
+            self.block,
+            &granted,
+            out,
+        )
     }
 
     /// Appends a line for each link but this one that holds, or is being granted, a permission of the block which
     /// conflicts with `given`.
-    pub fn tell_conflicts<const W: usize>(
+    pub fn tell_conflicts<const W: usize, X: Places>(
         &self,
+        places: &X,
         judge: &Judge<W>,
         own: u8,
         given: Perm,
@@ -180,12 +201,12 @@ impl Witness {
     ) -> Result<(), AllocError>
         ensures { OnOk result ((levels : List Level) (l : Liberties) (block : ℕ) (t : Trace W) →
             Knows judge.now levels l t false → KnowsWitness self.now (length levels) block t →
-            out.new.items ≡ out.old.items ++ conflicts_text (length levels) own given block t) }
+            out.new.items ≡ out.old.items ++ conflicts_text (X.names places.now) (length levels) own given block t) }
     {
         for link in 0..self.links {
             if link != own {
                 let coming = judge.coming(Link(link), self.block);
-                self.tell_conflict(coming, link, given, out)?;
+                self.tell_conflict(places, coming, link, given, out)?;
             }
         }
         Ok(())

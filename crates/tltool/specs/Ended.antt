@@ -34,7 +34,7 @@ use Rattle.tl_report.specs.statement.Said.{GivesUpSearching, Searches, all_text,
 use Rattle.tl_wide.specs.declared.width.WideWidth.{WideWidth}
 use Rattle.tl_wide.specs.statement.Width.{wide_bytes_of}
 use Rattle.tl_wide_lines.specs.statement.WideDecoded.{DecodedSoFar, DecodedWide}
-use Rattle.tl_wide_lines.specs.statement.WideExplained.{GivesUpWide, ReachesBoth}
+use Rattle.tl_wide_story.specs.statement.WideExplained.{GivesUpWide, ReachesBoth}
 
 -- A command's text of these lines, with the status at their end; for `explain` the first line of its text. `monitor`,
 -- `coherent` and `explain` also read headers that name liberties, and take further ones; the first two also read

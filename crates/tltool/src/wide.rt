@@ -8,8 +8,8 @@ use crate::unread::front_of;
 use std::fs;
 use std::io::{Read, Write};
 use tl_params::liberties::Liberties;
-use tl_wide_lines::explain::explain_wide;
 use tl_wide_lines::header::read_wide;
+use tl_wide_story::explain::explain_wide;
 
 /// Whether the file of this name begins with a header of wide beats.
 pub(crate) fn is_wide_file(rt: &HostRuntime, name: &str) -> bool {

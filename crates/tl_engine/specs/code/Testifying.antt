@@ -22,6 +22,7 @@ use Rattle.tl_together.specs.statement.Coherence.{broken_together}
 use Rattle.tl_together.specs.statement.Knows.{Knows}
 use Rattle.tl_witness.specs.code.Witness.{KnowsWitness}
 use Rattle.tl_witness.specs.declared.witness.Witness.{Witness}
+use Rattle.tl_witness.specs.statement.Naming.{as_recorded}
 use Rattle.tl_witness.specs.statement.Grounds.{grounds_text}
 use Rattle.tl_engine.specs.code.Tracing.{KnowsSpelled}
 use Rattle.tl_engine.specs.code.LinkWatching.{KnowsLines}
@@ -86,7 +87,7 @@ TellsRecorded {w} witness judge rule link y was is =
     → IfSome witness (λ h. KnowsWitness h (length levels) block t)
     → block_asked (open_request y.source (on_link link.0 t)) ≡ Some block
     → broken_on_link_under may levels (link, beat.D y) t ≡ None
-    → is ≡ was ++ grounds_text rule (length levels) link.0 y t
+    → is ≡ was ++ grounds_text as_recorded rule (length levels) link.0 y t
 
 -- for a response in the line of this number, after the trace that the judge knows, the definition's text was written
 abbrev pub TellsResponse : {w : ℕ} → Inquiry → Inquiry → Judge w → ℕ → List ℕ → Link → BeatD w → Type 0
@@ -94,7 +95,7 @@ TellsResponse {w} old new judge number line link y =
     (levels : List Level) (may : Liberties) (t : Trace w) → Knows judge levels may t false → KnowsRecord old (length levels) t
     → Spells line link (beat.D y) → broken_on_link_under may levels (link, beat.D y) t ≡ None
     → new.reasons.items ≡ memory_front_text old.rule number link (beat.D y)
-    ++ grounds_text old.rule (length levels) link.0 y t
+    ++ grounds_text as_recorded old.rule (length levels) link.0 y t
 
 -- the same of a beat, which is a response then
 abbrev pub TellsBeat : {w : ℕ} → Inquiry → Inquiry → TraceJudge w → ℕ → List ℕ → Link → Beat w → Type 0
@@ -102,7 +103,8 @@ TellsBeat {w} old new judge number line link x =
     (levels : List Level) (may : Liberties) (t : Trace w) → KnowsBeats true judge levels may t
     → KnowsRecord old (length levels) t → Spells line link x → broken_on_link_under may levels (link, x) t ≡ None
     → (y : BeatD w) × (x ≡ beat.D y)
-    × (new.reasons.items ≡ memory_front_text old.rule number link x ++ grounds_text old.rule (length levels) link.0 y t)
+    × (new.reasons.items ≡ memory_front_text old.rule number link x
+    ++ grounds_text as_recorded old.rule (length levels) link.0 y t)
 
 -- the line of this number is the one at fault, and for its response the text of the definition was written
 pub record TellsFault {w : ℕ} (old new : Inquiry) (judge : TraceJudge w) (number : ℕ) (line : List ℕ) : Type 0 where
@@ -113,7 +115,7 @@ pub record TellsFault {w : ℕ} (old new : Inquiry) (judge : TraceJudge w) (numb
       → broken_on_link_under may levels (link, x) t ≡ None
       → (y : BeatD w) × (x ≡ beat.D y)
       × (new.reasons.items ≡ memory_front_text old.rule number link x
-      ++ grounds_text old.rule (length levels) link.0 y t)
+      ++ grounds_text as_recorded old.rule (length levels) link.0 y t)
 
 -- a line after the header was heard
 pub record HearsLine {w : ℕ} (old new : Inquiry) (judge : TraceJudge w) (number : ℕ) (line : List ℕ) (told : Bool)
@@ -182,7 +184,7 @@ pub record HasTold (allow : Liberties) (i : Inquiry) (lines : List (List ℕ)) :
   pub spells : Spells (spelled i.line) link (beat.D response)
   pub breaks : broken_together levels may (link, beat.D response) trace ≡ Some (OfMemory i.rule)
   pub says : i.reasons.items ≡ memory_front_text i.rule (i.good + 1) link (beat.D response)
-      ++ grounds_text i.rule (length levels) link.0 response trace
+      ++ grounds_text as_recorded i.rule (length levels) link.0 response trace
 
 -- if the line at fault was reached, it was explained
 abbrev pub EndsTestimony : Testimony → List (List ℕ) → Type 0

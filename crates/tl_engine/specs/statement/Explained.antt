@@ -20,6 +20,7 @@ use Rattle.tl_explain.specs.statement.Sentences.{beat_line, memory_rule_line, ru
 use Rattle.tl_together.specs.declared.breach.Breach.TheVariants.{OfMemory}
 use Rattle.tl_params.specs.declared.memory_rule.MemoryRule.{MemoryRule}
 use Rattle.tl_together.specs.statement.Coherence.{broken_together}
+use Rattle.tl_witness.specs.statement.Naming.{as_recorded}
 use Rattle.tl_witness.specs.statement.Grounds.{grounds_text}
 use Rattle.tl_engine.specs.statement.Lines.{lines_of}
 use Rattle.tl_engine.specs.declared.fault.Fault.{Fault}
@@ -142,7 +143,7 @@ pub record IsWitnessed (allow : Liberties) (old new : Option (List ℕ)) (n : �
   pub spells : Spells line link (beat.D response)
   pub breaks : broken_together levels may (link, beat.D response) trace ≡ Some (OfMemory rule)
   pub says : reasons ≡ memory_front_text rule n link (beat.D response)
-      ++ grounds_text rule (length levels) link.0 response trace
+      ++ grounds_text as_recorded rule (length levels) link.0 response trace
 
 -- the rule isn't one of legality, which a beat breaks by itself
 abbrev pub is_of_order : Rule → Bool

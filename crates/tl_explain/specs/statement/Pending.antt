@@ -10,6 +10,7 @@ use Rattle.tl_explain.specs.statement.Spelled.{spelled}
 use Rattle.tl_explain.specs.declared.ledger.Kind.{Kind}
 use Rattle.tl_explain.specs.declared.ledger.Kind.TheVariants.{Request, Release, Grant, Probe, Burst}
 use Rattle.tl_explain.specs.declared.ledger.Pending.{Pending}
+use Rattle.tl_explain.specs.declared.told.Spelling.{Spelling}
 use Rattle.tl_explain.specs.statement.Sentences.{beat_line}
 
 -- ---- the order
@@ -50,23 +51,29 @@ missing Grant = codes "a Grant without GrantAck"
 missing Probe = codes "a Probe without ProbeAck"
 missing Burst = codes "a burst that isn't complete"
 
--- that answer, and the beat that began the message
-unfoldable pub pending_text : {w : ℕ} → Pending → Link → Beat w → List ℕ
-pending_text message link beat =
-    codes "  " ++ missing message.kind ++ codes ":\n" ++ beat_line message.opening.line link beat
+-- that answer, in a line of its own
+unfoldable pub missing_line : Kind → List ℕ
+missing_line kind = codes "  " ++ missing kind ++ codes ":\n"
 
--- the text for one message is appended; its line spells a beat of w bytes
-abbrev pub TellsOne : ℕ → Pending → List ℕ → List ℕ → Type 0
-TellsOne w message old new = (link : Link) (beat : Beat w) → Spells (spelled message.opening.spelling) link beat
-    → new ≡ old ++ pending_text message link beat
+-- how the words of a beat are appended as it was recorded: a line that spells a beat of w bytes has the words of that
+-- beat
+abbrev pub says_recorded : ℕ → ℕ → Spelling → List ℕ → List ℕ → Type 0
+says_recorded w number line old new = (link : Link) (beat : Beat w) → Spells (spelled line) link beat
+    → new ≡ old ++ beat_line number link beat
+
+-- the text for one message is appended: the answer that it lacks, and in these words the beat that began it
+abbrev pub TellsOne : (ℕ → Spelling → List ℕ → List ℕ → Type 0) → Pending → List ℕ → List ℕ → Type 0
+TellsOne says message old new =
+    says message.opening.line message.opening.spelling (old ++ missing_line message.kind) new
 
 -- the texts of at most n messages are appended: of the oldest after this one, each before the next
-unfoldable pub TellsOldest : ℕ → List Pending → Option Pending → ℕ → List ℕ → List ℕ → Type 0
-TellsOldest w pending after zero old new = new ≡ old
-TellsOldest w pending after (suc n) old new =
+unfoldable pub TellsOldest : (ℕ → Spelling → List ℕ → List ℕ → Type 0) → List Pending → Option Pending → ℕ → List ℕ
+    → List ℕ → Type 0
+TellsOldest says pending after zero old new = new ≡ old
+TellsOldest says pending after (suc n) old new =
     (IsNext pending after None × (new ≡ old))
-    ⊎ ((next : Pending) × (mid : List ℕ) × IsNext pending after (Some next) × TellsOne w next old mid
-    × TellsOldest w pending (Some next) n mid new)
+    ⊎ ((next : Pending) × (mid : List ℕ) × IsNext pending after (Some next) × TellsOne says next old mid
+    × TellsOldest says pending (Some next) n mid new)
 
 -- the number of pending messages
 unfoldable pub pending_heading : ℕ → List ℕ
@@ -76,10 +83,10 @@ pending_heading count = codes "  pending at the end: " ++ decimal count ++ codes
 unfoldable pub pending_rest : ℕ → List ℕ
 pending_rest count = if nat_lt 20 count then codes "  and " ++ decimal (count - 20) ++ codes " more\n" else []
 
--- the text for these messages is appended: their number, the oldest 20, and the number of the others
-abbrev pub TellsPending : ℕ → List Pending → List ℕ → List ℕ → Type 0
-TellsPending w [] old new = new ≡ old ++ codes "  nothing is pending at the end\n"
-TellsPending w (message ∷ more) old new =
+-- the text for these messages is appended: their number, in these words the oldest 20, and the number of the others
+abbrev pub TellsPending : (ℕ → Spelling → List ℕ → List ℕ → Type 0) → List Pending → List ℕ → List ℕ → Type 0
+TellsPending says [] old new = new ≡ old ++ codes "  nothing is pending at the end\n"
+TellsPending says (message ∷ more) old new =
     (mid : List ℕ)
-    × TellsOldest w (message ∷ more) None 20 (old ++ pending_heading (length (message ∷ more))) mid
+    × TellsOldest says (message ∷ more) None 20 (old ++ pending_heading (length (message ∷ more))) mid
     × (new ≡ mid ++ pending_rest (length (message ∷ more)))

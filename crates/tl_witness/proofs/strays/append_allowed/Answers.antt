@@ -10,7 +10,7 @@ returns-then-not-allows g c = λ n.
     let e = c.args.expected.now in
     let at : c.allows.result ≡ allows e (64 * block_at e.address + c.args.place) c.args.value =
     rw c.from.ensures at (c.allows.ensures (omega (arith, c.from.ensures, c.requires))) in
-    may-not-be (allows e (64 * block_at e.address + c.args.place))
+    may-not-be (g.X.Places.names c.args.places.now) (allows e (64 * block_at e.address + c.args.place))
     (told_of c.args.judge.now (64 * block_at e.address + c.args.place)) c.args.any n c.args.value c.args.out.now.items
     (sym at ∙ search rules)
 
@@ -19,9 +19,11 @@ returns g c = λ n.
     let e = c.args.expected.now in
     let at : c.allows.result ≡ allows e (64 * block_at e.address + c.args.place) c.args.value =
     rw c.from.ensures at (c.allows.ensures (omega (arith, c.from.ensures, c.requires))) in
-    may-be (allows e (64 * block_at e.address + c.args.place))
+    may-be (g.X.Places.names c.args.places.now) (allows e (64 * block_at e.address + c.args.place))
     (told_of c.args.judge.now (64 * block_at e.address + c.args.place)) c.args.any n c.args.value c.args.out.now.items
     c.extend_from_slice.new.self.items c.append_value.new.out.items (sym at ∙ search rules) (search rules)
-    (told-there c.args.judge.now (block_at e.address) c.block_at.result c.args.place c.args.value
-    c.told_at-moment.result c.extend_from_slice.new.self.items c.append_value.new.out.items c.requires c.block_at.ensures
+    (told-there (g.X.Places.names c.args.places.now) c.args.judge.now (block_at e.address) c.block_at.result
+    c.args.place c.args.value
+    c.told_at-moment.result c.extend_from_slice.new.self.items c.append_value.new.out.items c.requires
+    c.block_at.ensures
     c.told_at-moment.ensures.kept c.in_ok-append_value.ensures)

@@ -9,7 +9,7 @@ use Rattle.tl_witness.proofs.strays.append_values.Goals as goal
 pub loop-value-preserved : goal.loop-value-preserved
 loop-value-preserved g c =
     let e = c.args.expected.now in
-    next-value (allows e (64 * block_at e.address + c.args.place))
+    next-value (g.X.Places.names c.args.places.now) (allows e (64 * block_at e.address + c.args.place))
     (told_of c.args.judge.now (64 * block_at e.address + c.args.place)) c.loop-value.any c.in_ok-any.any 256
     c.loop-value.value c.loop-value.out.items _ _ c.loop-value-test.true c.in_ok-any.ensures
     c.loop-value.invariant
@@ -18,7 +18,7 @@ pub returns : goal.returns
 returns g c = on_ok_weaker c.append_nothing.result
     (λ none.
     let e = c.args.expected.now in
-    all-values (allows e (64 * block_at e.address + c.args.place))
+    all-values (g.X.Places.names c.args.places.now) (allows e (64 * block_at e.address + c.args.place))
     (told_of c.args.judge.now (64 * block_at e.address + c.args.place)) c.loop-value.any 256 c.loop-value.value
     c.loop-value.out.items _ _ (omega (arith, c.loop-value-test.false)) none c.loop-value.invariant)
     c.append_nothing.ensures

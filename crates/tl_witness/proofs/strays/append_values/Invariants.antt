@@ -7,7 +7,9 @@ use Rattle.tl_witness.proofs.strays.append_values.Given as goal
 
 abbrev pub invariant-loop-value : goal.invariant-loop-value
 invariant-loop-value g l =
-    l.out.items ++ values_text (allows l.expected (64 * block_at l.expected.address + l.place))
+    l.out.items ++ values_text (g.X.Places.names l.places)
+    (allows l.expected (64 * block_at l.expected.address + l.place))
     (told_of l.judge (64 * block_at l.expected.address + l.place)) l.any (256 - l.value) l.value
-    ≡ l.initial.out.items ++ values_text (allows l.expected (64 * block_at l.expected.address + l.place))
+    ≡ l.initial.out.items ++ values_text (g.X.Places.names l.places)
+    (allows l.expected (64 * block_at l.expected.address + l.place))
     (told_of l.judge (64 * block_at l.expected.address + l.place)) false 256 0

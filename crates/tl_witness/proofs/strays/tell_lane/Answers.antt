@@ -10,7 +10,8 @@ returns-then-allows-clause-told g c = λ rest.
     let e = c.args.expected.now in
     let at : c.allows.result ≡ allows e (64 * block_at e.address + c.args.place) c.args.byte =
     rw c.from.ensures at (c.allows.ensures (omega (arith, c.from.ensures, c.requires.place))) in
-    allowed (allows e) (told_of c.args.judge.now) c.args.count (64 * block_at e.address + c.args.place) c.args.byte
+    allowed (g.X.Places.names c.args.places.now) (allows e) (told_of c.args.judge.now) c.args.count
+    (64 * block_at e.address + c.args.place) c.args.byte
     rest c.args.out.now.items
     (sym at ∙ c.if-allows.true)
 
@@ -19,7 +20,7 @@ returns-clause-told g c = λ rest.
     let e = c.args.expected.now in
     let at : c.allows.result ≡ allows e (64 * block_at e.address + c.args.place) c.args.byte =
     rw c.from.ensures at (c.allows.ensures (omega (arith, c.from.ensures, c.requires.place))) in
-    stray (allows e) (told_of c.args.judge.now) c.args.count (c.args.count + 1)
+    stray (g.X.Places.names c.args.places.now) (allows e) (told_of c.args.judge.now) c.args.count (c.args.count + 1)
     (64 * block_at e.address + c.args.place) c.args.byte rest
     c.args.out.now.items c.append_counted.new.out.items (sym at ∙ c.if-allows.false) refl
     c.in_ok-append_counted.ensures

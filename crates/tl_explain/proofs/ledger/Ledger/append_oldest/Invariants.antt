@@ -5,5 +5,6 @@ use Rattle.tl_explain.proofs.ledger.Ledger.append_oldest.Given as goal
 
 -- what is still to be told comes behind what was
 abbrev pub invariant-loop : goal.invariant-loop
-invariant-loop g l = (new : List ℕ) → TellsOldest g.row.W l.self.pending.items l.after (20 - l.counter) l.out.items new
-    → TellsOldest g.row.W l.self.pending.items None 20 l.initial.out.items new
+invariant-loop g l = (new : List ℕ) → TellsOldest (g.X.Wording.says l.wording) l.self.pending.items l.after
+    (20 - l.counter) l.out.items new
+    → TellsOldest (g.X.Wording.says l.wording) l.self.pending.items None 20 l.initial.out.items new

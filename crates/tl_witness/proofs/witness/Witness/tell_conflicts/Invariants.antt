@@ -8,6 +8,7 @@ use Rattle.tl_witness.specs.statement.Grounds.{conflicts_text}
 use Rattle.tl_witness.proofs.witness.Witness.tell_conflicts.Given as goal
 
 abbrev pub invariant-loop-link : goal.invariant-loop-link
-invariant-loop-link g l = (levels : List Level) (may : Liberties) (block : ℕ) (t : Trace _) → Knows l.judge levels may t false
+invariant-loop-link g l = (levels : List Level) (may : Liberties) (block : ℕ) (t : Trace _)
+    → Knows l.judge levels may t false
     → KnowsWitness l.self (length levels) block t
-    → l.out.items ≡ l.initial.out.items ++ conflicts_text l.link l.own l.given block t
+    → l.out.items ≡ l.initial.out.items ++ conflicts_text (g.X.Places.names l.places) l.link l.own l.given block t

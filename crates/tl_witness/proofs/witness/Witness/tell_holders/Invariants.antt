@@ -5,5 +5,5 @@ use Rattle.tl_witness.specs.statement.Grounds.{holders_text}
 use Rattle.tl_witness.proofs.witness.Witness.tell_holders.Given as goal
 
 abbrev pub invariant-loop-link : goal.invariant-loop-link
-invariant-loop-link l = (w n block : ℕ) (t : Trace w) → KnowsWitness l.self n block t
-    → l.out.items ≡ l.initial.out.items ++ holders_text l.link l.given block t
+invariant-loop-link g l = (w n block : ℕ) (t : Trace w) → KnowsWitness l.self n block t
+    → l.out.items ≡ l.initial.out.items ++ holders_text (g.X.Places.names l.places) l.link l.given block t

@@ -1,0 +1,4 @@
+mod Lessons
+mod Stories
+mod WideExplaining
+mod WideReplaying

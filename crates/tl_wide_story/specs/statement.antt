@@ -1,0 +1,2 @@
+pub mod WideExplained
+pub mod WideNaming

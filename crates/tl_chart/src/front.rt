@@ -91,7 +91,7 @@ fn append_told(line: u64, words: &[u8], out: &mut Vec<u8>) -> Result<(), AllocEr
     out.extend_from_slice(b".\n")
 }
 
-/// Appends the words of the notes before a line, after those that have been told. Returns how many have been told then.
+/// Appends the words of the notes before a line, but for the first `told`. Returns the number of notes before it.
 fn append_noted(
     notes: &[Note],
     told: usize,

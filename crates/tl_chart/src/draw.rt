@@ -1,35 +1,31 @@
-//! The parts of a chart, in SVG.
+//! The messages and notes of a chart, in SVG.
 
-ghost use Rattle.std.specs.Prelude.{◌≡◌, ◌++◌, ◌∷◌, ◌≤◌, ℕ, List, IfOk, OnOk};
-ghost use Rattle.tl_chart.specs.declared.mark.Mark.{Mark};
+ghost use Rattle.std.specs.Prelude.{◌≡◌, ◌++◌, ◌≤◌, OnOk};
 ghost use Rattle.tl_chart.specs.statement.Picture;
-ghost use Rattle.tl_chart.specs.statement.Words.{escaped, words_of};
-ghost use Rattle.tl_params.specs.declared.perm.Perm.TheVariants as perm;
+ghost use Rattle.tl_chart.specs.statement.Words.{words_of};
 
 use crate::arrow::Arrow;
 use crate::layout::{
     MANAGER, bracket_width, end_place, is_down, letter, link_place, row_of, row_place,
 };
-use crate::mark::Mark;
-use crate::text::{append_escaped, append_with};
+use crate::names::Names;
+use crate::note::Note;
+use crate::text::{append, append_escaped, append_with};
 use crate::words::append_words;
 use std::alloc::AllocError;
-use tl_params::perm::Perm;
 
-/// Appends a text.
-fn append(text: &str, out: &mut Vec<u8>) -> Result<(), AllocError>
-    ensures { OnOk result (out.new.items ≡ out.old.items ++ text.now) }
-{
-    out.extend_from_slice(text.as_bytes())
-}
-
-/// Appends the words of a message, escaped for SVG.
-pub fn append_escaped_words(arrow: &Arrow, out: &mut Vec<u8>) -> Result<(), AllocError>
-    ensures { OnOk result (out.new.items ≡ out.old.items ++ escaped (words_of arrow.now)) }
-{
-    let mut words = Vec::new(*out.allocator());
-    append_words(arrow, &mut words)?;
-    append_escaped(&words, out)
+/// The names, the rows and the lifelines of a chart, for all its parts.
+#[derive(Clone, Copy)]
+pub struct Sheet<'a> {
+    pub names: &'a Names,
+    /// The lines of the rows.
+    pub rows: &'a [u64],
+    /// The links that have a lifeline.
+    pub links: &'a [u8],
+    /// The first line that is drawn.
+    pub first: u64,
+    /// The line of the beat at fault; 0 if it isn't drawn.
+    pub fault: u64,
 }
 
 /// The class for an arrow's colour.
@@ -72,25 +68,41 @@ fn append_first(line: u64, y: u64, out: &mut Vec<u8>) -> Result<(), AllocError>
 }
 
 #[tactic(auto, unfolding(crate::specs::statement::Picture::told_text))]
-/// Appends the words of a message beside it.
-fn append_told(arrow: &Arrow, y: u64, out: &mut Vec<u8>) -> Result<(), AllocError>
+/// Appends the words of a row.
+fn append_told(words: &[u8], y: u64, out: &mut Vec<u8>) -> Result<(), AllocError>
     requires { y ≤ 1000000 }
-    ensures { OnOk result (out.new.items ≡ out.old.items ++ Picture.told_text y arrow.now) }
+    ensures { OnOk result (out.new.items ≡ out.old.items ++ Picture.told_text y words.now) }
 {
     append_with("</text><text x='70' y='", y + 4, out)?;
     append("'>", out)?;
-    append_escaped_words(arrow, out)?;
+    append_escaped(words, out)?;
     append("</text>\n", out)
 }
 
 #[tactic(auto, unfolding(crate::specs::statement::Picture::row_text))]
-/// Appends the row of a message: the number of its first line, and its words.
-fn append_row(arrow: &Arrow, y: u64, out: &mut Vec<u8>) -> Result<(), AllocError>
+/// Appends a row: the number of its line, and its words.
+fn append_row(line: u64, words: &[u8], y: u64, out: &mut Vec<u8>) -> Result<(), AllocError>
     requires { y ≤ 1000000 }
-    ensures { OnOk result (out.new.items ≡ out.old.items ++ Picture.row_text y arrow.now) }
+    ensures { OnOk result (out.new.items ≡ out.old.items ++ Picture.row_text y line words.now) }
 {
-    append_first(arrow.first, y, out)?;
-    append_told(arrow, y, out)
+    append_first(line, y, out)?;
+    append_told(words, y, out)
+}
+
+/// Appends the row of a message.
+fn append_message_row(
+    names: &Names,
+    arrow: &Arrow,
+    y: u64,
+    out: &mut Vec<u8>,
+) -> Result<(), AllocError>
+    requires { y ≤ 1000000 }
+    ensures { OnOk result (out.new.items
+        ≡ out.old.items ++ Picture.row_text y arrow.now.first (words_of names.now arrow.now)) }
+{
+    let mut words = Vec::new(*out.allocator());
+    append_words(names, arrow, &mut words)?;
+    append_row(arrow.first, &words, y, out)
 }
 
 #[tactic(auto, unfolding(crate::specs::statement::Picture::shaft_text))]
@@ -209,15 +221,15 @@ fn append_bracket(
 /// Appends the bracket of a message with more than one beat.
 fn append_extent(
     arrow: &Arrow,
-    arrows: &[Arrow],
+    rows: &[u64],
     x: u64,
     y: u64,
     out: &mut Vec<u8>,
 ) -> Result<(), AllocError>
-    ensures { OnOk result (out.new.items ≡ out.old.items ++ Picture.extent_text arrows.now arrow.now x y) }
+    ensures { OnOk result (out.new.items ≡ out.old.items ++ Picture.extent_text rows.now arrow.now x y) }
 {
     if arrow.first < arrow.last {
-        append_bracket(arrow, x, y, end_place(arrows, arrow.last), out)
+        append_bracket(arrow, x, y, end_place(rows, arrow.last), out)
     } else {
         Ok(())
     }
@@ -225,169 +237,85 @@ fn append_extent(
 
 #[tactic(auto, unfolding(crate::specs::statement::Picture::arrow_text))]
 /// Appends a message: its row, its arrow, and its bracket if it has more than one beat.
-fn append_arrow(
-    arrow: &Arrow,
-    arrows: &[Arrow],
-    links: &[u8],
-    first: u64,
-    fault: u64,
-    out: &mut Vec<u8>,
-) -> Result<(), AllocError>
-    ensures { OnOk result (out.new.items
-        ≡ out.old.items ++ Picture.arrow_text arrows.now links.now first fault arrow.now) }
+fn append_arrow(sheet: &Sheet, arrow: &Arrow, out: &mut Vec<u8>) -> Result<(), AllocError>
+    ensures { OnOk result (out.new.items ≡ out.old.items ++ Picture.arrow_text sheet.now.names.now sheet.now.rows.now
+        sheet.now.links.now sheet.now.first sheet.now.fault arrow.now) }
 {
-    let y = row_place(row_of(arrows, arrow.first));
-    let x = link_place(links, arrow.link.0);
-    append_class(arrow, first, fault, out)?;
-    append_row(arrow, y, out)?;
+    let y = row_place(row_of(sheet.rows, arrow.first));
+    let x = link_place(sheet.links, arrow.link.0);
+    append_class(arrow, sheet.first, sheet.fault, out)?;
+    append_message_row(sheet.names, arrow, y, out)?;
     append_across(arrow, x, y, out)?;
-    append_extent(arrow, arrows, x, y, out)?;
+    append_extent(arrow, sheet.rows, x, y, out)?;
     append("</g>\n", out)
 }
 
 /// Appends all messages, in their order.
-pub fn append_arrows(
-    arrows: &[Arrow],
-    links: &[u8],
-    first: u64,
-    fault: u64,
-    out: &mut Vec<u8>,
-) -> Result<(), AllocError>
-    ensures { OnOk result (out.new.items
-        ≡ out.old.items ++ Picture.arrows_text arrows.now links.now first fault) }
+pub fn append_arrows(sheet: &Sheet, arrows: &[Arrow], out: &mut Vec<u8>) -> Result<(), AllocError>
+    ensures { OnOk result (out.new.items ≡ out.old.items ++ Picture.arrows_text sheet.now.names.now sheet.now.rows.now
+        sheet.now.links.now sheet.now.first sheet.now.fault arrows.now) }
 {
     for arrow in arrows {
-        append_arrow(arrow, arrows, links, first, fault, out)?;
+        append_arrow(sheet, arrow, out)?;
     }
     Ok(())
 }
 
-#[tactic(auto, unfolding(crate::specs::statement::Picture::bar_class))]
-/// Appends the class of a bar.
-fn append_bar_class(class: &str, out: &mut Vec<u8>) -> Result<(), AllocError>
-    ensures { OnOk result (out.new.items ≡ out.old.items ++ Picture.bar_class class.now) }
+/// The class of a full mark or a hollow one.
+fn mark_class(full: bool) -> &'static str
+    ensures { result.now ≡ Picture.mark_class full }
+{
+    if full { "w" } else { "r" }
+}
+
+#[tactic(auto, unfolding(crate::specs::statement::Picture::spot_class))]
+/// Appends the class and the size of a mark.
+fn append_spot_class(class: &str, out: &mut Vec<u8>) -> Result<(), AllocError>
+    ensures { OnOk result (out.new.items ≡ out.old.items ++ Picture.spot_class class.now) }
 {
     append("<rect class='", out)?;
     append(class, out)?;
-    append("'", out)
+    append("' width='6' height='6'", out)
 }
 
-#[tactic(auto, unfolding(crate::specs::statement::Picture::bar_side))]
-/// Appends the class of a bar, and its place beside a lifeline.
-fn append_bar_side(class: &str, x: u64, out: &mut Vec<u8>) -> Result<(), AllocError>
-    requires { x ≤ 1000000 }
-    ensures { OnOk result (out.new.items ≡ out.old.items ++ Picture.bar_side class.now x) }
+#[tactic(auto, unfolding(crate::specs::statement::Picture::spot_side))]
+/// Appends the class and the size of a mark, and its place from the left.
+fn append_spot_side(class: &str, x: u64, out: &mut Vec<u8>) -> Result<(), AllocError>
+    ensures { OnOk result (out.new.items ≡ out.old.items ++ Picture.spot_side class.now x) }
 {
-    append_bar_class(class, out)?;
-    append_with(" x='", x + 4, out)
+    append_spot_class(class, out)?;
+    append_with(" x='", x.saturating_sub(5), out)
 }
 
-#[tactic(auto, unfolding(crate::specs::statement::Picture::bar_size))]
-/// Appends the place and height of a bar.
-fn append_bar_size(from: u64, to: u64, out: &mut Vec<u8>) -> Result<(), AllocError>
-    ensures { OnOk result (out.new.items ≡ out.old.items ++ Picture.bar_size from to) }
+#[tactic(auto, unfolding(crate::specs::statement::Picture::spot_text))]
+/// Appends a mark on a lifeline.
+fn append_spot(class: &str, x: u64, y: u64, out: &mut Vec<u8>) -> Result<(), AllocError>
+    ensures { OnOk result (out.new.items ≡ out.old.items ++ Picture.spot_text class.now x y) }
 {
-    append_with("' y='", from, out)?;
-    append_with("' width='6' height='", to.saturating_sub(from), out)?;
+    append_spot_side(class, x, out)?;
+    append_with("' y='", y.saturating_sub(3), out)?;
     append("'/>\n", out)
 }
 
-#[tactic(auto, unfolding(crate::specs::statement::Picture::bar_of))]
-/// Appends a bar of a class beside a lifeline, between two places from the top.
-fn append_bar_of(
-    class: &str,
-    x: u64,
-    from: u64,
-    to: u64,
-    out: &mut Vec<u8>,
-) -> Result<(), AllocError>
-    requires { x ≤ 1000000 }
-    ensures { OnOk result (out.new.items ≡ out.old.items ++ Picture.bar_of class.now x from to) }
+#[tactic(auto, unfolding(crate::specs::statement::Picture::note_text))]
+/// Appends a note: its row, and a mark on the lifeline of its link.
+fn append_note(sheet: &Sheet, note: &Note, out: &mut Vec<u8>) -> Result<(), AllocError>
+    ensures { OnOk result (out.new.items
+        ≡ out.old.items ++ Picture.note_text sheet.now.rows.now sheet.now.links.now note.now) }
 {
-    append_bar_side(class, x, out)?;
-    append_bar_size(from, to, out)
+    let y = row_place(row_of(sheet.rows, note.line));
+    let x = link_place(sheet.links, note.link.0);
+    append_row(note.line, note.words.as_slice(), y, out)?;
+    append_spot(mark_class(note.full), x, y, out)
 }
 
-#[tactic(auto, unfolding(crate::specs::statement::Picture::bar_text))]
-/// Appends the bar of a permission; there is none for None.
-fn append_bar(held: Perm, x: u64, from: u64, to: u64, out: &mut Vec<u8>) -> Result<(), AllocError>
-    requires { x ≤ 1000000 }
-    ensures { OnOk result (out.new.items ≡ out.old.items ++ Picture.bar_text held x from to) }
+/// Appends all notes, in their order.
+pub fn append_notes(sheet: &Sheet, notes: &[Note], out: &mut Vec<u8>) -> Result<(), AllocError>
+    ensures { OnOk result (out.new.items
+        ≡ out.old.items ++ Picture.notes_text sheet.now.rows.now sheet.now.links.now notes.now) }
 {
-    match held {
-        Perm::None => Ok(()),
-        Perm::Branch => append_bar_of("r", x, from, to, out),
-        Perm::Trunk => append_bar_of("w", x, from, to, out),
+    for note in notes {
+        append_note(sheet, note, out)?;
     }
-}
-
-#[tactic(auto, unfolding(crate::specs::statement::Picture::mark_place))]
-/// The place at which a permission changes, from the top; the top itself if that was before the window.
-fn mark_place(mark: &Mark, arrows: &[Arrow], first: u64) -> u64
-    ensures { result ≡ Picture.mark_place arrows.now first mark.now }
-{
-    if mark.line < first {
-        row_place(0)
-    } else {
-        end_place(arrows, mark.line)
-    }
-}
-
-/// A permission, and the place from which it is held.
-#[derive(Clone, Copy)]
-struct Bar {
-    held: Perm,
-    from: u64,
-}
-
-#[tactic(auto, unfolding(crate::specs::statement::Picture::bars_text))]
-/// Appends the bar that a mark ends, if the mark is of the link at x. Returns the bar that goes on.
-fn append_mark(
-    bar: Bar,
-    link: u8,
-    mark: &Mark,
-    arrows: &[Arrow],
-    first: u64,
-    x: u64,
-    out: &mut Vec<u8>,
-) -> Result<Bar, AllocError>
-    requires { x ≤ 1000000 }
-    ensures { IfOk result (λ next. (bottom : ℕ) (rest : List Mark) →
-        out.new.items ++ Picture.bars_text arrows.now first bottom link x next.held next.from rest
-        ≡ out.old.items ++ Picture.bars_text arrows.now first bottom link x bar.held bar.from (mark.now ∷ rest)) }
-{
-    if mark.link.0 != link {
-        return Ok(bar);
-    }
-    let place = mark_place(mark, arrows, first);
-    append_bar(bar.held, x, bar.from, place, out)?;
-    Ok(Bar {
-        held: mark.held,
-        from: place,
-    })
-}
-
-#[tactic(auto, unfolding(crate::specs::statement::Picture::bars_text))]
-/// Appends the bars of a link, from its marks.
-pub fn append_bars(
-    link: u8,
-    marks: &[Mark],
-    arrows: &[Arrow],
-    links: &[u8],
-    first: u64,
-    bottom: u64,
-    out: &mut Vec<u8>,
-) -> Result<(), AllocError>
-    ensures { OnOk result (out.new.items ≡ out.old.items ++ Picture.bars_text arrows.now first bottom link
-        (Picture.link_place links.now link) perm.None (Picture.row_place 0) marks.now) }
-{
-    let x = link_place(links, link);
-    let mut bar = Bar {
-        held: Perm::None,
-        from: row_place(0),
-    };
-    for mark in marks {
-        bar = append_mark(bar, link, mark, arrows, first, x, out)?;
-    }
-    append_bar(bar.held, x, bar.from, bottom, out)
+    Ok(())
 }

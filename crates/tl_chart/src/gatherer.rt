@@ -111,6 +111,13 @@ impl Gatherer {
         self.closed && self.window.block.is_none()
     }
 
+    /// Whether drawing has ended.
+    pub fn is_closed(&self) -> bool
+        ensures { result ≡ self.now.closed }
+    {
+        self.closed
+    }
+
     /// The block whose permissions are drawn; `None` once drawing has ended.
     pub fn watched(&self) -> Option<u32>
         ensures { result ≡ watched self.now }

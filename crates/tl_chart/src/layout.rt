@@ -5,7 +5,6 @@ ghost use Rattle.tl_beat.specs.statement.Line.{letter};
 ghost use Rattle.tl_chart.specs.statement.Picture;
 ghost use Rattle.tl_chart.specs.statement.Messages.{channel_in};
 
-use crate::arrow::Arrow;
 use tl_beat::control::Control;
 
 /// The place of the manager's lifeline, from the left.
@@ -50,18 +49,18 @@ pub fn link_place(links: &[u8], link: u8) -> u64
     MANAGER + column_place(links.len(), column + 1)
 }
 
-/// The row of the last message that begins up to a line.
-pub fn row_of(arrows: &[Arrow], line: u64) -> usize
-    ensures { result ≡ Picture.row_of arrows.now line }
+/// The last row up to a line, among the rows of these lines.
+pub fn row_of(rows: &[u64], line: u64) -> usize
+    ensures { result ≡ Picture.row_of rows.now line }
 {
-    arrows.iter().filter(|arrow| arrow.first <= line).count()
+    rows.iter().filter(|row| **row <= line).count()
 }
 
 /// The place, from the top, for the end of a message or a change of permission.
-pub fn end_place(arrows: &[Arrow], line: u64) -> u64
-    ensures { result ≡ Picture.end_place arrows.now line }
+pub fn end_place(rows: &[u64], line: u64) -> u64
+    ensures { result ≡ Picture.end_place rows.now line }
 {
-    row_place(row_of(arrows, line)) + 7
+    row_place(row_of(rows, line)) + 7
 }
 
 /// Whether a message goes from the manager to the client.

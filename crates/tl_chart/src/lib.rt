@@ -3,14 +3,18 @@
 #![tactic(auto)]
 
 pub mod arrow;
+mod bars;
 pub mod blocks;
 pub mod chart;
 mod draw;
 mod drawing;
+mod front;
 pub mod gatherer;
 pub mod law;
 pub mod layout;
 pub mod mark;
+pub mod names;
+pub mod note;
 mod style;
 pub mod text;
 pub mod window;

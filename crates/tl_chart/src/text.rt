@@ -3,10 +3,20 @@
 ghost use Rattle.std.specs.Prelude.{◌≡◌, ◌++◌, ◌<◌, ◌%◌, OnOk};
 ghost use Rattle.std.specs.Fmt.{decimal};
 ghost use Rattle.tl_beat.specs.statement.Digits.{digit_char, digits};
-ghost use Rattle.tl_chart.specs.statement.Words.{block_digits, escaped, escaped_byte};
+ghost use Rattle.tl_chart.specs.statement.Names.{block_digits, long_block_digits};
+ghost use Rattle.tl_chart.specs.statement.Words.{escaped, escaped_byte};
 
+use arrayvec::ArrayVec;
 use itoa::Buffer;
 use std::alloc::AllocError;
+use tl_wide::text::append_long;
+
+/// Appends a text.
+pub fn append(text: &str, out: &mut Vec<u8>) -> Result<(), AllocError>
+    ensures { OnOk result (out.new.items ≡ out.old.items ++ text.now) }
+{
+    out.extend_from_slice(text.as_bytes())
+}
 
 /// Appends a number in decimal.
 pub fn append_number(number: u64, out: &mut Vec<u8>) -> Result<(), AllocError>
@@ -103,4 +113,33 @@ pub fn append_block(block: u32, out: &mut Vec<u8>) -> Result<(), AllocError>
     } else {
         append_seven(block, out)
     }
+}
+
+/// Appends a number in fifteen hexadecimal digits.
+fn append_fifteen(number: u64, out: &mut Vec<u8>) -> Result<(), AllocError>
+    ensures { OnOk result (out.new.items ≡ out.old.items ++ digits 15 number) }
+{
+    let mut text = ArrayVec::new();
+    append_long(&mut text, number, 15);
+    out.extend_from_slice(text.as_slice())
+}
+
+/// Appends the number of a block in three hexadecimal digits, in seven, or in fifteen if it needs more.
+pub fn append_long_block(block: u64, out: &mut Vec<u8>) -> Result<(), AllocError>
+    ensures { OnOk result (out.new.items ≡ out.old.items ++ long_block_digits block) }
+{
+    if block < 268435456 {
+        append_block(block as u32, out)
+    } else {
+        append_fifteen(block, out)
+    }
+}
+
+/// Appends a number of two bytes in four hexadecimal digits.
+pub fn append_two_bytes(number: u16, out: &mut Vec<u8>) -> Result<(), AllocError>
+    ensures { OnOk result (out.new.items ≡ out.old.items ++ digits 4 number) }
+{
+    let mut text = ArrayVec::new();
+    append_long(&mut text, u64::from(number), 4);
+    out.extend_from_slice(text.as_slice())
 }

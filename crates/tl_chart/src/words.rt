@@ -5,8 +5,10 @@ ghost use Rattle.tl_chart.specs.statement.Words;
 
 use crate::arrow::Arrow;
 use crate::layout::letter;
-use crate::text::{append_block, append_byte, append_number};
+use crate::names::Names;
+use crate::text::{append_byte, append_number};
 use std::alloc::AllocError;
+use tl_beat::beat::Link;
 use tl_beat::control::Control;
 use tl_explain::params::{name_on_a, name_on_b, name_on_c, name_on_d};
 use tl_rules::kind::is_grant;
@@ -66,61 +68,73 @@ fn append_name(arrow: &Arrow, out: &mut Vec<u8>) -> Result<(), AllocError>
 
 #[tactic(auto, unfolding(crate::specs::statement::Words::block_text))]
 /// Appends the block, if there is one.
-fn append_block_word(block: Option<u32>, out: &mut Vec<u8>) -> Result<(), AllocError>
-    ensures { OnOk result (out.new.items ≡ out.old.items ++ Words.block_text block) }
+fn append_block_word(names: &Names, block: Option<u32>, out: &mut Vec<u8>) -> Result<(), AllocError>
+    ensures { OnOk result (out.new.items ≡ out.old.items ++ Words.block_text names.now block) }
 {
     match block {
         None => Ok(()),
         Some(block) => {
             out.extend_from_slice(b" block ")?;
-            append_block(block, out)
+            names.append_block(block, out)
         }
     }
 }
 
 #[tactic(auto, unfolding(crate::specs::statement::Words::source_text))]
-/// Appends the source.
-fn append_source(source: u8, out: &mut Vec<u8>) -> Result<(), AllocError>
-    ensures { OnOk result (out.new.items ≡ out.old.items ++ Words.source_text source) }
+/// Appends the source of a link.
+fn append_source(names: &Names, link: Link, source: u8, out: &mut Vec<u8>) -> Result<(), AllocError>
+    ensures { OnOk result (out.new.items ≡ out.old.items ++ Words.source_text names.now link.0 source) }
 {
     out.extend_from_slice(b" source ")?;
-    append_byte(source, out)
+    names.append_source(link, source, out)
 }
 
 #[tactic(auto, unfolding(crate::specs::statement::Words::sink_text))]
 /// Appends the sink.
-fn append_sink(sink: u8, out: &mut Vec<u8>) -> Result<(), AllocError>
-    ensures { OnOk result (out.new.items ≡ out.old.items ++ Words.sink_text sink) }
+fn append_sink(names: &Names, sink: u8, out: &mut Vec<u8>) -> Result<(), AllocError>
+    ensures { OnOk result (out.new.items ≡ out.old.items ++ Words.sink_text names.now sink) }
 {
     out.extend_from_slice(b" sink ")?;
-    append_byte(sink, out)
+    names.append_sink(sink, out)
 }
 
 /// Appends source and sink.
-fn append_both(source: u8, sink: u8, out: &mut Vec<u8>) -> Result<(), AllocError>
-    ensures { OnOk result (out.new.items ≡ out.old.items ++ (Words.source_text source ++ Words.sink_text sink)) }
+fn append_both(
+    names: &Names,
+    link: Link,
+    source: u8,
+    sink: u8,
+    out: &mut Vec<u8>,
+) -> Result<(), AllocError>
+    ensures { OnOk result (out.new.items ≡ out.old.items
+        ++ (Words.source_text names.now link.0 source ++ Words.sink_text names.now sink)) }
 {
-    append_source(source, out)?;
-    append_sink(sink, out)
+    append_source(names, link, source, out)?;
+    append_sink(names, sink, out)
 }
 
 #[tactic(auto, unfolding(crate::specs::statement::Words::ends_text))]
 /// Appends source and sink, if the message has them.
-fn append_ends(control: &Control, out: &mut Vec<u8>) -> Result<(), AllocError>
-    ensures { OnOk result (out.new.items ≡ out.old.items ++ Words.ends_text control.now) }
+fn append_ends(
+    names: &Names,
+    link: Link,
+    control: &Control,
+    out: &mut Vec<u8>,
+) -> Result<(), AllocError>
+    ensures { OnOk result (out.new.items ≡ out.old.items ++ Words.ends_text names.now link.0 control.now) }
 {
     match control {
-        Control::A(x) => append_source(x.source, out),
+        Control::A(x) => append_source(names, link, x.source, out),
         Control::B(_) => Ok(()),
-        Control::C(x) => append_source(x.source, out),
+        Control::C(x) => append_source(names, link, x.source, out),
         Control::D(x) => {
             if is_grant(x.opcode) {
-                append_both(x.source, x.sink, out)
+                append_both(names, link, x.source, x.sink, out)
             } else {
-                append_source(x.source, out)
+                append_source(names, link, x.source, out)
             }
         }
-        Control::E(sink) => append_sink(*sink, out),
+        Control::E(sink) => append_sink(names, *sink, out),
     }
 }
 
@@ -150,12 +164,12 @@ fn append_beats(beats: u8, complete: bool, out: &mut Vec<u8>) -> Result<(), Allo
     }
 }
 
-/// Appends the words of a message.
-pub fn append_words(arrow: &Arrow, out: &mut Vec<u8>) -> Result<(), AllocError>
-    ensures { OnOk result (out.new.items ≡ out.old.items ++ Words.words_of arrow.now) }
+/// Appends the words of a message, with these names.
+pub fn append_words(names: &Names, arrow: &Arrow, out: &mut Vec<u8>) -> Result<(), AllocError>
+    ensures { OnOk result (out.new.items ≡ out.old.items ++ Words.words_of names.now arrow.now) }
 {
     append_name(arrow, out)?;
-    append_block_word(arrow.block, out)?;
-    append_ends(&arrow.control, out)?;
-    append_beats(arrow.beats, arrow.complete, out)
+    append_block_word(names, arrow.block, out)?;
+    append_ends(names, arrow.link, &arrow.control, out)?;
+    append_beats(names.beats_of(arrow.beats), arrow.complete, out)
 }

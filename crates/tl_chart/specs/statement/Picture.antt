@@ -1,5 +1,5 @@
--- The picture: the places of a chart's parts, and the drawing of messages and permissions. Each message has a row. Rows
--- count from 1, and row 0 is the upper end of the lifelines.
+-- The picture: the places of a chart's parts, and the drawing of messages, notes and permissions. Each message and each
+-- note has a row. Rows count from 1, and row 0 is the upper end of the lifelines.
 use Rattle.std.specs.Prelude.{ℕ, ◌+◌, ◌*◌, ◌-◌, Bool, true, false, List, [], ◌∷◌, ◌++◌, ◌==◌, codes, count_by}
 use Rattle.std.specs.Prelude.{if◌then◌else◌, length, min, nat_le, nat_lt}
 use Rattle.std.specs.Fmt.{decimal}
@@ -9,6 +9,8 @@ use Rattle.tl_beat.specs.declared.control.Control.TheVariants as control
 use Rattle.tl_beat.specs.statement.Line.{letter}
 use Rattle.tl_chart.specs.declared.arrow.Arrow.{Arrow}
 use Rattle.tl_chart.specs.declared.mark.Mark.{Mark}
+use Rattle.tl_chart.specs.declared.names.Names.{Names}
+use Rattle.tl_chart.specs.declared.note.Note.{Note}
 use Rattle.tl_chart.specs.statement.Words.{escaped, words_of}
 use Rattle.tl_chart.specs.statement.Messages.{channel_in}
 use Rattle.tl_params.specs.declared.perm.Perm.{Perm}
@@ -36,14 +38,13 @@ lower links link = count_by (λ other. nat_lt other link) links
 abbrev pub link_place : List ℕ → ℕ → ℕ
 link_place links link = manager_place + column_place (length links) (min (lower links link) 255 + 1)
 
--- the row of the last message that begins up to a line
-abbrev pub row_of : List Arrow → ℕ → ℕ
-row_of arrows line = count_by (λ m. nat_le m.first line) arrows
+-- the last row up to a line, among the rows of these lines
+abbrev pub row_of : List ℕ → ℕ → ℕ
+row_of rows line = count_by (λ row. nat_le row line) rows
 
--- the place for the end of a message or a change of permission: after the row of the last message that begins up to
--- that line
-abbrev pub end_place : List Arrow → ℕ → ℕ
-end_place arrows line = row_place (row_of arrows line) + 7
+-- the place for the end of a message or a change of permission: after the last row up to that line
+abbrev pub end_place : List ℕ → ℕ → ℕ
+end_place rows line = row_place (row_of rows line) + 7
 
 -- ---- messages
 
@@ -75,14 +76,14 @@ class_text first fault m = codes "<g class='" ++ colour_class fault m ++ dash_cl
 unfoldable pub number_text : ℕ → ℕ → List ℕ
 number_text y line = codes "<text class='n' x='60' y='" ++ decimal (y + 4) ++ codes "'>" ++ decimal line
 
--- the words of the message
-unfoldable pub told_text : ℕ → Arrow → List ℕ
-told_text y m =
-    codes "</text><text x='70' y='" ++ decimal (y + 4) ++ codes "'>" ++ escaped (words_of m) ++ codes "</text>\n"
+-- the words of a row
+unfoldable pub told_text : ℕ → List ℕ → List ℕ
+told_text y words =
+    codes "</text><text x='70' y='" ++ decimal (y + 4) ++ codes "'>" ++ escaped words ++ codes "</text>\n"
 
--- the row of a message: the number of its first line, and its words
-unfoldable pub row_text : ℕ → Arrow → List ℕ
-row_text y m = number_text y m.first ++ told_text y m
+-- a row: the number of its line, and its words
+unfoldable pub row_text : ℕ → ℕ → List ℕ → List ℕ
+row_text y line words = number_text y line ++ told_text y words
 
 -- the shaft of the arrow, and a point at its start
 unfoldable pub shaft_text : ℕ → ℕ → ℕ → List ℕ
@@ -127,19 +128,48 @@ unfoldable pub bracket_text : Arrow → ℕ → ℕ → ℕ → List ℕ
 bracket_text m x from to = side_text (x - bracket_width m.control) from to ++ close_text m ++ codes "'/>\n"
 
 -- the bracket of a message with more than one beat
-unfoldable pub extent_text : List Arrow → Arrow → ℕ → ℕ → List ℕ
-extent_text arrows m x y = if nat_lt m.first m.last then bracket_text m x y (end_place arrows m.last) else []
+unfoldable pub extent_text : List ℕ → Arrow → ℕ → ℕ → List ℕ
+extent_text rows m x y = if nat_lt m.first m.last then bracket_text m x y (end_place rows m.last) else []
 
 -- the drawing of a message: its row, its arrow, its bracket
-unfoldable pub arrow_text : List Arrow → List ℕ → ℕ → ℕ → Arrow → List ℕ
-arrow_text arrows links first fault m =
-    class_text first fault m ++ row_text (row_place (row_of arrows m.first)) m
-    ++ across_text m (link_place links m.link.0) (row_place (row_of arrows m.first))
-    ++ extent_text arrows m (link_place links m.link.0) (row_place (row_of arrows m.first)) ++ codes "</g>\n"
+unfoldable pub arrow_text : Names → List ℕ → List ℕ → ℕ → ℕ → Arrow → List ℕ
+arrow_text names rows links first fault m =
+    class_text first fault m ++ row_text (row_place (row_of rows m.first)) m.first (words_of names m)
+    ++ across_text m (link_place links m.link.0) (row_place (row_of rows m.first))
+    ++ extent_text rows m (link_place links m.link.0) (row_place (row_of rows m.first)) ++ codes "</g>\n"
 
 -- all messages, in their order
-abbrev pub arrows_text : List Arrow → List ℕ → ℕ → ℕ → List ℕ
-arrows_text arrows links first fault = flat_map (arrow_text arrows links first fault) arrows
+abbrev pub arrows_text : Names → List ℕ → List ℕ → ℕ → ℕ → List Arrow → List ℕ
+arrows_text names rows links first fault arrows = flat_map (arrow_text names rows links first fault) arrows
+
+-- ---- notes
+
+-- the class of a full mark or a hollow one
+abbrev pub mark_class : Bool → List ℕ
+mark_class true = codes "w"
+mark_class false = codes "r"
+
+-- the class and the size of a mark
+unfoldable pub spot_class : List ℕ → List ℕ
+spot_class class = codes "<rect class='" ++ class ++ codes "' width='6' height='6'"
+
+-- the same, and its place from the left
+unfoldable pub spot_side : List ℕ → ℕ → List ℕ
+spot_side class x = spot_class class ++ codes " x='" ++ decimal (x - 5)
+
+-- a mark on the lifeline at x
+unfoldable pub spot_text : List ℕ → ℕ → ℕ → List ℕ
+spot_text class x y = spot_side class x ++ codes "' y='" ++ decimal (y - 3) ++ codes "'/>\n"
+
+-- the drawing of a note: its row, and a mark on the lifeline of its link
+unfoldable pub note_text : List ℕ → List ℕ → Note → List ℕ
+note_text rows links n =
+    row_text (row_place (row_of rows n.line)) n.line n.words.items
+    ++ spot_text (mark_class n.full) (link_place links n.link.0) (row_place (row_of rows n.line))
+
+-- all notes, in their order
+abbrev pub notes_text : List ℕ → List ℕ → List Note → List ℕ
+notes_text rows links notes = flat_map (note_text rows links) notes
 
 -- ---- the verdict
 
@@ -184,14 +214,14 @@ bar_text perm.Branch x from to = bar_of (codes "r") x from to
 bar_text perm.Trunk x from to = bar_of (codes "w") x from to
 
 -- the place at which the permission changes; the top if that was before the window
-unfoldable pub mark_place : List Arrow → ℕ → Mark → ℕ
-mark_place arrows first mark = if nat_lt mark.line first then row_place 0 else end_place arrows mark.line
+unfoldable pub mark_place : List ℕ → ℕ → Mark → ℕ
+mark_place rows first mark = if nat_lt mark.line first then row_place 0 else end_place rows mark.line
 
 -- the bars of a link at x, which holds this permission from a place on, down to the bottom
-unfoldable pub bars_text : List Arrow → ℕ → ℕ → ℕ → ℕ → Perm → ℕ → List Mark → List ℕ
-bars_text arrows first bottom link x held from [] = bar_text held x from bottom
-bars_text arrows first bottom link x held from (m ∷ marks) =
+unfoldable pub bars_text : List ℕ → ℕ → ℕ → ℕ → ℕ → Perm → ℕ → List Mark → List ℕ
+bars_text rows first bottom link x held from [] = bar_text held x from bottom
+bars_text rows first bottom link x held from (m ∷ marks) =
     if m.link.0 == link
-    then bar_text held x from (mark_place arrows first m)
-    ++ bars_text arrows first bottom link x m.held (mark_place arrows first m) marks
-    else bars_text arrows first bottom link x held from marks
+    then bar_text held x from (mark_place rows first m)
+    ++ bars_text rows first bottom link x m.held (mark_place rows first m) marks
+    else bars_text rows first bottom link x held from marks

@@ -1,5 +1,5 @@
 -- A message in words, and text for SVG.
-use Rattle.std.specs.Prelude.{ℕ, Bool, List, [], ◌∷◌, ◌++◌, ◌==◌, codes, if◌then◌else◌, nat_le, nat_lt, Option}
+use Rattle.std.specs.Prelude.{ℕ, Bool, List, [], ◌∷◌, ◌++◌, ◌==◌, codes, if◌then◌else◌, nat_le, Option}
 use Rattle.std.specs.Prelude.{Some, None}
 use Rattle.std.specs.Fmt.{decimal}
 use Rattle.std.specs.List.{flat_map}
@@ -9,7 +9,9 @@ use Rattle.tl_beat.specs.statement.Digits.{digits}
 use Rattle.tl_beat.specs.statement.Line.{letter}
 use Rattle.tl_beat.specs.statement.Names.{a_name, b_name, c_name, d_name}
 use Rattle.tl_chart.specs.declared.arrow.Arrow.{Arrow}
+use Rattle.tl_chart.specs.declared.names.Names.{Names}
 use Rattle.tl_chart.specs.statement.Messages.{channel_in}
+use Rattle.tl_chart.specs.statement.Names.{beats_named, block_name, sink_name, source_name}
 use Rattle.tl_explain.specs.statement.ParamNames.{a_param_name, b_param_name, c_param_name, d_param_name}
 use Rattle.tl_rules.specs.statement.History.{is_grant}
 
@@ -43,30 +45,28 @@ abbrev pub word_text : Option (List ℕ) → List ℕ
 word_text None = []
 word_text (Some word) = codes " " ++ word
 
--- the number of a block in three digits, or in seven if it needs more
-abbrev pub block_digits : ℕ → List ℕ
-block_digits k = if nat_lt k 4096 then digits 3 k else digits 7 k
-
 -- the block, if there is one
-unfoldable pub block_text : Option ℕ → List ℕ
-block_text None = []
-block_text (Some k) = codes " block " ++ block_digits k
+unfoldable pub block_text : Names → Option ℕ → List ℕ
+block_text names None = []
+block_text names (Some k) = codes " block " ++ block_name names k
 
--- the source
-unfoldable pub source_text : ℕ → List ℕ
-source_text s = codes " source " ++ digits 2 s
+-- the source, of this link
+unfoldable pub source_text : Names → ℕ → ℕ → List ℕ
+source_text names link s = codes " source " ++ source_name names link s
 
 -- the sink
-unfoldable pub sink_text : ℕ → List ℕ
-sink_text s = codes " sink " ++ digits 2 s
+unfoldable pub sink_text : Names → ℕ → List ℕ
+sink_text names s = codes " sink " ++ sink_name names s
 
 -- source and sink, if the message has them
-unfoldable pub ends_text : Control → List ℕ
-ends_text (control.A x) = source_text x.source
-ends_text (control.B x) = []
-ends_text (control.C x) = source_text x.source
-ends_text (control.D x) = if is_grant x.opcode then source_text x.source ++ sink_text x.sink else source_text x.source
-ends_text (control.E x) = sink_text x
+unfoldable pub ends_text : Names → ℕ → Control → List ℕ
+ends_text names link (control.A x) = source_text names link x.source
+ends_text names link (control.B x) = []
+ends_text names link (control.C x) = source_text names link x.source
+ends_text names link (control.D x) =
+    if is_grant x.opcode then source_text names link x.source ++ sink_text names x.sink
+    else source_text names link x.source
+ends_text names link (control.E x) = sink_text names x
 
 -- the number of beats of the message, if it is more than one
 unfoldable pub count_text : ℕ → List ℕ
@@ -82,6 +82,8 @@ name_text m =
     digits 2 m.link.0 ++ codes " " ++ letter (channel_in m.control) ++ codes " " ++ message_name m.control
     ++ word_text (message_param m.control)
 
--- a message in words
-abbrev pub words_of : Arrow → List ℕ
-words_of m = name_text m ++ block_text m.block ++ ends_text m.control ++ beats_text m.beats m.complete
+-- a message in words, with these names
+abbrev pub words_of : Names → Arrow → List ℕ
+words_of names m =
+    name_text m ++ block_text names m.block ++ ends_text names m.link.0 m.control
+    ++ beats_text (beats_named names m.beats) m.complete

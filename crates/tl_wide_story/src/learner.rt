@@ -60,6 +60,11 @@ impl<const P: usize> Learner<P> {
         }
     }
 
+    /// Whether the answer names the lines of parts.
+    pub fn names_lines(&self) -> bool {
+        matches!(self, Learner::Memory(_))
+    }
+
     /// Takes a part of a wide beat that isn't at fault. Returns true if it breaks no rule.
     pub fn take(&mut self, part: &Part<P>) -> Result<bool, AllocError>
         requires { IsWidth P }

@@ -111,7 +111,7 @@ impl<const W: usize, const P: usize> Lesson<W, P> {
         let mut left = parts;
         while let Some(part) = left.next::<W, P>(beat) {
             self.recorded = self.recorded.saturating_add(1);
-            if is_later {
+            if is_later && self.learner.names_lines() {
                 self.numbering.note_later(self.recorded)?;
             }
             is_later = true;

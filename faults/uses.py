@@ -52,6 +52,7 @@ WIDE_REASONS = """line 6 H12
 WIDE_MEMORY = """line 6 M3
   M3 (AccessAckData): a requested byte h
   6: 00 D AccessAckData 0 size=5 source=
+  byte 000000400000003f is 2f, and may b
 """
 CLEAN_MEANS = """  clean means that no beat breaks a rule of its own link; it says nothing about two links together, nor about the data
 """
@@ -288,8 +289,8 @@ ROWS = [
     ("sed '1s/none //' wide/two_caches.trace | tltool monitor", 1, F7.format(1), ""),
     ("sed '1s/tltrace 5/tltrace 6/' wide/two_caches.trace | tltool monitor", 1, F7.format(1), ""),
     ("head -c -1 wide/two_caches.trace | tltool monitor", 1, F1.format(12), ""),
-    ("tltool explain wide/two_caches.trace", 0, f"clean 11\n{CLEAN_MEANS}", ""),
-    ("tltool explain --coherent wide/two_caches.trace", 0, "coherent 11\n  coherent means ..", ""),
+    ("tltool explain wide/two_caches.trace", 0, f"clean 11\n  nothing is pending at the end\n{CLEAN_MEANS}", ""),
+    ("tltool explain --coherent wide/two_caches.trace", 0, "coherent 11\n  nothing is pending at the end\n  coherent means ..", ""),
     ("tltool explain wide/wrong_report.trace", 1, WIDE_REASONS, ""),
     ("tltool explain --coherent wide/second_part.trace | cut -c1-40", 0, WIDE_MEMORY, ""),
     ("sed '1s/64/32/' wide/wrong_report.trace >narrower.trace; tltool explain narrower.trace", 1, F3.format(2), ""),

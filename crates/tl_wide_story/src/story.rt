@@ -26,8 +26,9 @@ impl<const W: usize, const P: usize> LineHandler for WideStory<W, P> {
     ghost ends = { λ s. EndsReplay s.replay };
 
     fn handle_line(&mut self, line: &[u8], out: &mut Vec<u8>) -> Result<Option<Fault>, AllocError> {
+        let fault = self.replay.handle_line(line, out)?;
         self.lesson.take_line(line, self.replay.wording.address)?;
-        self.replay.handle_line(line, out)
+        Ok(fault)
     }
 
     fn open_fault(&self) -> Fault {

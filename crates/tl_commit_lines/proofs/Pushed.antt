@@ -6,8 +6,9 @@ use Rattle.tl_beat.specs.declared.beat.Link.{Link}
 use Rattle.tl_beat.specs.declared.fault.LineFault.{LineFault}
 use Rattle.tl_commits.specs.declared.judge.CommitJudge.{CommitJudge}
 use Rattle.tl_commits.specs.declared.rule.CommitBreach.{CommitBreach}
+use Rattle.tl_commits.specs.statement.Breaches.{broken_event}
 use Rattle.tl_commits.specs.statement.Events.{Events, beats_of}
-use Rattle.tl_commits.specs.statement.Knows.{IsEvent, KnowsCommits, broken_by_judge}
+use Rattle.tl_commits.specs.statement.Knows.{IsEvent, KnowsCommits}
 use Rattle.tl_engine.specs.declared.fault.Fault.{Fault}
 use Rattle.tl_engine.specs.declared.fault.Fault.TheVariants.{Line, Rule as Breaks}
 use Rattle.tl_events.specs.declared.commit.Commit.{Commit}
@@ -54,7 +55,7 @@ module _ {w : ℕ} (link : Link) where
       → KnowsCommits j levels complete l e → So levels complete l e
 
   pub all-good : (old new : CommitJudge w) (x : Event w)
-      → Above old (λ levels complete l e. broken_by_judge levels complete l link x e ≡ None)
+      → Above old (λ levels complete l e. broken_event levels complete l link x e ≡ None)
       → Above old (λ levels complete l e. KnowsCommits new levels complete l ((link, x) ∷ e))
       → Says (OfAll old) (OfAll new) x None
   all-good old new x fine knows false links may e known = absurd known
@@ -64,7 +65,7 @@ module _ {w : ℕ} (link : Link) where
   )
 
   pub all-bad : (old new : CommitJudge w) (x : Event w) (breach : CommitBreach)
-      → Above old (λ levels complete l e. broken_by_judge levels complete l link x e ≡ Some breach)
+      → Above old (λ levels complete l e. broken_event levels complete l link x e ≡ Some breach)
       → Above old (λ levels complete l e. KnowsCommits new levels complete l e)
       → Says (OfAll old) (OfAll new) x (Some (fault_of_commits breach))
   all-bad old new x breach broken knows false links may e known = absurd known

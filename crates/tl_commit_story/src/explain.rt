@@ -109,7 +109,8 @@ fn explain_event<const W: usize, R: Read>(
     let mut lines = Lines::new(start);
     let mut text = Vec::new(alloc);
     judge_input(alloc, &mut lines, reader, &mut text)?;
-    let replay = lines.into_handler().replay;
+    let story = lines.into_handler();
+    let replay = &story.replay;
     if !replay.told || !is_breach(replay.fault) {
         return Err(ExplainFault::Changed);
     }

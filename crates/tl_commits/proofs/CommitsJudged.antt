@@ -23,7 +23,7 @@ use Rattle.tl_commits.specs.declared.loading.Loading.{Loading}
 use Rattle.tl_commits.specs.statement.Breaches.{breach_of, has_cache}
 use Rattle.tl_commits.specs.statement.Commits.{broken_load, each_byte, is_piece_loadable, may_bring}
 use Rattle.tl_commits.specs.statement.Events.{Events, at_some, beats_of, is_loading, since_begun}
-use Rattle.tl_commits.specs.statement.Knows.{Answers, JudgesCommits}
+use Rattle.tl_commits.specs.statement.Knows.{Answers}
 use Rattle.tl_commits.specs.statement.Seen.{byte_in}
 use Rattle.tl_commits.proofs.Loads.{HasKeyIfAny, found-key, or-comm}
 use Rattle.tl_commits.proofs.Pieces.{each-below-same, most-bytes}
@@ -138,8 +138,3 @@ cache-below levels link e = elim (slice_get_cases levels link).1 [
     no-cache : (o : Option Level) → o ≡ None → has_cache o ≡ true → ⊥
     no-cache None is f = cc
     no-cache (Some level) is f = cc
-
--- ---- all rules
-
-pub commits-judged : (w : ℕ) → JudgesCommits w
-commits-judged w = λ levels complete l link x e. refl

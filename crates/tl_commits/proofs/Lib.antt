@@ -15,9 +15,11 @@ pub mod Filling
 pub mod Giving
 pub mod GrantsKept
 pub mod Granted
-pub mod ByteSets
 pub mod AtOnce
 pub mod Loads
 pub mod LoadsNext
+pub mod ReadAnswers
+pub mod PendingReads
+pub mod ReadSteps
 pub mod BeatsJudged
 pub mod CommitsJudged

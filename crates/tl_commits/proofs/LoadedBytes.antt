@@ -6,7 +6,7 @@ use Rattle.tl_beat.specs.declared.channel.Channel.TheVariants as channel
 use Rattle.tl_burst.specs.statement.Messages.{History, unfinished}
 use Rattle.tl_rules.specs.statement.History.{block_at}
 use Rattle.tl_bytes.specs.statement.Bytes.{carried_byte, could_be, told_as}
-use Rattle.tl_commits.specs.code.ByteSet.{filled}
+use Rattle.tl_commits.specs.code.Filling.{filled}
 use Rattle.tl_commits.specs.statement.Commits.{brings, may_bring, may_have}
 use Rattle.tl_commits.specs.statement.Copies.{brought, holds, is_filling, is_known, link_beats}
 use Rattle.tl_commits.specs.statement.Events.{Events}

@@ -67,8 +67,8 @@ or-comm true false = refl
 or-comm false true = refl
 or-comm false false = refl
 
--- the loads are related, if there is one
-abbrev pub AreBoth : (Loading → Loading → Type 0) → Option Loading → Option Loading → Type 0
+-- the two are related, if there is one
+abbrev pub AreBoth : {X : Type 0} → (X → X → Type 0) → Option X → Option X → Type 0
 AreBoth R None None = ⊤
 AreBoth R (Some y) (Some z) = R y z
 AreBoth R None (Some z) = ⊥
@@ -124,19 +124,18 @@ module _ {w : ℕ} (complete : List Bool) (n link : ℕ) (piece : Piece) (x : Li
 -- ---- all loads
 
 -- what is found among loads that are related, and have the same keys
-pub found-zip : (R : Loading → Loading → Type 0) (link : ℕ) (piece : Piece)
-    → ((y z : Loading) → R y z → is_of link piece z ≡ is_of link piece y) → (old new : List Loading) → AllZip R old new
-    → AreBoth R (find (is_of link piece) old) (find (is_of link piece) new)
-found-zip R link piece same [] [] are = tt
-found-zip R link piece same (y ∷ old) (z ∷ new) are =
-    rw (same y z are.0) (go (is_of link piece y) (found-zip R link piece same old new are.1))
+pub found-zip : {X : Type 0} (R : X → X → Type 0) (p : X → Bool) → ((y z : X) → R y z → p z ≡ p y) → (old new : List X)
+    → AllZip R old new → AreBoth R (find p old) (find p new)
+found-zip R p same [] [] are = tt
+found-zip R p same (y ∷ old) (z ∷ new) are =
+    rw (same y z are.0) (go (p y) (found-zip R p same old new are.1))
   where
-    go : (b : Bool) → AreBoth R (find (is_of link piece) old) (find (is_of link piece) new)
-        → AreBoth R (if b then Some y else find (is_of link piece) old) (if b then Some z else find (is_of link piece) new)
+    go : (b : Bool) → AreBoth R (find p old) (find p new)
+        → AreBoth R (if b then Some y else find p old) (if b then Some z else find p new)
     go true rest = are.0
     go false rest = rest
-found-zip R link piece same [] (z ∷ new) are = absurd are
-found-zip R link piece same (y ∷ old) [] are = absurd are
+found-zip R p same [] (z ∷ new) are = absurd are
+found-zip R p same (y ∷ old) [] are = absurd are
 
 -- a load keeps its key
 pub newer-key : {w : ℕ} (complete : List Bool) (n : ℕ) (e : Events w) (link : ℕ) (piece : Piece) (y z : Loading)
@@ -147,7 +146,7 @@ pub newer-found : {w : ℕ} (complete : List Bool) (n : ℕ) (e : Events w) (lin
     (old new : List Loading) → AllZip (IsNewer complete n e) old new
     → AreBoth (IsNewer complete n e) (find (is_of link piece) old) (find (is_of link piece) new)
 newer-found complete n e link piece =
-    found-zip (IsNewer complete n e) link piece (newer-key complete n e link piece)
+    found-zip (IsNewer complete n e) (is_of link piece) (newer-key complete n e link piece)
 
 -- each load is renewed
 pub all-renewed : {w : ℕ} (judge : Judge w) (table : List (ℕ × BlockValues)) (complete : List Bool) (levels : List Level)

@@ -148,7 +148,7 @@ again-begun from own old mid y there again = record {
   where
     both : (link : ℕ) (piece : Piece)
         → AreBoth (IsRestarted from own) (find (is_of link piece) old) (find (is_of link piece) mid)
-    both link piece = found-zip (IsRestarted from own) link piece (restarted-key from own link piece) old mid again
+    both link piece = found-zip (IsRestarted from own) (is_of link piece) (restarted-key from own link piece) old mid again
 
     on : is_of from.0 own y ≡ true
     on =

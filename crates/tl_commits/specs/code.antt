@@ -1,10 +1,11 @@
 pub mod BlockValues
-pub mod ByteSet
+pub mod Filling
 pub mod Giving
 pub mod GivingBack
 pub mod GivingUp
 pub mod Granting
 pub mod Loading
+pub mod Reading
 pub mod Judging
 pub mod Tellings
 pub mod ValueTable

@@ -13,7 +13,9 @@ ghost use Rattle.tl_commits.specs.code.Judging as code;
 ghost use Rattle.tl_commits.specs.code.ValueTable.{KnowsTable};
 ghost use Rattle.tl_events.specs.declared.commit.Event.{Event};
 ghost use Rattle.tl_events.specs.declared.rule.CommitRule.TheVariants.{M6, M7};
-ghost use Rattle.tl_commits.specs.statement.Breaches.{breach_of, has_cache};
+ghost use Rattle.tl_commits.specs.code.Granting.{AreMet};
+ghost use Rattle.tl_commits.specs.code.Reading.{IsMet};
+ghost use Rattle.tl_commits.specs.statement.Breaches.{breach_of, broken_event, has_cache};
 ghost use Rattle.tl_events.specs.statement.CommitLine.{IsCommit, IsPiece};
 ghost use Rattle.tl_commits.specs.statement.Commits;
 ghost use Rattle.tl_commits.specs.statement.Events.{Events, beats_of};
@@ -22,13 +24,15 @@ ghost use Rattle.tl_commits.specs.statement.Knows.{Answers, recorded_after};
 use crate::block_values::BlockValues;
 use crate::commits::broken_store;
 use crate::copies::is_complete;
-use crate::fault::CommitFault;
+use crate::fault::{CommitFault, of_judge, of_rule};
 use crate::giving_back::{carrier, gives_truly};
 use crate::giving_up::{holds_trunk, keeps_stores};
 use crate::granting::{GrantBytes, any_grants, grants_truly, meet_grant};
 use crate::loading::{Loading, begin, forget, has_begun, load_of};
 use crate::next_values::next_values;
 use crate::piece_values::{load_piece, store_piece};
+use crate::reading::Reading;
+use crate::readings::{meet_reading, reads_truly, take_beat};
 use crate::renewing::{renew, renewed};
 use crate::rule::CommitBreach;
 use crate::value_table::ValueTable;
@@ -46,9 +50,9 @@ use tl_together::breach::Breach;
 use tl_together::fault::JudgeFault;
 use tl_together::judge::Judge;
 
-/// Judges beats and commits of up to 16 links of one manager, in the order in which they were seen: beats by all rules, but
-/// by M3 as if there were no commits; commits by L1, M5 and M6. It keeps the possible values of the bytes of blocks, the
-/// bytes that each unfinished Grant may bring, the loads that have begun with the bytes that each could bring since, and
+/// Judges beats and commits of up to 16 links of one manager, in the order in which they were seen: beats by all rules, and
+/// commits by L1, M5 and M6. It keeps the possible values of the bytes of blocks, the bytes that each unfinished Grant may
+/// bring and each pending access may have found, the loads that have begun with the bytes that each could bring since, and
 /// no event.
 #[derive(Drop)]
 pub struct CommitJudge<const W: usize> {
@@ -61,17 +65,8 @@ pub struct CommitJudge<const W: usize> {
     values: ValueTable,
     /// For each link the bytes that its unfinished Grant may bring.
     grants: Vec<GrantBytes>,
-}
-
-/// The fault of a judge whose judge of beats refuses a beat.
-fn of_judge(fault: JudgeFault) -> CommitFault
-    ensures { result ≡ code.of_judge fault }
-{
-    match fault {
-        JudgeFault::Levels => CommitFault::Levels,
-        JudgeFault::Broken(breach) => CommitFault::Broken(CommitBreach::OfBeats(breach)),
-        JudgeFault::Memory | JudgeFault::Closed => CommitFault::Memory,
-    }
+    /// The bytes that pending accesses may have found.
+    readings: Vec<Reading>,
 }
 
 /// Whether a link has a cache: it has a level, C.
@@ -98,17 +93,10 @@ fn unless_brought(keeps: bool) -> Option<CommitRule>
     if keeps { None } else { Some(CommitRule::M6) }
 }
 
-/// The fault of an event that breaks this rule of commits.
-fn of_rule(rule: CommitRule) -> CommitFault
-    ensures { result ≡ code.of_rule rule }
-{
-    CommitFault::Broken(CommitBreach::OfCommits(rule))
-}
-
 impl<const W: usize> CommitJudge<W> {
     ghost use Rattle.tl_events.specs.declared.commit.Event.TheVariants as event;
     ghost use Rattle.tl_events.specs.declared.commit.Commit.TheVariants as commit;
-    ghost use Rattle.tl_commits.specs.statement.Knows.{IsEvent, IsNew, KnowsCommits, broken_by_judge};
+    ghost use Rattle.tl_commits.specs.statement.Knows.{IsEvent, IsNew, KnowsCommits};
 
     /// A judge of links of these levels and with these liberties, which has seen no event. `complete` says for each link
     /// whether all its stores will be in the trace. The error is `Levels` unless there are 1 to 16 levels, or `Memory`.
@@ -143,6 +131,7 @@ impl<const W: usize> CommitJudge<W> {
             loads: Vec::new(alloc),
             values: ValueTable::new(alloc),
             grants,
+            readings: Vec::new(alloc),
         })
     }
 
@@ -177,6 +166,38 @@ impl<const W: usize> CommitJudge<W> {
         }
     }
 
+    /// Keeps the bytes that a GrantData may bring, if one begins with a beat, and makes a reading, if the beat is of a Get or an
+    /// atomic. The error means that there is no memory left. All that is known stays true in either case.
+    fn meet(&mut self, link: Link, beat: &Beat<W>) -> Result<(), AllocError>
+        ensures knows { (levels : List Level) (complete : List Bool) (l : Liberties) (e : Events W) →
+            KnowsCommits self.old levels complete l e → KnowsCommits self.new levels complete l e }
+        ensures met { OnOk result ((levels : List Level) (complete : List Bool) (l : Liberties) (e : Events W) →
+            KnowsCommits self.old levels complete l e → KeepsRules l levels (link, beat.now) (beats_of e) →
+            AreMet self.new.grants.items complete (length levels) link.0 beat.now e) }
+        ensures read { OnOk result (IsMet self.new.readings.items link.0 beat.now) }
+    {
+        let (judge, values) = (&self.judge, &self.values);
+        meet_grant(self.alloc, judge, values, &mut self.grants, link, beat)?;
+        meet_reading(&mut self.readings, link, beat)
+    }
+
+    /// M2 or M3, if the bytes of a beat break it.
+    fn broken_bytes(&self, link: Link, beat: &Beat<W>) -> Option<MemoryRule>
+        requires { IsWidth W }
+        ensures { (levels : List Level) (complete : List Bool) (l : Liberties) (e : Events W) →
+            KnowsCommits self.now levels complete l e → KeepsRules l levels (link, beat.now) (beats_of e) →
+            AreMet self.now.grants.items complete (length levels) link.0 beat.now e →
+            result ≡ code.broken_bytes complete (length levels) link.0 beat.now e }
+    {
+        if !grants_truly(&self.judge, &self.grants, link, beat) {
+            return Some(MemoryRule::M2);
+        }
+        if !reads_truly(&self.judge, &self.readings, link, beat) {
+            return Some(MemoryRule::M3);
+        }
+        None
+    }
+
     /// Takes the values of a block after an event that the judge of beats took, if they change, and renews the loads.
     fn record(&mut self, next: Option<(u32, BlockValues)>)
         requires { IsWidth W }
@@ -193,7 +214,7 @@ impl<const W: usize> CommitJudge<W> {
         requires { IsWidth W }
         ensures answer { (levels : List Level) (complete : List Bool) (l : Liberties) (e : Events W) →
             KnowsCommits self.old levels complete l e →
-            Answers (broken_by_judge levels complete l link (event.Beat beat.now) e) result }
+            Answers (broken_event levels complete l link (event.Beat beat.now) e) result }
         ensures knows { (levels : List Level) (complete : List Bool) (l : Liberties) (e : Events W) →
             KnowsCommits self.old levels complete l e →
             KnowsCommits self.new levels complete l (recorded_after result (link, event.Beat beat.now) e) }
@@ -201,22 +222,24 @@ impl<const W: usize> CommitJudge<W> {
         if let Some(rule) = self.broken_report(link, beat) {
             return Err(self.refused(CommitBreach::OfCommits(rule), link, beat));
         }
-        let (judge, values) = (&self.judge, &self.values);
-        let Ok(()) = meet_grant(self.alloc, judge, values, &mut self.grants, link, beat) else {
+        let Ok(()) = self.meet(link, beat) else {
             return Err(CommitFault::Memory);
         };
-        if !grants_truly(&self.judge, &self.grants, link, beat) {
-            let breach = Breach::OfMemory(MemoryRule::M2);
+        if let Some(rule) = self.broken_bytes(link, beat) {
+            let breach = Breach::OfMemory(rule);
             return Err(self.refused(CommitBreach::OfBeats(breach), link, beat));
         }
         let Ok(next) = next_values(self.alloc, &self.judge, &mut self.values, link, beat) else {
             return Err(CommitFault::Memory);
         };
-        match self.judge.try_push_but_grants(link, beat) {
+        let shown = self.judge.shown(link, beat);
+        match self.judge.try_push_but_bytes(link, beat) {
             Ok(()) => {}
             Err(fault) => return Err(of_judge(fault)),
         }
         self.record(next);
+        let (judge, values) = (&self.judge, &self.values);
+        take_beat(judge, values, &mut self.readings, link, beat, shown);
         Ok(())
     }
 
@@ -336,7 +359,7 @@ impl<const W: usize> CommitJudge<W> {
         requires { IsWidth W }
         ensures answer { (levels : List Level) (complete : List Bool) (l : Liberties) (e : Events W) →
             KnowsCommits self.old levels complete l e → IsCommit commit →
-            Answers (broken_by_judge levels complete l link (event.Commit commit) e) result }
+            Answers (broken_event levels complete l link (event.Commit commit) e) result }
         ensures knows { (levels : List Level) (complete : List Bool) (l : Liberties) (e : Events W) →
             KnowsCommits self.old levels complete l e → IsCommit commit →
             KnowsCommits self.new levels complete l (recorded_after result (link, event.Commit commit) e) }
@@ -358,7 +381,7 @@ impl<const W: usize> CommitJudge<W> {
         requires { IsWidth W }
         ensures answer { (levels : List Level) (complete : List Bool) (l : Liberties) (e : Events W) →
             KnowsCommits self.old levels complete l e → IsEvent event.now →
-            Answers (broken_by_judge levels complete l link event.now e) result }
+            Answers (broken_event levels complete l link event.now e) result }
         ensures knows { (levels : List Level) (complete : List Bool) (l : Liberties) (e : Events W) →
             KnowsCommits self.old levels complete l e → IsEvent event.now →
             KnowsCommits self.new levels complete l (recorded_after result (link, event.now) e) }

@@ -3,7 +3,6 @@
 
 mod block_values;
 mod bringing;
-mod byte_set;
 pub mod commits;
 mod common;
 mod copies;
@@ -16,6 +15,8 @@ pub mod law;
 mod loading;
 mod next_values;
 mod piece_values;
+mod reading;
+mod readings;
 mod renewing;
 pub mod rule;
 mod tellings;

@@ -6,11 +6,11 @@ ghost use Rattle.std.specs.List.{AllZip};
 ghost use Rattle.tl_events.specs.statement.CommitLine.{IsPiece};
 ghost use Rattle.tl_commits.specs.code.Loading as code;
 
-use crate::byte_set::ByteSet;
 use crate::piece_values::spread;
 use std::alloc::AllocError;
 use tl_beat::beat::Link;
 use tl_events::commit::Piece;
+use tl_memory::byte_set::ByteSet;
 use tl_memory::message::both;
 
 /// A load that has begun on a link, and the bytes that it could bring since.

@@ -1,7 +1,7 @@
 //! The possible values of the bytes of all blocks.
 
 ghost use Rattle.std.specs.Prelude.{ℕ, Bool, List, Some, true, if◌then◌else◌, ◌==◌, ◌+◌, ◌*◌, ◌<◌, ◌≡◌, [], is_some, option_copied, OnErr, OnOk, ◌||◌};
-ghost use Rattle.tl_commits.specs.code.ByteSet.{has_at};
+ghost use Rattle.tl_memory.specs.code.ByteSet.{has_at};
 ghost use Rattle.tl_commits.specs.code.GivingBack.{is_seen};
 ghost use Rattle.tl_commits.specs.code.BlockValues.{IsLoaded, IsStored};
 ghost use Rattle.tl_commits.specs.code.ValueTable.{IsChanged, KnowsTable, values_in};
@@ -9,12 +9,12 @@ ghost use Rattle.tl_commits.specs.statement.Commits;
 ghost use Rattle.tl_commits.specs.statement.Events.{Events};
 
 use crate::block_values::BlockValues;
-use crate::byte_set::{ByteSet, with_told};
 use crate::tellings::{Places, allows};
 use std::alloc::{AllocError, Global};
 use std::collections::BTreeMap;
 use std::marker::Model;
 use tl_bytes::write::Write;
+use tl_memory::byte_set::{ByteSet, with_told};
 
 /// The possible values of the bytes of blocks. A block without values is as before the trace.
 #[derive(Drop)]
@@ -140,13 +140,18 @@ impl ValueTable {
 
     /// These sets, each with the values that its byte of a block may have. The first is of this place, and the others of
     /// those after it.
-    pub(crate) fn with_seen(&self, sets: [ByteSet; 8], block: u32, first: u8) -> [ByteSet; 8]
+    pub(crate) fn with_seen<const N: usize>(
+        &self,
+        sets: [ByteSet; N],
+        block: u32,
+        first: u8,
+    ) -> [ByteSet; N]
         ensures { (w : ℕ) (complete : List Bool) (n : ℕ) (e : Events w) → KnowsTable self.now complete n e →
-            (i v : ℕ) → i < 8 → first + i < 64 → v < 256 →
-            has_at result i v ≡ (has_at sets i v || is_seen complete n e (64 * block + (first + i)) v) }
+            (i v : ℕ) → i < N → first + i < 64 → v < 256 →
+            has_at result i v ≡ (has_at sets.entry i v || is_seen complete n e (64 * block + (first + i)) v) }
     {
         match self.get(block) {
-            None => [ByteSet::all(); 8],
+            None => [ByteSet::all(); N],
             Some(kept) => with_told(sets, kept.seen.as_slice(), first),
         }
     }

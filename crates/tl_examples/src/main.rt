@@ -223,11 +223,13 @@ const WIDE: [&str; 9] = [
 ];
 
 /// The traces with stores and loads.
-const COMMITS: [&str; 20] = [
+const COMMITS: [&str; 22] = [
     "rules/L1_commit.trace",
     "rules/L1_commit_right.trace",
     "rules/M2_stored.trace",
     "rules/M2_stored_right.trace",
+    "rules/M3_stored.trace",
+    "rules/M3_stored_right.trace",
     "rules/M5.trace",
     "rules/M5_right.trace",
     "rules/M5_load.trace",

@@ -13,10 +13,11 @@ use Rattle.tl_burst.specs.statement.Burst.{beats_of, mask_at}
 use Rattle.tl_beat.specs.declared.channel.Channel.{Channel}
 use Rattle.tl_rules.{specs.code.Control.a_control, specs.code.Control.a_own, proofs.Checks.a_beats, proofs.Checks.both}
 use Rattle.tl_rules.{proofs.Legal.legal_from_beats, specs.code.Place.moved_up, proofs.Blocks.moved_byte}
-use Rattle.tl_rules.{proofs.Bursts.control_aligned, proofs.Places.number_same, proofs.Rooms.room_in_block}
-use Rattle.tl_rules.specs.statement.Legality.{a_has_mask, each_below, illegal_message, is_full_mask, is_one_of}
+use Rattle.tl_rules.{proofs.Places.number_same, proofs.Rooms.room_in_block}
+use Rattle.tl_rules.specs.statement.Legality.{a_has_mask, each_below, illegal_message, is_aligned, is_full_mask, is_one_of}
 use Rattle.tl_rules.specs.statement.Effect.{IsBlock, Memory, after, effect, number_from, operand_of, arithmetic_result}
 use Rattle.tl_rules.specs.statement.Effect.{by_param, byte_of, logical_result}
+use Rattle.tl_params.{specs.declared.rule.Rule.Rule, specs.declared.rule.Rule.TheVariants.L4}
 use Rattle.tl_params.specs.statement.Param.{arithmetic_of, logical_of}
 use Rattle.tl_bytes.specs.statement.Bytes.{carried_byte, found_memory}
 use Rattle.tl_memory.specs.statement.Known.{IsPerformable, is_atomic}
@@ -120,9 +121,7 @@ atomic-leaves {w} access m found block new base p answer is opcode param size ad
 
     room : access.request.address % 64 + 2 ^ access.request.size ≤ 64
     room = room_in_block access.request.size access.request.address access.request.small
-        (eqb-true (access.request.address % 2 ^ access.request.size) 0
-        (control_aligned w Level.UH access.request.opcode access.request.param access.request.size
-        access.request.address lawful))
+        (eqb-true (access.request.address % 2 ^ access.request.size) 0 lawful.aligned)
 
     start : w * (access.request.address / w) ≡ 64 * (access.request.address / 64) + base
     start = base_in_memory w access.request.address is ∙ ap (λ n. 64 * (access.request.address / 64) + n) (sym base_is)
@@ -161,13 +160,8 @@ atomic-leaves {w} access m found block new base p answer is opcode param size ad
 
 -- ---- an atomic with its whole mask breaks no rule
 
-rule_broken : {T : Type 0} (b : Bool) (x : T) (rest : Option T) → first_if b x rest ≡ None → (b ≡ false) × (rest ≡ None)
-rule_broken true x rest e = absurd cc
-rule_broken false x rest e = (refl, e)
-
-denied : (b : Bool) → not b ≡ false → b ≡ true
-denied true e = refl
-denied false e = absurd cc
+passed : (b : Bool) (r : Rule) (rest : Option Rule) → b ≡ true → rest ≡ None → first_if (not b) r rest ≡ None
+passed b r rest e f = rw (e, f) refl
 
 two_or_three : (size : ℕ) → is_one_of size (2 ∷ 3 ∷ []) ≡ true → (size ≡ 2) ⊎ (size ≡ 3)
 two_or_three size e = elim (cases_eq size 2) [
@@ -296,11 +290,15 @@ no_bit n i e = rw (e, div-eq_of_lt (pow_pos i)) refl
 -- an atomic that breaks no rule has one of these sizes
 pub performable-sized : (w : ℕ) (op : OpA) (param size address : ℕ) → is_atomic op ≡ true
     → IsPerformable w op param size address → (size ≡ 2) ⊎ (size ≡ 3)
-performable-sized w op param size address atomic lawful =
-    let one = rule_broken (not (a_of_level Level.UH op)) L1 _ lawful in
-    let two = rule_broken (not (a_has_param op param)) L2 _ one.1 in
-    let three = rule_broken (not (a_has_size w Level.UH op size)) L3 _ two.1 in
-    atomic_sized w op size atomic (denied (a_has_size w Level.UH op size) three.0)
+performable-sized w op param size address atomic lawful = atomic_sized w op size atomic lawful.has_size
+
+control : {w : ℕ} {op : OpA} {param size address : ℕ} → IsPerformable w op param size address
+    → a_control w Level.UH op param size address ≡ None
+control {w} {op} {param} {size} {address} lawful =
+    passed (a_of_level Level.UH op) L1 _ lawful.of_level
+    (passed (a_has_param op param) L2 _ lawful.has_param
+    (passed (a_has_size w Level.UH op size) L3 _ lawful.has_size
+    (passed (is_aligned address size) L4 None lawful.aligned refl)))
 
 -- and lies in its block
 pub performable-room : (w : ℕ) (op : OpA) (param size address : ℕ) → is_atomic op ≡ true
@@ -310,13 +308,13 @@ performable-room w op param size address atomic lawful = room_in_block size addr
       | inl two ↦ omega (arith, two)
       | inr three ↦ omega (arith, three)
     ])
-    (eqb-true (address % 2 ^ size) 0 (control_aligned w Level.UH op param size address lawful))
+    (eqb-true (address % 2 ^ size) 0 lawful.aligned)
 
 pub atomic-legal : {w : ℕ} (m : MessageA w) → IsWidth w → is_atomic m.opcode ≡ true
     → IsPerformable w m.opcode m.param m.size m.address → m.mask ≡ whole_mask m.size (m.address % w) → m.corrupt ≡ 0
     → illegal_message Level.UH Channel.A (Message.A m) ≡ None
 atomic-legal {w} m is atomic lawful mask corrupt = legal_from_beats Level.UH Channel.A (Message.A m) (λ i lt.
-    a_beats Level.UH m i ∙ both (a_control w Level.UH m.opcode m.param m.size m.address) _ lawful
+    a_beats Level.UH m i ∙ both (a_control w Level.UH m.opcode m.param m.size m.address) _ (control lawful)
     (ap (λ b. a_own w m.opcode m.size m.address (mask_at w m.mask i) b) (no_bit m.corrupt i corrupt)
     ∙ ap (λ n. a_own w m.opcode m.size m.address (mask_at w n i) false) mask
     ∙ own_legal w m.opcode m.size m.address (mask_at w (whole_mask m.size (m.address % w)) i) atomic
@@ -326,7 +324,7 @@ atomic-legal {w} m is atomic lawful mask corrupt = legal_from_beats Level.UH Cha
     sized = performable-sized w m.opcode m.param m.size m.address atomic lawful
 
     aligned : m.address % 2 ^ m.size ≡ 0
-    aligned = eqb-true (m.address % 2 ^ m.size) 0 (control_aligned w Level.UH m.opcode m.param m.size m.address lawful)
+    aligned = eqb-true (m.address % 2 ^ m.size) 0 lawful.aligned
 
     beats : (i : ℕ) → i < beats_of (Message.A m) → i < data_beats w m.size
     beats i lt = rw (atomic_carries m.opcode atomic) at lt

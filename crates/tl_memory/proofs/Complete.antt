@@ -1,17 +1,16 @@
 -- What is known of an access that is asked for, where no beat of its link broke a rule.
-use Rattle.tl_memory.proofs.Imports.{Beat, BeatA, OpA, first_if, a_carries_data, IsWidth, MessageA, bit, data_beats}
-use Rattle.tl_memory.proofs.Imports.{reaches, History, burst_length, unfinished, Level, L1, L2, L3, base_of}
+use Rattle.tl_memory.proofs.Imports.{Beat, BeatA, OpA, a_carries_data, IsWidth, MessageA, bit, data_beats}
+use Rattle.tl_memory.proofs.Imports.{reaches, History, burst_length, unfinished, Level, base_of}
 use Rattle.tl_memory.proofs.Imports.{AreTyped, all_liberties, broken_after_under, is_legal_under, block_at, ends, a_has_param, a_has_size}
 use Rattle.tl_memory.proofs.Imports.{a_of_level, base_in_memory, asked_by, is_access, writes, AreWide, WritesInside}
 use Rattle.tl_bytes.specs.statement.Bytes.{asks, is_put}
 use Rattle.std.proofs.Common.{◌≡◌, ℕ, zero, suc, Bool, true, false, not, ◌||◌, ◌+◌, ◌*◌, ◌/◌, ◌%◌, ◌^◌, ◌<◌, ◌≤◌, List, ◌∷◌}
-use Rattle.std.proofs.Common.{length, Option, None, refl, ap, ◌∙◌, arith, inl, inr}
+use Rattle.std.proofs.Common.{length, None, refl, ap, ◌∙◌, arith, inl, inr}
 use Rattle.std.specs.Prelude.{min, if◌then◌else◌, nat_le, nat_lt}
 use Rattle.std.proofs.lemmas.Bool.{eqb-true, le-leb, ltb-true, and_parts, leb-true}
 use Rattle.std.proofs.Math.Nat.{mul-suc}
 use Rattle.tl_beat.specs.declared.channel.Channel.{Channel}
 use Rattle.tl_burst.{specs.statement.Burst.place_of, proofs.Bits.earlier_place}
-use Rattle.tl_params.{specs.declared.rule.Rule.Rule, specs.declared.rule.Rule.TheVariants.L4}
 use Rattle.tl_rules.{specs.statement.Admission.bytes_carried, specs.statement.Legality.is_aligned}
 use Rattle.tl_rules.{proofs.Rooms.room_in_block}
 use Rattle.tl_memory.{specs.statement.Known.IsLawful, specs.statement.Known.IsPerformable, specs.statement.Known.is_atomic}
@@ -21,9 +20,6 @@ use Rattle.tl_memory.proofs.Lawful.{IsRequest, by_itself, goes_on, is-request}
 use Rattle.tl_memory.proofs.Puts.{has_byte, placed, put-carries, put_is}
 
 -- ---- it breaks no rule at TL-UH
-
-passed : (b : Bool) (r : Rule) (rest : Option Rule) → b ≡ true → rest ≡ None → first_if (not b) r rest ≡ None
-passed b r rest e f = rw (e, f) refl
 
 access_of_uh : (opcode : OpA) → is_access opcode ≡ true → a_of_level Level.UH opcode ≡ true
 access_of_uh OpA.Intent e = absurd cc
@@ -41,11 +37,12 @@ size_of_uh w l v size e le = e
 
 performable : (w : ℕ) (l : Level) (opcode : OpA) (param size address mask : ℕ) → is_access opcode ≡ true
     → IsRequest w l opcode param size address mask → IsPerformable w opcode param size address
-performable w l opcode param size address mask access r =
-    passed (a_of_level Level.UH opcode) L1 _ (access_of_uh opcode access)
-    (passed (a_has_param opcode param) L2 _ r.has_param
-    (passed (a_has_size w Level.UH opcode size) L3 _ (size_of_uh w l opcode size r.has_size r.small)
-    (passed (is_aligned address size) L4 None r.aligned refl)))
+performable w l opcode param size address mask access r = record {
+  of_level = access_of_uh opcode access;
+  has_param = r.has_param;
+  has_size = size_of_uh w l opcode size r.has_size r.small;
+  aligned = r.aligned;
+}
 
 -- an atomic is asked for with its last beat
 atomic_ends : (opcode : OpA) (last : Bool) → is_atomic opcode ≡ true → (is_put opcode || last) ≡ true → last ≡ true

@@ -1,3 +1,4 @@
+pub mod Added
 pub mod Answering
 pub mod Apart
 pub mod Asked
@@ -7,6 +8,7 @@ pub mod Beginning
 pub mod BlockAnswers
 pub mod Borne
 pub mod ByteChanges
+pub mod ByteSets
 pub mod Complete
 pub mod EarlyMessages
 pub mod Elsewhere

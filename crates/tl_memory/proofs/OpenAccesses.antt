@@ -37,7 +37,7 @@ pub record IsRequestOf {w : ℕ} (c s : ℕ) (access : Access w) (t : Trace w) :
   pub whole : is_put access.request.opcode ≡ false → comes_in_request s (unfinished Channel.A (on_link c t)) ≡ false
 
 -- its answer is complete, and it isn't pending
-answered-gone : {w : ℕ} (c s : ℕ) (access : Access w) (x : Link × Beat w) (t : Trace w) → x.0.0 ≡ c
+pub answered-gone : {w : ℕ} (c s : ℕ) (access : Access w) (x : Link × Beat w) (t : Trace w) → x.0.0 ≡ c
     → completes_answer s x.1 (on_link x.0.0 t) ≡ true → IsPending c s access (x ∷ t) → ⊥
 unfolding pending_accesses
 answered-gone {w} c s access x t own completes is = go x.1 completes is

@@ -8,7 +8,7 @@ use Rattle.tl_memory.proofs.Imports.{free_for, freedom, open_for}
 use Rattle.std.proofs.Common.{◌≡◌, ℕ, Bool, true, false, not, ◌&&◌, ◌-◌, ◌/◌, List, [], ◌∷◌, length}
 use Rattle.std.proofs.Common.{refl, sym, ap, subst, ◌∙◌, arith, inl, inr}
 use Rattle.std.{specs.Box.box_value, specs.Prelude.option_map}
-use Rattle.std.specs.Prelude.{filter, if◌then◌else◌, None, Option, Some, unwrap_or}
+use Rattle.std.specs.Prelude.{filter, if◌then◌else◌, is_some, None, Option, Some, unwrap_or}
 use Rattle.std.proofs.lemmas.Bool.{cases_Bool, eqb-true}
 use Rattle.tl_params.specs.declared.perm.Perm.{Perm}
 use Rattle.tl_bytes.{specs.declared.write.Write.Write}
@@ -66,6 +66,14 @@ pub none-found : {w : ℕ} (q : Option (PendingAccess w)) (admits : Perm → Boo
 none-found None admits n block None t e found = refl
 none-found None admits n block (Some access) t e found = absurd found
 none-found (Some q) admits n block o t e found = absurd cc
+
+-- both are there, or none is
+pub both-found : {w : ℕ} (q : Option (PendingAccess w)) (admits : Perm → Bool) (n block : ℕ) (o : Option (Access w))
+    (t : Trace w) → IsFound q admits n block o t → is_some q ≡ is_some o
+both-found None admits n block None t found = refl
+both-found (Some q) admits n block (Some access) t found = refl
+both-found None admits n block (Some access) t found = absurd found
+both-found (Some q) admits n block None t found = absurd found
 
 pub expects-none : {w : ℕ} (n block : ℕ) (o : Option (Access w)) (t : Trace w) → o ≡ None → Expects None n block o t
 expects-none n block o t none = rw none tt

@@ -9,7 +9,8 @@ use Rattle.std.specs.Prelude.{if◌then◌else◌, filter, find, is_some, nat_lt
 use Rattle.std.proofs.lemmas.Bool.{cases_Bool, eq-eqb, lt-ltb}
 use Rattle.tl_params.specs.declared.perm.Perm.{Perm}
 use Rattle.tl_bytes.specs.code.Tellings.{is_written, leaves, value_at, left_as}
-use Rattle.tl_bytes.specs.statement.Bytes.{could_be, is_put, pending_value, value_left, value_written, windows_since}
+use Rattle.tl_bytes.specs.statement.Bytes.{all_but, could_be, is_put, pending_value, value_left, value_written}
+use Rattle.tl_bytes.specs.statement.Bytes.{windows_since}
 use Rattle.tl_bytes.specs.statement.Known.{count_of, MayWrite, windowed}
 use Rattle.tl_memory.specs.code.Writers.{names, picked, some_window, writes_but, writes_outrun, writes_windowed}
 use Rattle.tl_memory.specs.declared.access.Asked.{Asked}
@@ -187,7 +188,7 @@ written-here block place byte keep (x ∷ accesses) lt inside =
 
 -- ---- what those write whose answers outran their requests
 
-found-append : {X : Type 0} (test : X → Bool) (xs ys : List X)
+pub found-append : {X : Type 0} (test : X → Bool) (xs ys : List X)
     → is_some (find test (xs ++ ys)) ≡ (is_some (find test xs) || is_some (find test ys))
 found-append test [] ys = refl
 found-append test (x ∷ xs) ys = elim (cases_Bool (test x)) [
@@ -244,18 +245,18 @@ with-outrun block writes accesses outrun all known k place byte lt =
     (outrun-write block outrun (filter (outruns_in block) all) k.are place byte lt
     ∙ reached-here block place all lt k.inside)
 
--- what others write than an access
-others-writes : {w : ℕ} (n block : ℕ) (asked : Asked w) (access : Access w) (t : Trace w)
-    (pending : List (PendingAccess w)) {admits : Perm → Bool} → IsAsked asked access
-    → KnowsAccesses pending admits n block t t
-    → WritesAs (writes_but asked.link.0 asked.request.source pending) block (others access t)
-others-writes n block asked access t pending {admits} k known place byte lt =
-    ap (λ l. left_as place byte (writes_but l asked.request.source pending)) k.link_is
-    ∙ ap (λ s. left_as place byte (writes_but access.link s pending)) k.source_is
-    ∙ others-write n access.link access.request.source block admits t pending (filter (is_to block) (pending_accesses t))
-    known.accesses_are place byte lt
-    ∙ written-here block place byte (λ other. not (is_of access.link access.request.source other)) (pending_accesses t)
-    lt known.inside
+-- what all may write but the access with this source on a link
+pub all-may-write : {w : ℕ} (n block link source : ℕ) (t : Trace w) (pending : List (PendingAccess w))
+    (outrun : List OutrunAccess) {admits : Perm → Bool} → KnowsAccesses pending admits n block t t
+    → KnowsOutrun outrun block (outrun_accesses t)
+    → MayWrite (writes_but link source pending ++ writes_outrun outrun) block
+    (all_but link source (pending_accesses t)) (outrun_accesses t)
+all-may-write n block link source t pending outrun {admits} known out =
+    with-outrun block (writes_but link source pending) (all_but link source (pending_accesses t)) outrun
+    (outrun_accesses t) (λ place byte lt.
+    others-write n link source block admits t pending (filter (is_to block) (pending_accesses t)) known.accesses_are
+    place byte lt
+    ∙ written-here block place byte (λ other. not (is_of link source other)) (pending_accesses t) lt known.inside) out
 
 -- what others may write than an access
 pub others-may-write : {w : ℕ} (n block : ℕ) (asked : Asked w) (access : Access w) (t : Trace w)
@@ -263,9 +264,10 @@ pub others-may-write : {w : ℕ} (n block : ℕ) (asked : Asked w) (access : Acc
     → KnowsAccesses pending admits n block t t → KnowsOutrun outrun block (outrun_accesses t)
     → MayWrite (writes_but asked.link.0 asked.request.source pending ++ writes_outrun outrun) block (others access t)
     (outrun_accesses t)
-others-may-write n block asked access t pending outrun {admits} k known out =
-    with-outrun block (writes_but asked.link.0 asked.request.source pending) (others access t) outrun (outrun_accesses t)
-    (others-writes n block asked access t pending k known) out
+others-may-write n block asked access t pending outrun {admits} k known out place byte lt =
+    ap (λ l. left_as place byte (writes_but l asked.request.source pending ++ writes_outrun outrun)) k.link_is
+    ∙ ap (λ s. left_as place byte (writes_but access.link s pending ++ writes_outrun outrun)) k.source_is
+    ∙ all-may-write n block access.link access.request.source t pending outrun {admits = admits} known out place byte lt
 
 -- ---- what those may write that have had a window
 

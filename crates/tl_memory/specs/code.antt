@@ -1,5 +1,6 @@
 pub mod Allowed
 pub mod Boxed
+pub mod ByteSet
 pub mod Changing
 pub mod Early
 pub mod Elsewhere

@@ -177,9 +177,9 @@ impl<const W: usize> Change<W> {
 /// The state of the bytes of memory: of all links of a manager, and of all blocks.
 #[derive(Drop)]
 pub struct Memory<const W: usize> {
-    alloc: Global,
+    pub(crate) alloc: Global,
     links: Links,
-    blocks: Blocks<W>,
+    pub(crate) blocks: Blocks<W>,
 }
 
 impl<const W: usize> Memory<W> {

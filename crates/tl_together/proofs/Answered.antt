@@ -32,7 +32,8 @@ use Rattle.tl_memory.specs.code.Taking.{request_answered}
 use Rattle.tl_params.specs.declared.memory_rule.MemoryRule.{MemoryRule}
 use Rattle.tl_params.specs.declared.memory_rule.MemoryRule.TheVariants.{M1, M4}
 use Rattle.tl_together.specs.declared.windows.Window.{Window}
-use Rattle.tl_together.specs.code.Windows.{asked_at, window_at, last_in, window_in, KnowsWindows}
+use Rattle.tl_together.specs.statement.Asked.{asked_at}
+use Rattle.tl_together.specs.code.Windows.{window_at, last_in, window_in, KnowsWindows}
 use Rattle.tl_together.proofs.Windowed.{free_window, window-is}
 
 -- one link more

@@ -12,7 +12,8 @@ use Rattle.tl_rules.specs.statement.Conformance.{Trace, on_link, same_perm}
 use Rattle.tl_rules.specs.statement.History.{pending}
 use Rattle.tl_bytes.specs.statement.Free.{is_free, may_hold}
 use Rattle.tl_bytes.specs.statement.Shown.{had_window, is_window, shows}
-use Rattle.tl_together.specs.code.Windows.{asked_at, last_in, shown_window, window_at}
+use Rattle.tl_together.specs.statement.Asked.{asked_at}
+use Rattle.tl_together.specs.code.Windows.{last_in, shown_window, window_at}
 use Rattle.tl_together.specs.declared.windows.Window.{Window}
 
 -- ---- windows

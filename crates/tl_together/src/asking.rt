@@ -1,20 +1,23 @@
 //! Questions to a judge about the trace so far.
 
-ghost use Rattle.std.specs.Prelude.{Bool, true, false, List, Some, IfOk, IfSome, length, is_some, option_copied};
-ghost use Rattle.std.specs.Prelude.{◌≡◌, ◌<◌, ◌+◌, ◌*◌};
+ghost use Rattle.std.specs.Prelude.{ℕ, Bool, true, false, List, Some, IfOk, IfSome, length, is_some, option_copied, find};
+ghost use Rattle.std.specs.Prelude.{◌∷◌, ◌≡◌, ◌<◌, ◌+◌, ◌*◌, ◌||◌};
 ghost use Rattle.tl_beat.specs.declared.beat.Beat.TheVariants as beat;
 ghost use Rattle.tl_beat.specs.declared.beat.BeatD.{BeatD};
 ghost use Rattle.tl_beat.specs.declared.channel.Channel.TheVariants as channel;
 ghost use Rattle.tl_beat.specs.statement.Width.{IsWidth};
 ghost use Rattle.tl_burst.specs.statement.Messages.{unfinished};
-ghost use Rattle.tl_bytes.specs.statement.Bytes.{may_be};
-ghost use Rattle.tl_bytes.specs.statement.Free.{may_hold};
+ghost use Rattle.tl_bytes.specs.statement.Bytes.{all_but, is_of, may_be, may_write, pending_accesses};
+ghost use Rattle.tl_bytes.specs.statement.Free.{is_free, may_hold};
 ghost use Rattle.tl_bytes.specs.statement.Lines.{told_moment};
+ghost use Rattle.tl_bytes.specs.statement.Shown;
+ghost use Rattle.tl_memory.specs.code.ByteSet.{has_at};
 ghost use Rattle.tl_memory.specs.code.Changing.{IsChange, KnowsFree};
 ghost use Rattle.tl_memory.specs.code.Lines.{told_by};
 ghost use Rattle.tl_memory.specs.statement.Blocks.{state_in};
 ghost use Rattle.tl_memory.specs.statement.ByteChanges.{AreByteChanges};
 ghost use Rattle.tl_memory.specs.statement.Expecting.{ExpectsBeat};
+ghost use Rattle.tl_memory.specs.statement.Known.{AnyIsTo};
 ghost use Rattle.tl_memory.specs.statement.Links.{KeepsRules, KnowsMessages};
 ghost use Rattle.tl_params.specs.declared.level.Level.{Level};
 ghost use Rattle.tl_params.specs.declared.liberties.Liberties.{Liberties};
@@ -23,17 +26,21 @@ ghost use Rattle.tl_rules.specs.statement.Conformance.{Trace, on_link};
 ghost use Rattle.tl_monitor.specs.statement.Granting.{coming_on};
 ghost use Rattle.tl_monitor.specs.statement.Knows.{begins_on, probe_on, request_on};
 ghost use Rattle.tl_monitor.specs.statement.Reporting.{report_on};
-ghost use Rattle.tl_together.specs.code.Windows.{asked_at};
+ghost use Rattle.tl_together.specs.code.Windows.{MayShow};
+ghost use Rattle.tl_together.specs.statement.Asked.{asked_at};
 ghost use Rattle.tl_together.specs.statement.Coherence.{broken_together};
 
 use crate::breach::Breach;
 use crate::fault::JudgeFault;
+use crate::free::is_free;
 use crate::judge::{Judge, answered, asked_in};
+use crate::shown::{is_shown, shown_by};
 use std::alloc::AllocError;
 use tl_beat::beat::{Beat, Link};
 use tl_beat::control::ControlC;
 use tl_bytes::write::Write;
 use tl_memory::byte_change::ByteChange;
+use tl_memory::byte_set::ByteSet;
 use tl_memory::expected::Expected;
 use tl_memory::link::LinkMessages;
 use tl_memory::memory::Change;
@@ -174,6 +181,51 @@ impl<const W: usize> Judge<W> {
             MayWrite writes.items block (windowed (length levels) block t) (outrun_accesses t)) }
     {
         self.memory.grant_writes(block)
+    }
+
+    /// Adds to the set of each place of a block the values that accesses other than the one with this source on a link may
+    /// write there.
+    pub fn add_others(&self, sets: &mut [ByteSet; 64], block: u32, link: Link, source: u8)
+        ensures { (levels : List Level) (l : Liberties) (t : Trace W) → Knows self.now levels l t false →
+            (place v : ℕ) → place < 64 → v < 256 → has_at sets.new place v ≡ (has_at sets.old place v
+            || may_write (64 * block + place) v (all_but link.0 source (pending_accesses t)) (outrun_accesses t)) }
+    {
+        self.memory.add_others(sets, block, link, source);
+    }
+
+    /// Whether the access with this source on a link is pending, if it is to this block.
+    pub fn is_pending(&self, block: u32, link: Link, source: u8) -> bool
+        ensures { (levels : List Level) (l : Liberties) (t : Trace W) → Knows self.now levels l t false →
+            AnyIsTo block (find (is_of link.0 source) (pending_accesses t)) →
+            result ≡ is_some (find (is_of link.0 source) (pending_accesses t)) }
+    {
+        self.memory.is_pending(block, link, source)
+    }
+
+    /// Whether no link may hold a permission of a block that conflicts with this one.
+    pub fn is_free(&self, given: Perm, block: u32) -> bool
+        ensures { (levels : List Level) (l : Liberties) (t : Trace W) → Knows self.now levels l t false →
+            result ≡ is_free (length levels) given block t }
+    {
+        is_free(&self.monitor, self.links, given, block)
+    }
+
+    /// The block whose bytes a beat shows, if it completes its message.
+    pub fn shown(&self, link: Link, beat: &Beat<W>) -> Option<u32>
+        ensures { (levels : List Level) (l : Liberties) (t : Trace W) → Knows self.now levels l t false →
+            link.0 < length levels → MayShow result beat.now (on_link link.0 t) }
+    {
+        shown_by(&self.monitor, link, beat)
+    }
+
+    /// Whether the beat that was taken last shows the bytes of this block. `shown` is the block whose bytes it shows if it
+    /// completes its message.
+    pub fn shows(&self, link: Link, beat: &Beat<W>, shown: Option<u32>, block: u32) -> bool
+        ensures { (levels : List Level) (l : Liberties) (t : Trace W) →
+            Knows self.now levels l ((link, beat.now) ∷ t) false → link.0 < length levels →
+            MayShow shown beat.now (on_link link.0 t) → result ≡ Shown.shows block beat.now (on_link link.0 t) }
+    {
+        is_shown(&self.monitor, link, beat, shown, block)
     }
 
     /// The bytes that the response whose beat is next on a link may bring, if the beat makes this change.

@@ -15,12 +15,12 @@ pub enum Breach {
     OfMemory(MemoryRule),
 }
 
-/// The rule that a judge leaves to its caller, if it leaves one.
+/// The rules that a judge leaves to its caller, if it leaves some.
 #[derive(Clone, Copy, Debug, PartialEq, Eq)]
 pub(crate) enum Unjudged {
     Nothing,
-    /// M2: a GrantData may bring any bytes.
-    Grants,
+    /// M2 and M3: a response may bring any bytes.
+    Bytes,
 }
 
 /// The rule of memory that a beat breaks, unless it is left to the caller.
@@ -29,7 +29,7 @@ pub(crate) fn judged(rule: Option<MemoryRule>, left: Unjudged) -> Option<MemoryR
     ensures { result ≡ judged left rule }
 {
     match (left, rule) {
-        (Unjudged::Grants, Some(MemoryRule::M2)) => None,
+        (Unjudged::Bytes, Some(MemoryRule::M2 | MemoryRule::M3)) => None,
         _ => rule,
     }
 }

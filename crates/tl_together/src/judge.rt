@@ -83,7 +83,7 @@ fn last_in(given: Perm, window: Window) -> u64
 #[derive(Drop)]
 pub struct Judge<const W: usize> {
     pub(crate) monitor: Monitor<W>,
-    links: u8,
+    pub(crate) links: u8,
     closed: bool,
     /// The number of beats that were taken.
     pub(crate) moment: u64,
@@ -106,7 +106,7 @@ fn empty_tables(alloc: Global, count: u8) -> Result<Vec<ByteTable<u64>>, AllocEr
 
 impl<const W: usize> Judge<W> {
     ghost use Rattle.tl_together.specs.statement.Knows.{KnowsTrace, Knows, IsNew};
-    ghost use Rattle.tl_together.specs.statement.Knows.{Answers, fault_but_grants, fault_of, recorded_after};
+    ghost use Rattle.tl_together.specs.statement.Knows.{Answers, fault_but_bytes, fault_of, recorded_after};
     ghost use Rattle.tl_together.specs.code.Judged.{fault_but};
 
     /// A judge of links of these levels, which has seen no beat. The error is `Levels` unless there are 1 to 16 levels,
@@ -292,7 +292,7 @@ impl<const W: usize> Judge<W> {
         }
     }
 
-    /// Judges a beat of a link by all rules but the one that is left, and takes it if it breaks none. After a refusal the
+    /// Judges a beat of a link by all rules but those that are left, and takes it if it breaks none. After a refusal the
     /// judge is as before, and goes on. The error is `Closed` if `push` refused an earlier beat for a broken rule.
     #[inline(always)]
     fn push_but(&mut self, left: Unjudged, link: Link, beat: &Beat<W>) -> Result<(), JudgeFault>
@@ -360,18 +360,18 @@ impl<const W: usize> Judge<W> {
         self.push_but(Unjudged::Nothing, link, beat)
     }
 
-    /// The same but for M2, which the caller judges: a GrantData may bring any bytes.
+    /// The same but for M2 and M3, which the caller judges: a response may bring any bytes.
     #[inline(never)]
-    pub fn try_push_but_grants(&mut self, link: Link, beat: &Beat<W>) -> Result<(), JudgeFault>
+    pub fn try_push_but_bytes(&mut self, link: Link, beat: &Beat<W>) -> Result<(), JudgeFault>
         requires { IsWidth W }
         ensures answer { (levels : List Level) (l : Liberties) (t : Trace W) (closed : Bool) →
             Knows self.old levels l t closed →
-            Answers (fault_but_grants levels l t closed (link, beat.now)) result }
+            Answers (fault_but_bytes levels l t closed (link, beat.now)) result }
         ensures knows { (levels : List Level) (l : Liberties) (t : Trace W) (closed : Bool) →
             Knows self.old levels l t closed →
             Knows self.new levels l (recorded_after result (link, beat.now) t) closed }
     {
-        self.push_but(Unjudged::Grants, link, beat)
+        self.push_but(Unjudged::Bytes, link, beat)
     }
 
     /// Judges a beat of a link, and takes it if it breaks no rule. After a broken rule it answers every call with

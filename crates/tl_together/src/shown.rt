@@ -70,7 +70,7 @@ pub fn shown_by<const W: usize>(monitor: &Monitor<W>, link: Link, beat: &Beat<W>
 
 /// Whether the beat that was taken last shows the bytes of this block. `shown` is the block whose bytes it shows if it
 /// completes its message.
-fn is_shown<const W: usize>(
+pub fn is_shown<const W: usize>(
     monitor: &Monitor<W>,
     link: Link,
     beat: &Beat<W>,

@@ -37,7 +37,7 @@ use Rattle.tl_explain.proofs.follows.Links.{record_kept}
 use Rattle.tl_explain.proofs.Sayings.{held_told}
 use Rattle.tl_rules.specs.declared.past.Request.{Request}
 use Rattle.tl_rules.specs.statement.Windows.{needs}
-use Rattle.tl_together.specs.code.Windows.{asked_at}
+use Rattle.tl_together.specs.statement.Asked.{asked_at}
 use Rattle.tl_witness.specs.code.Witness.{IsFresh, KnowsWitness, Records}
 use Rattle.tl_witness.specs.declared.witness.Witness.{Witness}
 use Rattle.tl_witness.specs.statement.Naming.{Naming}

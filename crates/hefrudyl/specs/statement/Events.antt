@@ -7,8 +7,9 @@ use Rattle.tl_beat.specs.statement.Line.{Spells, line_fault}
 use Rattle.tl_commits.specs.declared.fault.CommitFault.{CommitFault}
 use Rattle.tl_commits.specs.declared.fault.CommitFault.TheVariants.{Broken}
 use Rattle.tl_commits.specs.declared.judge.CommitJudge.{CommitJudge}
+use Rattle.tl_commits.specs.statement.Breaches.{broken_event}
 use Rattle.tl_commits.specs.statement.Events.{Events}
-use Rattle.tl_commits.specs.statement.Knows.{Answers, KnowsCommits, broken_by_judge, recorded_after}
+use Rattle.tl_commits.specs.statement.Knows.{Answers, KnowsCommits, recorded_after}
 use Rattle.tl_events.specs.declared.commit.Commit.{Commit}
 use Rattle.tl_events.specs.declared.commit.Event.{Event}
 use Rattle.tl_events.specs.declared.commit.Event.TheVariants as event
@@ -28,7 +29,7 @@ use Rattle.hefrudyl.specs.declared.event_judge.EventJudge.{EventJudge}
 -- this one if it was taken.
 pub record Judges {w : ℕ} (old new : CommitJudge w) (x : Link × Event w) (judged : Result ⊤ CommitFault) : Type 0 where
   pub lawful : (levels : List Level) (complete : List Bool) (l : Liberties) (e : Events w)
-      → KnowsCommits old levels complete l e → Answers (broken_by_judge levels complete l x.0 x.1 e) judged
+      → KnowsCommits old levels complete l e → Answers (broken_event levels complete l x.0 x.1 e) judged
   pub knows : (levels : List Level) (complete : List Bool) (l : Liberties) (e : Events w)
       → KnowsCommits old levels complete l e → KnowsCommits new levels complete l (recorded_after judged x e)
 

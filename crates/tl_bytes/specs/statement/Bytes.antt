@@ -21,7 +21,7 @@ use Rattle.tl_burst.specs.declared.message.MessageA.{MessageA}
 use Rattle.tl_burst.specs.statement.Burst.{byte_at, reaches}
 use Rattle.tl_burst.specs.statement.Messages.{History, on, unfinished}
 use Rattle.tl_params.specs.declared.perm.Perm.TheVariants as perm
-use Rattle.tl_rules.specs.code.Open.{open_request}
+use Rattle.tl_rules.specs.statement.OpenMessages.{open_request}
 use Rattle.tl_rules.specs.declared.past.Request.{Request}
 use Rattle.tl_rules.specs.statement.Admission.{bytes_carried, is_spoiled, lanes_of}
 use Rattle.tl_rules.specs.statement.Conformance.{Trace, on_link}

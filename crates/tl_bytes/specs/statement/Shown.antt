@@ -10,7 +10,7 @@ use Rattle.tl_beat.specs.declared.opcode.OpC.TheVariants as c
 use Rattle.tl_burst.specs.statement.Messages.{History}
 use Rattle.tl_params.specs.declared.perm.Perm.{Perm}
 use Rattle.tl_params.specs.declared.perm.Perm.TheVariants as perm
-use Rattle.tl_rules.specs.code.Open.{open_probe, open_request}
+use Rattle.tl_rules.specs.statement.OpenMessages.{open_probe, open_request}
 use Rattle.tl_rules.specs.declared.past.Probe.{Probe}
 use Rattle.tl_rules.specs.statement.Conformance.{Trace, is_probe_block, on_link, same_perm}
 use Rattle.tl_rules.specs.statement.History.{block_at, ends, reported}

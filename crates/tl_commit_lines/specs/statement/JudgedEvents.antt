@@ -11,8 +11,8 @@ use Rattle.tl_events.specs.declared.commit.Event.TheVariants as event
 use Rattle.tl_events.specs.statement.EventLine.{SpellsEvent, event_fault}
 use Rattle.tl_commits.specs.declared.rule.CommitBreach.{CommitBreach}
 use Rattle.tl_commits.specs.declared.rule.CommitBreach.TheVariants.{OfBeats, OfCommits}
+use Rattle.tl_commits.specs.statement.Breaches.{broken_event}
 use Rattle.tl_commits.specs.statement.Events.{Events, beats_of}
-use Rattle.tl_commits.specs.statement.Knows.{broken_by_judge}
 use Rattle.tl_engine.specs.declared.fault.Fault.{Fault}
 use Rattle.tl_engine.specs.declared.fault.Fault.TheVariants.{CommitRule, Line, Rule as Breaks}
 use Rattle.tl_engine.specs.declared.status.Status.{Status}
@@ -37,7 +37,7 @@ fault_of_commits (OfCommits rule) = CommitRule rule
 -- after the earlier beats of its link, and a commit for none.
 abbrev pub fault_by : (w : ℕ) → Bool → List MarkedLevel → Liberties → Link → Event w → Events w → Option Fault
 fault_by w true links may link x e =
-    option_map fault_of_commits (broken_by_judge (levels_of links) (complete_of links) may link x e)
+    option_map fault_of_commits (broken_event (levels_of links) (complete_of links) may link x e)
 fault_by w false links may link (event.Beat x) e =
     option_map Breaks (broken_on_link_under may (levels_of links) (link, x) (beats_of e))
 fault_by w false links may link (event.Commit x) e = None

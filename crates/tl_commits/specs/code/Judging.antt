@@ -6,8 +6,13 @@ use Rattle.tl_commits.specs.declared.fault.CommitFault.TheVariants as fault
 use Rattle.tl_commits.specs.declared.rule.CommitBreach.{CommitBreach}
 use Rattle.tl_commits.specs.declared.rule.CommitBreach.TheVariants.{OfBeats, OfCommits}
 use Rattle.tl_together.specs.declared.breach.Breach.{Breach}
+use Rattle.tl_beat.specs.declared.beat.Beat.{Beat}
+use Rattle.tl_beat.specs.declared.beat.Beat.TheVariants as beat
+use Rattle.tl_params.specs.declared.memory_rule.MemoryRule.{MemoryRule}
+use Rattle.tl_commits.specs.statement.Breaches.{broken_bytes_seen}
+use Rattle.tl_commits.specs.statement.Events.{Events}
 use Rattle.tl_events.specs.declared.rule.CommitRule.{CommitRule}
-use Rattle.std.specs.Prelude.{ℕ, true, ◌≡◌, ◌==◌, if◌then◌else◌, List, Option, Some, None, is_some}
+use Rattle.std.specs.Prelude.{ℕ, Bool, true, ◌≡◌, ◌==◌, if◌then◌else◌, List, Option, Some, None, is_some}
 use Rattle.tl_commits.specs.code.Loading.{AreRenewed}
 use Rattle.tl_commits.specs.code.ValueTable.{values_in}
 use Rattle.tl_commits.specs.declared.block_values.BlockValues.{BlockValues}
@@ -34,6 +39,7 @@ pub record IsSameBut {w : ℕ} (old new : CommitJudge w) : Type 0 where
   pub complete_are : new.complete ≡ old.complete
   pub loads_are : new.loads ≡ old.loads
   pub grants_are : new.grants ≡ old.grants
+  pub readings_are : new.readings ≡ old.readings
 
 -- the table with the values of one block, if there are some
 abbrev pub HasPut : List (ℕ × BlockValues) → List (ℕ × BlockValues) → Option (ℕ × BlockValues) → Type 0
@@ -48,4 +54,10 @@ pub record IsRecorded {w : ℕ} (old new : CommitJudge w) (next : Option (ℕ ×
   pub complete_are : new.complete ≡ old.complete
   pub values_are : HasPut old.values new.values next
   pub grants_are : new.grants ≡ old.grants
+  pub readings_are : new.readings ≡ old.readings
   pub loads_are : AreRenewed old.judge new.values old.complete.items old.loads.items new.loads.items
+
+-- M2 or M3, if the bytes of a beat aren't true
+abbrev pub broken_bytes : {w : ℕ} → List Bool → ℕ → ℕ → Beat w → Events w → Option MemoryRule
+broken_bytes complete n link (beat.D x) e = broken_bytes_seen complete n link x e
+broken_bytes complete n link _ e = None

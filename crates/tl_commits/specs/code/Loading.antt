@@ -11,7 +11,7 @@ use Rattle.tl_together.specs.declared.judge.Judge.{Judge}
 use Rattle.tl_together.specs.statement.Knows.{Knows}
 use Rattle.tl_events.specs.declared.commit.Piece.{Piece}
 use Rattle.tl_events.specs.statement.CommitLine.{IsPiece}
-use Rattle.tl_commits.specs.code.ByteSet.{has_at}
+use Rattle.tl_memory.specs.code.ByteSet.{has_at}
 use Rattle.tl_commits.specs.code.ValueTable.{KnowsTable}
 use Rattle.tl_commits.specs.declared.block_values.BlockValues.{BlockValues}
 use Rattle.tl_commits.specs.declared.loading.Loading.{Loading}

@@ -9,7 +9,7 @@ use Rattle.tl_beat.specs.declared.opcode.OpD.{OpD}
 use Rattle.tl_beat.specs.declared.opcode.OpD.TheVariants as d
 use Rattle.tl_burst.specs.statement.Burst.{reaches}
 use Rattle.tl_burst.specs.statement.Messages.{unfinished}
-use Rattle.tl_rules.specs.code.Open.{open_request}
+use Rattle.tl_rules.specs.statement.OpenMessages.{open_request}
 use Rattle.tl_rules.specs.declared.past.Request.{Request}
 use Rattle.tl_rules.specs.statement.Conformance.{Trace, on_link}
 use Rattle.tl_rules.specs.statement.History.{block_at}

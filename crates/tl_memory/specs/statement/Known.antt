@@ -11,7 +11,7 @@ use Rattle.tl_burst.specs.statement.Burst.{bit, reaches}
 use Rattle.tl_params.specs.declared.level.Level.TheVariants as level
 use Rattle.tl_params.specs.declared.perm.Perm.{Perm}
 use Rattle.tl_params.specs.declared.perm.Perm.TheVariants as perm
-use Rattle.tl_rules.specs.code.Control.{a_control}
+use Rattle.tl_rules.specs.statement.Legality.{a_has_param, a_has_size, a_of_level, is_aligned}
 use Rattle.tl_rules.specs.statement.Admission.{is_spoiled, lanes_of}
 use Rattle.tl_bytes.specs.statement.Bytes.{Access, access_writes, carried_mask, last_window, pending_accesses}
 use Rattle.tl_bytes.specs.statement.Bytes.{is_put, may_find, may_read, pending_value}
@@ -65,9 +65,12 @@ is_atomic a.ArithmeticData = true
 is_atomic a.LogicalData = true
 is_atomic _ = false
 
--- an access with these control fields breaks no rule at TL-UH, which has the accesses of all levels
-abbrev pub IsPerformable : ℕ → OpA → ℕ → ℕ → ℕ → Type 0
-IsPerformable w opcode param size address = a_control w level.UH opcode param size address ≡ None
+-- an access with these control fields breaks none of L1 to L4 at TL-UH, which has the accesses of all levels
+pub record IsPerformable (w : ℕ) (opcode : OpA) (param size address : ℕ) : Type 0 where
+  pub of_level : a_of_level level.UH opcode ≡ true
+  pub has_param : a_has_param opcode param ≡ true
+  pub has_size : a_has_size w level.UH opcode size ≡ true
+  pub aligned : is_aligned address size ≡ true
 
 -- This is the pending access. The mask of a request with data has only bytes that have come. For an atomic whose beats
 -- aren't corrupt, the payload has these bytes.

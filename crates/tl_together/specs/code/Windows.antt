@@ -1,12 +1,12 @@
 -- When blocks could last be accessed, and requests were complete, counted in beats, and the tables of it.
 use Rattle.std.specs.Prelude.{ℕ, suc, Bool, true, false, [], ◌∷◌, ◌&&◌, ◌≡◌, ◌<◌, if◌then◌else◌, List}
-use Rattle.std.specs.Prelude.{length, Option, Some, None, is_some, is_none, slice_index_or, ⊤}
+use Rattle.std.specs.Prelude.{length, Option, Some, None, is_some, slice_index_or, ⊤}
 use Rattle.std.specs.BTreeMap.{is_at}
 use Rattle.std.specs.Map.{lookup}
 use Rattle.std.specs.Ordering.{nat_cmp}
 use Rattle.tl_params.specs.declared.perm.Perm.{Perm}
 use Rattle.tl_params.specs.declared.perm.Perm.TheVariants as perm
-use Rattle.tl_rules.specs.code.Open.{open_request}
+use Rattle.tl_rules.specs.statement.OpenMessages.{open_request}
 use Rattle.tl_rules.specs.statement.Conformance.{Trace, on_link}
 use Rattle.tl_beat.specs.declared.beat.Beat.{Beat}
 use Rattle.tl_beat.specs.declared.beat.Link.{Link}
@@ -28,13 +28,7 @@ use Rattle.tl_memory.specs.declared.free.Freedom.{Freedom}
 use Rattle.tl_together.specs.declared.windows.Window.{Window}
 use Rattle.tl_bytes.specs.statement.Free.{is_free, may_hold}
 use Rattle.tl_bytes.specs.statement.Shown.{is_window, shows}
-
--- how many beats had been taken when the request with this source was last complete and before wasn't
-unfoldable pub asked_at : {w : ℕ} → ℕ → ℕ → Trace w → ℕ
-asked_at link source [] = 0
-asked_at link source (x ∷ t) =
-    if is_some (open_request source (on_link link (x ∷ t))) && is_none (open_request source (on_link link t)) then suc
-    (length t) else asked_at link source t
+use Rattle.tl_together.specs.statement.Asked.{asked_at}
 
 -- how many beats had been taken when one could last access the block who needs so much of it
 unfoldable pub window_at : {w : ℕ} → ℕ → Perm → ℕ → Trace w → ℕ

@@ -11,7 +11,7 @@ use Rattle.tl_params.specs.declared.level.Level.{Level}
 use Rattle.tl_params.specs.declared.perm.Perm.{Perm}
 use Rattle.tl_params.specs.declared.liberties.Liberties.{Liberties}
 use Rattle.tl_params.specs.declared.rule.Rule.{Rule}
-use Rattle.tl_rules.specs.code.Open.{open_request}
+use Rattle.tl_rules.specs.statement.OpenMessages.{open_request}
 use Rattle.tl_rules.specs.declared.past.Request.{Request}
 use Rattle.tl_rules.specs.statement.Conformance.{Trace, on_link}
 use Rattle.tl_rules.specs.statement.History.{begins, is_grant, capped}
@@ -97,15 +97,16 @@ first_broken None None = None
 abbrev pub broken_together : {w : ℕ} → List Level → Liberties → Link × Beat w → Trace w → Option Breach
 broken_together levels l x t = first_broken (broken_on_link_under l levels x t) (broken_memory (length levels) x.0.0 x.1 t)
 
--- the rule of memory, unless it is M2
-abbrev pub but_grants : Option MemoryRule → Option MemoryRule
-but_grants (Some M2) = None
-but_grants rule = rule
+-- the rule of memory, unless it is M2 or M3
+abbrev pub but_bytes : Option MemoryRule → Option MemoryRule
+but_bytes (Some M2) = None
+but_bytes (Some M3) = None
+but_bytes rule = rule
 
--- the first rule that a beat breaks apart from M2: a GrantData may bring any bytes
-abbrev pub broken_but_grants : {w : ℕ} → List Level → Liberties → Link × Beat w → Trace w → Option Breach
-broken_but_grants levels l x t =
-    first_broken (broken_on_link_under l levels x t) (but_grants (broken_memory (length levels) x.0.0 x.1 t))
+-- the first rule that a beat breaks apart from M2 and M3: a response may bring any bytes
+abbrev pub broken_but_bytes : {w : ℕ} → List Level → Liberties → Link × Beat w → Trace w → Option Breach
+broken_but_bytes levels l x t =
+    first_broken (broken_on_link_under l levels x t) (but_bytes (broken_memory (length levels) x.0.0 x.1 t))
 
 -- a breach at place i, or the first one of the rest if there is none
 abbrev pub breach_or : Option Breach → ℕ → Option (ℕ × Breach) → Option (ℕ × Breach)

@@ -15,7 +15,7 @@ use Rattle.tl_together.specs.declared.fault.JudgeFault.TheVariants as judge
 use Rattle.tl_together.specs.declared.fault.TraceFault.{TraceFault}
 use Rattle.tl_together.specs.declared.fault.TraceFault.TheVariants as trace
 use Rattle.tl_together.specs.declared.judge.Judge.{Judge}
-use Rattle.tl_together.specs.statement.Coherence.{broken_but_grants, broken_together, first_breach}
+use Rattle.tl_together.specs.statement.Coherence.{broken_but_bytes, broken_together, first_breach}
 
 -- the judge has these levels and liberties, and the state that the rules need after the trace, whose newest beat is
 -- first
@@ -54,9 +54,9 @@ fault_when false breach = broken breach
 abbrev pub fault_of : {w : ℕ} → List Level → Liberties → Trace w → Bool → Link × Beat w → Option JudgeFault
 fault_of levels l t closed x = fault_when closed (broken_together levels l x t)
 
--- the same for a judge that doesn't judge M2
-abbrev pub fault_but_grants : {w : ℕ} → List Level → Liberties → Trace w → Bool → Link × Beat w → Option JudgeFault
-fault_but_grants levels l t closed x = fault_when closed (broken_but_grants levels l x t)
+-- the same for a judge that judges neither M2 nor M3
+abbrev pub fault_but_bytes : {w : ℕ} → List Level → Liberties → Trace w → Bool → Link × Beat w → Option JudgeFault
+fault_but_bytes levels l t closed x = fault_when closed (broken_but_bytes levels l x t)
 
 -- the answer to a beat with this fault, or with none; Memory may be the answer in any case
 abbrev pub Answers : Option JudgeFault → Result ⊤ JudgeFault → Type 0

@@ -17,7 +17,7 @@ use Rattle.tl_monitor.specs.statement.Granting.{coming}
 use Rattle.tl_explain.specs.declared.told.Mention.{Mention}
 use Rattle.tl_explain.specs.statement.Evidence.{burst_opening, last_saying_under}
 use Rattle.tl_explain.specs.statement.Sentences.{perm_name}
-use Rattle.tl_together.specs.code.Windows.{asked_at}
+use Rattle.tl_together.specs.statement.Asked.{asked_at}
 use Rattle.tl_params.specs.declared.memory_rule.MemoryRule.{MemoryRule}
 use Rattle.tl_params.specs.declared.memory_rule.MemoryRule.TheVariants.{M1, M4}
 use Rattle.tl_witness.specs.statement.Naming.{Naming}

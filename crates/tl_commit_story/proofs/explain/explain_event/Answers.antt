@@ -16,10 +16,10 @@ returns-clause-ok g c =
     let judged : JudgedCommits c.args.together c.args.allow (lines_of h.0) c.judge_input.new.out.items c.in_ok-judge_input.field-0 =
     subst (λ (p : Bool × Liberties). JudgedCommits p.0 p.1 (lines_of h.0) c.judge_input.new.out.items c.in_ok-judge_input.field-0)
     (search rules) h.2 in
-    let told : c.into_handler.result.replay.told ≡ true = search rules in
+    let told : c.into_handler-story.result.replay.told ≡ true = search rules in
     let same : c.judge_input.new.out.items ≡ c.args.verdict.now =
     rw c.as_slice.ensures.value at (c.is_same.ensures (search rules)) in
-    told-explains c.into_handler.result c.args.together c.args.allow _ _ h.0 c.judge_input.new.out.items c.args.verdict.now _
-    c.in_ok-judge_input.field-0 h.1 judged (rw c.into_handler.ensures h.4) told
-    (same_liberties c.into_handler.result.replay.allow c.args.allow c.ne.result c.ne.ensures c.if-ne.false) same
+    told-explains c.into_handler-story.result c.args.together c.args.allow _ _ h.0 c.judge_input.new.out.items
+    c.args.verdict.now _ c.in_ok-judge_input.field-0 h.1 judged (rw c.into_handler-story.ensures h.4) told
+    (same_liberties c.into_handler-story.result.replay.allow c.args.allow c.ne.result c.ne.ensures c.if-ne.false) same
     (search rules) (search rules) (search rules)

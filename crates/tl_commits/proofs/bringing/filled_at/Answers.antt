@@ -1,7 +1,7 @@
 use Rattle.std.proofs.Common.{sym, ◌∙◌}
 use Rattle.tl_beat.specs.declared.channel.Channel.{Channel}
 use Rattle.tl_burst.specs.statement.Messages.{unfinished}
-use Rattle.tl_commits.specs.code.ByteSet.{has}
+use Rattle.tl_memory.specs.code.ByteSet.{has}
 use Rattle.tl_commits.proofs.LoadedBytes.{fills-none, fills-one}
 use Rattle.tl_commits.proofs.bringing.filled_at.Goals as goal
 

@@ -1,5 +1,6 @@
 use Rattle.std.proofs.Common.{ap, length, ◌∙◌, ◌≡◌, ◌+◌, true, false}
-use Rattle.tl_commits.specs.code.ByteSet.{filled, has_at}
+use Rattle.tl_memory.specs.code.ByteSet.{has_at}
+use Rattle.tl_commits.specs.code.Filling.{filled}
 use Rattle.tl_commits.specs.statement.Copies.{brought, link_beats}
 use Rattle.tl_commits.specs.statement.Events.{beats_of}
 use Rattle.tl_commits.proofs.LoadedBytes.{address-from, brings-filled}

@@ -2,7 +2,8 @@ use Rattle.std.proofs.Common.{◌≡◌, ◌<◌, ◌+◌, ◌*◌, ℕ, length}
 use Rattle.std.specs.Prelude.{if◌then◌else◌, nat_lt}
 use Rattle.tl_burst.specs.statement.Messages.{History}
 use Rattle.tl_memory.specs.statement.Links.{KnowsMessages}
-use Rattle.tl_commits.specs.code.ByteSet.{filled, has_at}
+use Rattle.tl_memory.specs.code.ByteSet.{has_at}
+use Rattle.tl_commits.specs.code.Filling.{filled}
 use Rattle.tl_commits.specs.statement.Copies.{brought}
 use Rattle.tl_commits.proofs.bringing.with_filled.Given as goal
 

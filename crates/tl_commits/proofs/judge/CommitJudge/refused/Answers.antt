@@ -5,12 +5,12 @@ use Rattle.tl_commits.proofs.judge.CommitJudge.refused.Goals as goal
 
 pub returns-in-Ok-Some-clause-knows : goal.returns-in-Ok-Some-clause-knows
 returns-in-Ok-Some-clause-knows g c = λ levels complete l e k.
-    judge-asked _ _ levels complete l e k (c.broken.ensures.knows levels l (beats_of e) false k.judge_is) refl refl refl refl refl
+    judge-asked _ _ levels complete l e k (c.broken.ensures.knows levels l (beats_of e) false k.judge_is) refl refl refl refl refl refl
 
 pub returns-in-Ok-None-clause-knows : goal.returns-in-Ok-None-clause-knows
 returns-in-Ok-None-clause-knows g c = λ levels complete l e k.
-    judge-asked _ _ levels complete l e k (c.broken.ensures.knows levels l (beats_of e) false k.judge_is) refl refl refl refl refl
+    judge-asked _ _ levels complete l e k (c.broken.ensures.knows levels l (beats_of e) false k.judge_is) refl refl refl refl refl refl
 
 pub returns-in-Err-clause-knows : goal.returns-in-Err-clause-knows
 returns-in-Err-clause-knows g c = λ levels complete l e k.
-    judge-asked _ _ levels complete l e k (c.broken.ensures.knows levels l (beats_of e) false k.judge_is) refl refl refl refl refl
+    judge-asked _ _ levels complete l e k (c.broken.ensures.knows levels l (beats_of e) false k.judge_is) refl refl refl refl refl refl

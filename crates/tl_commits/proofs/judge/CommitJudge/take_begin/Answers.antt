@@ -10,6 +10,7 @@ use Rattle.tl_events.specs.declared.commit.Event.TheVariants as event
 use Rattle.tl_commits.specs.statement.Events.{beats_of}
 use Rattle.tl_commits.proofs.GrantsKept.{grants-commit}
 use Rattle.tl_commits.proofs.Loads.{all-renewed}
+use Rattle.tl_commits.proofs.PendingReads.{readings-commit}
 use Rattle.tl_commits.proofs.LoadsNext.{loads-begun, pieces-begun}
 use Rattle.tl_commits.proofs.TableJudged.{table-begun}
 use Rattle.tl_commits.proofs.judge.CommitJudge.take_begin.Goals as goal
@@ -38,4 +39,6 @@ returns-clause-knows g c = λ levels complete l e k lt is.
       values_are = table;
       grants_are = rw r.grants_are (grants-commit c.args.self.now.grants.items complete n c.args.link (commit.Begin c.args.piece) e
           k.grants_are);
+      readings_are = rw r.readings_are (readings-commit c.args.self.now.readings.items complete n c.args.link
+          (commit.Begin c.args.piece) e k.readings_are);
     }

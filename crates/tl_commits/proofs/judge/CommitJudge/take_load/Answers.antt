@@ -11,6 +11,7 @@ use Rattle.tl_commits.specs.statement.Breaches.{breach_of}
 use Rattle.tl_commits.proofs.CommitsJudged.{commit-refused}
 use Rattle.tl_commits.proofs.GrantsKept.{grants-commit}
 use Rattle.tl_commits.proofs.Loads.{all-renewed, pieces-filter}
+use Rattle.tl_commits.proofs.PendingReads.{readings-commit}
 use Rattle.tl_commits.proofs.LoadsNext.{loads-load}
 use Rattle.tl_commits.proofs.TableJudged.{table-recorded}
 use Rattle.tl_commits.proofs.judge.CommitJudge.take_load.Goals as goal
@@ -51,4 +52,6 @@ returns-clause-knows g c = λ levels complete l e k lt is.
       values_are = table;
       grants_are = rw (r.grants_are ∙ s.grants_are) (grants-commit c.args.self.now.grants.items complete n c.args.link (commit.Load c.args.piece c.args.value) e
           k.grants_are);
+      readings_are = rw (r.readings_are ∙ s.readings_are) (readings-commit c.args.self.now.readings.items complete n
+          c.args.link (commit.Load c.args.piece c.args.value) e k.readings_are);
     }

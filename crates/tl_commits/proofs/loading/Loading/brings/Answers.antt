@@ -1,6 +1,6 @@
 use Rattle.std.proofs.Common.{◌<◌, ◌≡◌, arith, ap, ap₂, ◌∙◌, get_or}
 use Rattle.tl_rules.specs.statement.Effect.{byte_of}
-use Rattle.tl_commits.specs.code.ByteSet.{has, nothing}
+use Rattle.tl_memory.specs.code.ByteSet.{has, nothing}
 use Rattle.tl_commits.specs.code.Loading.{had}
 use Rattle.tl_commits.proofs.Pieces.{below-more, below-none}
 use Rattle.tl_commits.proofs.loading.Loading.brings.Goals as goal

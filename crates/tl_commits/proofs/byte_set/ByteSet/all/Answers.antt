@@ -1,6 +1,0 @@
-use Rattle.std.proofs.Common.{refl}
-use Rattle.tl_commits.proofs.ByteSets.{has-all}
-use Rattle.tl_commits.proofs.byte_set.ByteSet.all.Goals as goal
-
-pub returns : goal.returns
-returns c = λ v lt. has-all _ v refl lt

@@ -1,0 +1,6 @@
+use Rattle.std.proofs.Common.{refl}
+use Rattle.tl_memory.proofs.ByteSets.{has-all}
+use Rattle.tl_memory.proofs.byte_set.ByteSet.all.Goals as goal
+
+pub returns : goal.returns
+returns c = λ v lt. has-all _ v refl lt

@@ -16,8 +16,7 @@ use Rattle.tl_rules.specs.statement.History.{block_at, is_grant}
 use Rattle.tl_bytes.specs.statement.Bytes.{could_be}
 unfoldable use Rattle.tl_bytes.specs.statement.Bytes.{carried_byte}
 use Rattle.tl_coherence.specs.protocol.Packet.{Answer, Grant, Kind, Packet, ReleaseAck}
-use Rattle.tl_coherence.specs.protocol.Protocol.{is_on, packet, view}
-use Rattle.tl_coherence.specs.protocol.Tokens.{is_granting}
+use Rattle.tl_coherence.specs.protocol.Protocol.{is_on, packet}
 use Rattle.tl_coherence.specs.refinement.AbstractStep.{AbstractState}
 use Rattle.tl_coherence.specs.refinement.PacketMessages.{message_of_kind}
 unfoldable use Rattle.tl_coherence.specs.refinement.PacketMessages.{block_message}
@@ -34,7 +33,7 @@ use Rattle.tl_coherence.proofs.flow.Flows.{flowed}
 use Rattle.tl_coherence.proofs.flow.NextOnD.{grant_sent}
 use Rattle.tl_coherence.proofs.links.FromInvariant.{matched-given}
 use Rattle.tl_coherence.proofs.protocol.HeadOfD.{IsGrantDue, ack_message, answer-due}
-use Rattle.tl_coherence.proofs.protocol.HeadOfD.{grant-due, grant-rendered, own_view}
+use Rattle.tl_coherence.proofs.protocol.HeadOfD.{grant-due, grant-rendered}
 use Rattle.tl_coherence.proofs.queues.Codes.{access_kind}
 use Rattle.tl_coherence.proofs.queues.Phases.{and_right}
 use Rattle.tl_concord.proofs.Carried.{carried-begun}
@@ -116,11 +115,6 @@ module _ {w : ℕ} (config : Config) (log : Log w) (given : IsGiven config log) 
 
   as-flow : is_filling n past ≡ true → is_filled_by n (unfinished Channel.D (flow c log)) (flow c log) ≡ true
   as-flow e = sym (ap (λ (t : History w). is_filled_by n (unfinished Channel.D t) t) (trace-flows c log)) ∙ e
-
-  pub filling-granted : is_filling n past ≡ true → is_granting (view (h.state.block n).service c) ≡ true
-  filling-granted e =
-      let of = of-grant (as-flow e) in
-      ap is_granting (own_view c of.due.data_too of.due.k (h.state.block n).service of.due.service)
 
   pub filled : is_filling n past ≡ true → (place : ℕ) → place < 64
       → could_be ((one_memory_after config log).memory (64 * n + place))

@@ -1,12 +1,13 @@
 pub mod Asked
 pub mod Beats
+pub mod Bytes
+pub mod Concord
 pub mod Events
 pub mod Filled
 pub mod Holding
-pub mod Kept
-pub mod Performed
 pub mod Probes
 pub mod Reports
-pub mod Seen
-pub mod Values
+pub mod Runs
+pub mod Steps
 pub mod WholeBlocks
+pub mod WorldSteps

@@ -1,9 +1,9 @@
--- No beat of a world breaks M7.
+-- The copies of a world's clients have the bytes of memory, and are given back so.
 use Rattle.std.proofs.Common.{◌≡◌, ℕ, zero, suc, ◌+◌, ◌-◌, ◌*◌, ◌<◌, ◌≤◌, Bool, true, false, not, ◌&&◌, ◌||◌}
-use Rattle.std.proofs.Common.{List, [], ◌∷◌, length, take, drop, get_or, inl, inr}
+use Rattle.std.proofs.Common.{List, [], ◌∷◌, length, take, drop, get_or}
 use Rattle.std.proofs.Common.{length-take, refl, sym, ◌∙◌, ap, subst, arith, None, Some}
-use Rattle.std.specs.Prelude.{⊤, if◌then◌else◌, ◌==◌, Option, unwrap_or}
-use Rattle.std.proofs.lemmas.Bool.{and_from, cases_eq, not-false, not-true}
+use Rattle.std.specs.Prelude.{⊤, if◌then◌else◌, ◌==◌, Option, slice_get, unwrap_or}
+use Rattle.std.proofs.lemmas.Bool.{and_from, and_parts, eq-eqb, eqb-true, not-false, not-true}
 use Rattle.tl_beat.specs.declared.beat.Beat.{Beat}
 use Rattle.tl_beat.specs.declared.beat.BeatA.{BeatA}
 use Rattle.tl_beat.specs.declared.beat.BeatC.{BeatC}
@@ -24,7 +24,6 @@ use Rattle.tl_rules.specs.statement.History.{block_at}
 unfoldable use Rattle.tl_rules.specs.statement.History.{held}
 use Rattle.tl_rules.proofs.Numbers.{part_byte}
 unfoldable use Rattle.tl_bytes.specs.statement.Bytes.{each_from}
-unfoldable use Rattle.tl_bytes.specs.statement.Free.{is_free}
 use Rattle.tl_bytes.specs.statement.Free.{may_hold}
 use Rattle.tl_burst.specs.declared.message.Message.{Message}
 use Rattle.tl_burst.specs.statement.Burst.{beat_of, begun}
@@ -42,14 +41,10 @@ use Rattle.tl_params.specs.declared.param.Grow.{Grow}
 use Rattle.tl_params.specs.statement.Param.{grow_code}
 use Rattle.tl_rules.specs.statement.Liberties.{broken_in_order_under, grows_from_none, grows_from_under}
 unfoldable use Rattle.tl_rules.specs.statement.Liberties.{broken_order_under, held_under}
-use Rattle.tl_rules.specs.statement.Windows.{leaves}
-use Rattle.tl_bytes.specs.statement.Bytes.{told_as}
 use Rattle.tl_forgiving.proofs.Lawful.{lawful-beat}
 use Rattle.tl_memory.proofs.OpenAccesses.{is-fine}
 use Rattle.tl_memory.specs.statement.Links.{KeepRules}
 use Rattle.tl_together.proofs.Following.{most}
-use Rattle.tl_coherence.specs.protocol.Protocol.{view}
-use Rattle.tl_coherence.specs.protocol.Tokens.{is_granting}
 use Rattle.tl_coherence.specs.refinement.AbstractStep.{AbstractState}
 use Rattle.tl_coherence.specs.refinement.PacketMessages.{message_of_kind}
 use Rattle.tl_coherence.specs.refinement.SimulationRelation.{MonitorRelations, SimulationRelation, is_caching}
@@ -59,7 +54,6 @@ use Rattle.tl_coherence.specs.statement.Headline.{IsGiven}
 use Rattle.tl_coherence.specs.statement.Log.{Log}
 unfoldable use Rattle.tl_coherence.specs.statement.Log.{system_after}
 unfoldable use Rattle.tl_coherence.specs.statement.OneMemory.{one_memory_after}
-use Rattle.tl_coherence.specs.statement.Ranged.{AreRanged}
 use Rattle.tl_coherence.specs.statement.TrueReturns.{IsTrueReturn}
 use Rattle.tl_coherence.proofs.deliveries.Matching.{shadow}
 use Rattle.tl_coherence.proofs.flow.FlowTraces.{trace-flows}
@@ -69,17 +63,30 @@ use Rattle.tl_coherence.proofs.queues.FirstToken.{IsFirst, first-token}
 use Rattle.tl_coherence.proofs.queues.Phases.{trunk-some}
 use Rattle.tl_concord.proofs.Alike.{held-world, links-few}
 use Rattle.tl_concord.proofs.ReportTold.{IsReport, report-is}
-use Rattle.tl_commits.specs.statement.Commits.{gives_back, gives_truly, keeps_stores, may_give, takes_trunk}
-use Rattle.tl_commits.specs.statement.Copies.{holds_trunk, is_complete, is_filling, link_beats}
+use Rattle.tl_commits.specs.statement.Commits.{takes_trunk}
+use Rattle.tl_commits.specs.statement.Copies.{brought, holds, holds_trunk, is_known, link_beats}
+use Rattle.tl_one_memory.specs.statement.Run.{OneOf, Run}
+unfoldable use Rattle.tl_one_memory.specs.statement.Run.{memory_in}
+use Rattle.tl_true_bytes.proofs.Runs.{beside-log}
+unfoldable use Rattle.tl_true_bytes.specs.code.Beside.{run_of}
+use Rattle.tl_commit_memory.specs.statement.CommitRun.{CommitRun}
+unfoldable use Rattle.tl_commit_memory.specs.statement.CommitRun.{events_in, run_in}
+use Rattle.tl_commit_memory.specs.statement.KeptCopies.{CopyHas, GivesCopy, GivesUp, HasByte, IsKnownByte}
+use Rattle.tl_commit_memory.specs.statement.KeptCopies.{ReportsRightly}
+unfoldable use Rattle.tl_commit_memory.specs.statement.KeptCopies.{IsRecorded}
+use Rattle.tl_bytes.proofs.Finding.{same-some}
 use Rattle.tl_world_commits.proofs.Beats.{events-beats}
-use Rattle.tl_world_commits.proofs.Filled.{filling-granted}
-use Rattle.tl_world_commits.proofs.Kept.{kept, links}
-use Rattle.tl_world_commits.proofs.Values.{told-so}
+use Rattle.tl_world_commits.proofs.Filled.{brought-so}
 use Rattle.tl_world_commits.specs.statement.Unbroken.{complete_of}
 unfoldable use Rattle.tl_world_commits.specs.statement.WorldEvents.{events_of}
 use Rattle.tl_commits.specs.statement.Events.{Events}
 unfoldable use Rattle.tl_commits.specs.statement.Events.{beats_of}
-use Rattle.tl_commits.specs.statement.Seen.{values_seen}
+
+abbrev pub links : Config → ℕ
+links config = length config.clients.items
+
+abbrev pub zeros : Memory
+zeros address = 0
 
 -- each byte of a list passes a test
 pub each-byte : (test : ℕ → ℕ → Bool) (bytes : List ℕ) (base : ℕ)
@@ -106,22 +113,6 @@ each-lane test memory block w k bytes is fits each =
     ∙ ap memory (omega arith) in
     let here : block_at (64 * block + w * k + i) ≡ block = omega (arith, less, fits) in
     subst (λ (v : ℕ). test (64 * block + w * k + i) v ≡ true) (sym value) (each (64 * block + w * k + i) here))
-
--- ---- a block that a link holds isn't free
-
-pub not-free : {w : ℕ} (n c block : ℕ) (t : Trace w) → c < n
-    → same_perm (may_hold block (on_link c t)) Perm.None ≡ false → is_free n Perm.Trunk block t ≡ false
-unfolding is_free
-not-free zero c block t below some = absurd (omega (arith, below))
-not-free {w} (suc n) c block t below some = elim (cases_eq c n) [
-  | inl same ↦ last (is_free n Perm.Trunk block t) _
-      (subst (λ (k : ℕ). leaves Perm.Trunk (may_hold block (on_link k t)) ≡ false) same some)
-  | inr other ↦ rw (not-free n c block t (omega (arith, below, other)) some) refl
-]
-  where
-    last : (a b : Bool) → b ≡ false → (a && b) ≡ false
-    last true b e = e
-    last false b e = refl
 
 -- ---- what is known of a beat that is next
 
@@ -177,21 +168,57 @@ marked config log given c (Beat.E y) queue beats = tt
 
 -- ---- a report
 
-module _ {w : ℕ} (config : Config) (log : Log w) (given : IsGiven config log) (ranged : AreRanged log) (c : ℕ)
-    (client : c < length config.clients.items) where
+-- the test that all these bytes pass is passed by each
+each-passes : (test : ℕ → ℕ → Bool) (from : ℕ) (bytes : List ℕ) → each_from test from bytes ≡ true → (j v : ℕ)
+    → slice_get bytes j ≡ Some v → test (from + j) v ≡ true
+unfolding each_from
+each-passes test from [] all j v e = absurd cc
+each-passes test from (u ∷ bytes) all zero v e =
+    let here : from ≡ from + 0 = omega arith in
+    ap (λ (i : ℕ). test i v) (sym here) ∙ ap (test from) (same-some u v e)
+    ∙ (and_parts (test from u) (each_from test (from + 1) bytes) all).0
+each-passes test from (u ∷ bytes) all (suc j) v e =
+    let next : from + 1 + j ≡ from + suc j = omega arith in
+    ap (λ (i : ℕ). test i v) (sym next)
+    ∙ each-passes test (from + 1) bytes (and_parts (test from u) (each_from test (from + 1) bytes) all).1 j v e
+
+module _ {w : ℕ} (config : Config) (log : Log w) (given : IsGiven config log) (c : ℕ)
+    (client : c < length config.clients.items) (steps : CommitRun w) (run_is : run_in steps ≡ run_of config log)
+    (events_are : events_in steps ≡ events_of log)
+    (recorded : (address : ℕ) → IsRecorded (links config) zeros address steps) where
   abbrev t : Trace w
   t = trace_of log
 
-  abbrev e : Events w
-  e = events_of log
+  same-beats : beats_of (events_in steps) ≡ t
+  same-beats = ap (λ (e : Events w). beats_of e) events_are ∙ events-beats log
 
-  -- a byte of a block that the link holds may be that of memory
-  pub held-told : (address : ℕ) → same_perm (may_hold (block_at address) (on_link c t)) Perm.None ≡ false
-      → told_as ((one_memory_after config log).memory address) (values_seen (complete_of config) (links config) address
-      e)
-      ≡ true
-  held-told address some = told-so ((one_memory_after config log).memory address) _
-      (kept config log given ranged address (not-free (links config) c (block_at address) t client some))
+  abbrev memory : Memory
+  memory = (one_memory_after config log).memory
+
+  -- a copy has the byte of memory
+  pub copy-byte : (address : ℕ) → same_perm (may_hold (block_at address) (on_link c t)) Perm.None ≡ false
+      → HasByte (complete_of config) (links config) zeros c address (memory address) steps
+  copy-byte address some = (
+    client,
+    subst (λ (u : Trace w). CopyHas (complete_of config) (links config) zeros c address (memory address)
+        (brought address (on_link c u)) steps) (sym same-beats) (go (brought address (on_link c t)) refl),
+  )
+    where
+      same : memory_in zeros (run_in steps) address ≡ memory address
+      same = ap (λ (r : Run w). memory_in zeros r address) run_is
+          ∙ ap (λ (f : Memory). f address) (beside-log config log given).memory_is
+
+      held : holds (block_at address) (link_beats c (events_in steps)) ≡ true
+      held = ap (λ (u : Trace w). holds (block_at address) (on_link c u)) same-beats ∙ ap not some
+
+      known : (b : Bool) → OneOf b (IsKnownByte (links config) zeros address (memory address) steps) ⊤
+      known true = (same, recorded address)
+      known false = tt
+
+      go : (o : Option (Option ℕ)) → brought address (on_link c t) ≡ o
+          → CopyHas (complete_of config) (links config) zeros c address (memory address) o steps
+      go (Some value) e = brought-so config log given c address value e
+      go None e = (held, known (is_known (complete_of config) c (block_at address) (link_beats c (events_in steps))))
 
   module _ (y : BeatC w) (report : IsReport config log c y) where
     by-link : may_hold (block_at y.address) (on_link c t) ≡ held report.number (flow c log)
@@ -201,68 +228,48 @@ module _ {w : ℕ} (config : Config) (log : Log w) (given : IsGiven config log) 
     carries-trunk : same_perm (may_hold (block_at y.address) (on_link c t)) Perm.Trunk ≡ c_carries_data y.opcode
     carries-trunk = ap (λ (p : Perm). same_perm p Perm.Trunk) by-link ∙ sym report.carries
 
-    unfilled : (n : ℕ) → n ≡ report.number → is_filling n (on_link c t) ≡ false
-    unfilled n same = go (is_filling n (on_link c t)) refl
-      where
-        go : (b : Bool) → is_filling n (on_link c t) ≡ b → b ≡ false
-        go false f = refl
-        go true f = absurd (let off : true ≡ false = sym (filling-granted config log given c n f)
-            ∙ ap (λ (i : ℕ). is_granting (view ((shadow config log).state.block i).service c)) same ∙ report.ungranted
-            in
-            cc)
-
+    -- the byte is that of memory, in the block
     abbrev test : ℕ → ℕ → Bool
-    test = may_give (complete_of config) (links config) c e
+    test address v = (memory address == v) && (block_at address == block_at y.address)
 
-    gives-byte : c_carries_data y.opcode ≡ true → (address : ℕ) → block_at address ≡ block_at y.address
-        → test address ((one_memory_after config log).memory address) ≡ true
-    gives-byte bears address here =
-        rw (ap (λ (u : Trace w). is_filling (block_at address) (on_link c u)) (events-beats log)
-        ∙ unfilled (block_at address) (here ∙ report.of_block))
-        (held-told address (trunk-some (may_hold (block_at address) (on_link c t))
-        (ap (λ (b : ℕ). same_perm (may_hold b (on_link c t)) Perm.Trunk) here ∙ carries-trunk ∙ bears)))
+    abbrev from : Trace w → ℕ
+    from u = 64 * block_at y.address + w * length (unfinished Channel.C (on_link c u))
 
-    gives-bytes : c_carries_data y.opcode ≡ true → IsTrueReturn (one_memory_after config log).memory c (Beat.C y) t
-        → each_from test (64 * block_at y.address + w * length (unfinished Channel.C (on_link c (beats_of e))))
-        (lanes_of (Beat.C y)) ≡ true
-    gives-bytes bears returns =
+    true-lanes : c_carries_data y.opcode ≡ true → IsTrueReturn memory c (Beat.C y) t
+        → each_from test (from t) (lanes_of (Beat.C y)) ≡ true
+    true-lanes bears returns =
         let own = returns bears in
         let fits : w * length (unfinished Channel.C (on_link c t)) + w ≤ 64 =
         subst (λ (past : History w). w * length (unfinished Channel.C past) + w ≤ 64) (sym (trace-flows c log))
         report.within in
-        ap (λ (u : Trace w). each_from test (64 * block_at y.address + w * length (unfinished Channel.C (on_link c u)))
-        (lanes_of (Beat.C y))) (events-beats log)
-        ∙ ap (λ (l : Option (List ℕ)). each_from test (64 * block_at y.address
-        + w * length (unfinished Channel.C (on_link c t))) (unwrap_or l [])) own.2
-        ∙ each-lane test (one_memory_after config log).memory (block_at y.address) w
-        (length (unfinished Channel.C (on_link c t))) own.0 own.1 fits (gives-byte bears)
+        ap (λ (l : Option (List ℕ)). each_from test (from t) (unwrap_or l [])) own.2
+        ∙ each-lane test memory (block_at y.address) w
+        (length (unfinished Channel.C (on_link c t))) own.0 own.1 fits (λ address here.
+        and_from _ _ (eq-eqb (memory address) (memory address) refl)
+        (eq-eqb (block_at address) (block_at y.address) here))
 
-    or-last : (a b d f : Bool) → f ≡ true → (a || (b || (d || f))) ≡ true
-    or-last true b d f is = refl
-    or-last false true d f is = refl
-    or-last false false true f is = refl
-    or-last false false false f is = is
+    abbrev Gives : Trace w → Type 0
+    Gives u = is_released (block_at y.address) (Beat.C y) (on_link c u) ≡ false → is_spoiled (Beat.C y) ≡ false
+        → (j v : ℕ) → slice_get (lanes_of (Beat.C y)) j ≡ Some v
+        → HasByte (complete_of config) (links config) zeros c (from u + j) v steps
 
-    pub report-gives : IsTrueReturn (one_memory_after config log).memory c (Beat.C y) t
-        → gives_back (complete_of config) (links config) c (Beat.C y) e ≡ true
-    report-gives returns = go (c_carries_data y.opcode) refl
-      where
-        bare : (a d : Bool) → (if a && (false && d) then Some (block_at y.address) else None) ≡ None
-        bare true d = refl
-        bare false d = refl
+    gives-copy : c_carries_data y.opcode ≡ true → IsTrueReturn memory c (Beat.C y) t
+        → GivesCopy (complete_of config) (links config) zeros c y steps
+    gives-copy bears returns = subst Gives (sym same-beats) (λ released sound j v lane.
+        let both = and_parts (memory (from t + j) == v) (block_at (from t + j) == block_at y.address)
+        (each-passes test (from t) (lanes_of (Beat.C y)) (true-lanes bears returns) j v lane) in
+        subst (λ (u : ℕ). HasByte (complete_of config) (links config) zeros c (from t + j) u steps)
+        (eqb-true (memory (from t + j)) v both.0) (copy-byte (from t + j)
+        (trunk-some (may_hold (block_at (from t + j)) (on_link c t))
+        (ap (λ (b : ℕ). same_perm (may_hold b (on_link c t)) Perm.Trunk)
+        (eqb-true (block_at (from t + j)) (block_at y.address) both.1) ∙ carries-trunk ∙ bears))))
 
-        go : (b : Bool) → c_carries_data y.opcode ≡ b
-            → (if b then gives_truly (complete_of config) (links config) c y e
-            else keeps_stores (complete_of config) (links config) c (takes_trunk (Beat.C y) (link_beats c e)) e) ≡ true
-        go true bears = or-last (not (is_complete (complete_of config) c))
-            (is_released (block_at y.address) (Beat.C y) (link_beats c e)) (is_spoiled (Beat.C y))
-            (each_from test (64 * block_at y.address + w * length (unfinished Channel.C (on_link c (beats_of e))))
-            (lanes_of (Beat.C y))) (gives-bytes bears returns)
-        go false none = rw (
-          ap (λ (u : Trace w). same_perm (may_hold (block_at y.address) (on_link c u)) Perm.Trunk)
-              (events-beats log) ∙ carries-trunk ∙ none,
-          bare (not (same_perm (reported y.param) Perm.Trunk)) _,
-        ) refl
+    bare : (a d : Bool) → (if a && (false && d) then Some (block_at y.address) else None) ≡ None
+    bare true d = refl
+    bare false d = refl
+
+    report-takes : c_carries_data y.opcode ≡ false → takes_trunk (Beat.C y) (on_link c t) ≡ None
+    report-takes bears = rw (carries-trunk ∙ bears, bare (not (same_perm (reported y.param) Perm.Trunk)) _) refl
 
   -- ---- an Acquire
 
@@ -293,11 +300,10 @@ module _ {w : ℕ} (config : Config) (log : Log w) (given : IsGiven config log) 
       starts : grows_from y.param (held_under l (block_at y.address) past) ≡ true
       starts = second l.drops (grows_from_none y.param) _ undropped fits
 
-  pub acquire-gives : (link : Link) (y : BeatA w) → link.0 ≡ c
+  acquire-takes : (link : Link) (y : BeatA w) → link.0 ≡ c
       → KeepRules (liberties_of config.profile) (levels_of config)
-      ((link, Beat.A y) ∷ t) → IsMarked config log c (Beat.A y)
-      → gives_back (complete_of config) (links config) c (Beat.A y) e ≡ true
-  acquire-gives link y same rules begun = go (is_acquire y.opcode) refl (grows_from_none y.param) refl
+      ((link, Beat.A y) ∷ t) → IsMarked config log c (Beat.A y) → takes_trunk (Beat.A y) (on_link c t) ≡ None
+  acquire-takes link y same rules begun = go (is_acquire y.opcode) refl (grows_from_none y.param) refl
     where
       l : Liberties
       l = liberties_of config.profile
@@ -312,13 +318,10 @@ module _ {w : ℕ} (config : Config) (log : Log w) (given : IsGiven config log) 
       untrunk v f = absurd cc
 
       go : (a : Bool) → is_acquire y.opcode ≡ a → (b : Bool) → grows_from_none y.param ≡ b
-          → keeps_stores (complete_of config) (links config) c
-          (if (a && b) && holds_trunk (block_at y.address) (link_beats c e) then Some (block_at y.address) else None) e
-          ≡ true
+          → (if (a && b) && holds_trunk (block_at y.address) (on_link c t) then Some (block_at y.address) else None)
+          ≡ None
       go true acquires true grows =
-          rw (ap (λ (u : Trace w). same_perm (may_hold (block_at y.address) (on_link c u)) Perm.Trunk)
-          (events-beats log)
-          ∙ ap (λ (p : Perm). same_perm p Perm.Trunk)
+          rw (ap (λ (p : Perm). same_perm p Perm.Trunk)
           (sym (most (levels_of config) l c (block_at y.address) t rules.1 few))
           ∙ untrunk (held_under l (block_at y.address) (on_link c t)) (grown l y (on_link c t) refl
           (rw (begun acquires) at ordered) acquires grows)) refl
@@ -327,3 +330,28 @@ module _ {w : ℕ} (config : Config) (log : Log w) (given : IsGiven config log) 
           few = let le = links-few config in omega (arith, client, le)
       go true acquires false grows = refl
       go false other b grows = refl
+
+  -- ---- a beat
+
+  given-up : (link : Link) (x : Beat w) → link.0 ≡ c → takes_trunk x (on_link c t) ≡ None
+      → GivesUp (links config) link x steps
+  given-up link x same none block took = absurd (let no : None ≡ Some block =
+      sym (ap (λ (k : ℕ). takes_trunk x (on_link k (beats_of (events_in steps)))) same
+      ∙ ap (λ (u : Trace w). takes_trunk x (on_link c u)) same-beats ∙ none) ∙ took in cc)
+
+  pub reports-rightly : (link : Link) (x : Beat w) → link.0 ≡ c
+      → KeepRules (liberties_of config.profile) (levels_of config) ((link, x) ∷ t) → IsMarked config log c x
+      → IsTrueReturn memory c x t → ReportsRightly (complete_of config) (links config) zeros link x steps
+  reports-rightly link (Beat.A y) same rules is returns =
+      given-up link (Beat.A y) same (acquire-takes link y same rules is)
+  reports-rightly link (Beat.B y) same rules is returns = given-up link (Beat.B y) same refl
+  reports-rightly link (Beat.D y) same rules is returns = given-up link (Beat.D y) same refl
+  reports-rightly link (Beat.E y) same rules is returns = given-up link (Beat.E y) same refl
+  reports-rightly link (Beat.C y) same rules is returns = go (c_carries_data y.opcode) refl
+    where
+      go : (b : Bool) → c_carries_data y.opcode ≡ b
+          → OneOf b (GivesCopy (complete_of config) (links config) zeros link.0 y steps)
+          (GivesUp (links config) link (Beat.C y) steps)
+      go true bears = subst (λ (k : ℕ). GivesCopy (complete_of config) (links config) zeros k y steps) (sym same)
+          (gives-copy y is bears returns)
+      go false bears = given-up link (Beat.C y) same (report-takes y is bears)

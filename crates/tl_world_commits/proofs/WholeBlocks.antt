@@ -35,6 +35,8 @@ use Rattle.tl_coherence.proofs.links.FromInvariant.{coherent, grants, matched-gi
 use Rattle.tl_coherence.proofs.queues.QuiescentQueues.{client_below}
 use Rattle.tl_coherence.proofs.theorem.Soundness.{one_memory}
 use Rattle.tl_concord.proofs.WholeStores.{allowed_ends}
+use Rattle.tl_one_memory.specs.statement.Run.{Run, Stores}
+use Rattle.tl_true_bytes.specs.code.Beside.{with_end, with_whole}
 use Rattle.tl_schedule.specs.declared.whole.WholeStore.{WholeStore}
 use Rattle.tl_schedule.specs.statement.Commits.{begun_by, begun_in, in_place, requested, store_granted}
 unfoldable use Rattle.tl_schedule.specs.statement.Commits.{store_begun}
@@ -265,11 +267,12 @@ module _ {w : ℕ} (c source : ℕ) where
 
 -- ---- the memory after an operation ended
 
--- as its operation ends, a client stores nothing, or a whole block
-abbrev pub EndsStoring : Option WholeStore → Memory → Memory → Type 0
-EndsStoring store memory after = ((store ≡ None) × (after ≡ memory))
+-- as its operation ends, a client stores nothing, or a whole block, in the memory and in the run beside it
+abbrev pub EndsStoring : {w : ℕ} → Option WholeStore → Memory → Memory → (Run w → Run w) → Type 0
+EndsStoring {w} store memory after ended = ((store ≡ None) × (after ≡ memory) × ((run : Run w) → ended run ≡ run))
     ⊎ ((whole : WholeStore) × (store ≡ Some whole) × (after ≡ with_block whole.block whole.bytes memory)
-    × (length whole.bytes ≡ 64) × AreBytes whole.bytes)
+    × (length whole.bytes ≡ 64) × AreBytes whole.bytes
+    × ((run : Run w) → ended run ≡ Stores whole.block (with_block whole.block whole.bytes memory) ∷ run))
 
 same-store : (a b : Option WholeStore) → Some a ≡ Some b → b ≡ a
 same-store a b e = cc
@@ -286,32 +289,46 @@ module _ {w : ℕ} (config : Config) (log : Log w) (link : Link) (ch : Channel) 
   finished = (one_memory config log before).1 (Deliver link ch, Outcome.Done x source f) tt given.is_log
 
   granted-stores : (op : Op w) (store : Option WholeStore) → requested op ≡ Some store → IsTypedOp op × IsRangedOp op
-      → EndsStoring store m.memory (memory_after op m.memory)
+      → EndsStoring store m.memory (memory_after op m.memory) (λ run. with_whole op m.memory run)
   granted-stores (Op.AcquireWhole block bytes) store e typed =
-      inr (record { block = block; bytes = bytes }, same-store _ store e, refl, typed.0, typed.1)
-  granted-stores (Op.Acquire block grow) store e typed = inl (same-store None store e, refl)
-  granted-stores (Op.Access i) store e typed = inl (same-store None store e, refl)
+      inr (
+        record { block = block; bytes = bytes },
+        same-store _ store e,
+        refl,
+        typed.0,
+        typed.1,
+        λ run. refl,
+      )
+  granted-stores (Op.Acquire block grow) store e typed = inl (same-store None store e, refl, λ run. refl)
+  granted-stores (Op.Access i) store e typed = inl (same-store None store e, refl, λ run. refl)
   granted-stores (Op.Release block prune) store e typed = absurd cc
   granted-stores (Op.Load address size) store e typed = absurd cc
   granted-stores (Op.Store address size value) store e typed = absurd cc
 
   -- an end that is no Grant
   plain : (op : Op w) (answer : Option AccessResult) (g : Finish) → EndsOp op answer x g
-      → (g ≡ Finish.Granted Perm.Trunk → ⊥) → memory_after op m.memory ≡ m.memory
+      → (g ≡ Finish.Granted Perm.Trunk → ⊥)
+      → (memory_after op m.memory ≡ m.memory) × ((run : Run w) → with_whole op m.memory run ≡ run)
   plain (Op.AcquireWhole block bytes) answer g end never = absurd (never end)
-  plain (Op.Acquire block grow) answer g end never = refl
-  plain (Op.Access i) answer g end never = refl
-  plain (Op.Release block prune) answer g end never = refl
-  plain (Op.Load address size) answer g end never = refl
-  plain (Op.Store address size value) answer g end never = refl
+  plain (Op.Acquire block grow) answer g end never = (refl, λ run. refl)
+  plain (Op.Access i) answer g end never = (refl, λ run. refl)
+  plain (Op.Release block prune) answer g end never = (refl, λ run. refl)
+  plain (Op.Load address size) answer g end never = (refl, λ run. refl)
+  plain (Op.Store address size value) answer g end never = (refl, λ run. refl)
+
+  unstored : (op : Op w) → (memory_after op m.memory ≡ m.memory) × ((run : Run w) → with_whole op m.memory run ≡ run)
+      → EndsStoring None m.memory (memory_after op m.memory) (λ run. with_whole op m.memory run)
+  unstored op is = inl (refl, is.0, is.1)
 
   pub ends-storing : EndsStoring (store_granted log (Deliver link ch) (Outcome.Done x source f)) m.memory
       (moved (Deliver link ch) (Outcome.Done x source f) m).memory
+      (λ run. with_end (m.opened link.0 (pool_of f) source) m.memory run)
   ends-storing = go f refl (m.opened link.0 (pool_of f) source) refl
       (allowed_ends link ch x source f m finished.2.1)
     where
       at-grant : (p : Perm) → f ≡ Finish.Granted p → (i : Open w) → m.opened link.0 (pool_of f) source ≡ Some i
           → EndsStoring (store_begun link.0 source log) m.memory (memory_after i.asked m.memory)
+          (λ run. with_whole i.asked m.memory run)
       at-grant p e i opened =
           granted-stores i.asked (store_begun link.0 source log)
           (begun link.0 source config log before i.asked started_as)
@@ -324,26 +341,14 @@ module _ {w : ℕ} (config : Config) (log : Log w) (link : Link) (ch : Channel) 
 
       go : (g : Finish) → f ≡ g → (o : Option (Open w)) → m.opened link.0 (pool_of f) source ≡ o → Ends o x f
           → EndsStoring (store_granted log (Deliver link ch) (Outcome.Done x source g)) m.memory
-          (after_end link.0 (pool_of f) source o m).memory
+          (after_end link.0 (pool_of f) source o m).memory (λ run. with_end o m.memory run)
       go g e None opened ends = absurd ends
       go (Finish.Granted p) e (Some i) opened ends = at-grant p e i opened
-      go Finish.Ack e (Some i) opened ends = inl (
-        refl,
-        plain i.asked i.answer f ends (λ t. let no : Finish.Ack
-            ≡ Finish.Granted Perm.Trunk = sym e ∙ t in cc),
-      )
-      go Finish.Hint e (Some i) opened ends = inl (
-        refl,
-        plain i.asked i.answer f ends (λ t. let no : Finish.Hint
-            ≡ Finish.Granted Perm.Trunk = sym e ∙ t in cc),
-      )
-      go (Finish.Data size bytes) e (Some i) opened ends = inl (
-        refl,
-        plain i.asked i.answer f ends (λ t. let no :
-            Finish.Data size bytes ≡ Finish.Granted Perm.Trunk = sym e ∙ t in cc),
-      )
-      go Finish.Released e (Some i) opened ends = inl (
-        refl,
-        plain i.asked i.answer f ends (λ t. let no : Finish.Released
-            ≡ Finish.Granted Perm.Trunk = sym e ∙ t in cc),
-      )
+      go Finish.Ack e (Some i) opened ends = unstored i.asked (plain i.asked i.answer f ends
+          (λ t. let no : Finish.Ack ≡ Finish.Granted Perm.Trunk = sym e ∙ t in cc))
+      go Finish.Hint e (Some i) opened ends = unstored i.asked (plain i.asked i.answer f ends
+          (λ t. let no : Finish.Hint ≡ Finish.Granted Perm.Trunk = sym e ∙ t in cc))
+      go (Finish.Data size bytes) e (Some i) opened ends = unstored i.asked (plain i.asked i.answer f ends
+          (λ t. let no : Finish.Data size bytes ≡ Finish.Granted Perm.Trunk = sym e ∙ t in cc))
+      go Finish.Released e (Some i) opened ends = unstored i.asked (plain i.asked i.answer f ends
+          (λ t. let no : Finish.Released ≡ Finish.Granted Perm.Trunk = sym e ∙ t in cc))

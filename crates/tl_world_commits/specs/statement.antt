@@ -1,2 +1,4 @@
+pub mod CommitConcord
 pub mod Unbroken
+pub mod WorldCommitRuns
 pub mod WorldEvents

@@ -1,0 +1,13 @@
+pub mod Brought
+pub mod Copies
+pub mod Covered
+pub mod Granted
+pub mod Held
+pub mod Imports
+pub mod Known
+pub mod MayBe
+pub mod Orderly
+pub mod Read
+pub mod Traces
+pub mod Values
+pub mod Worked

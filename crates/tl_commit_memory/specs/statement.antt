@@ -1,0 +1,3 @@
+pub mod CommitRun
+pub mod KeptCopies
+pub mod TrueEvents

@@ -1,0 +1,5 @@
+use Rattle.tl_world_commits.proofs.Concord.{commit_concord}
+use Rattle.tl_world_commits.proofs.law.breaks_no_rule_with_commits.Goals as goal
+
+pub returns : goal.returns
+returns g c = λ config l log given ranged within. commit_concord config l log given ranged within

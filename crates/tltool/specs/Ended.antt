@@ -8,6 +8,7 @@ use Rattle.tl_command.specs.declared.command.Command.{Command}
 use Rattle.tl_command.specs.declared.command.Command.TheVariants.{Coherent, Decode, Explain, Monitor, Run}
 use Rattle.tl_command.specs.declared.random.Options.{Options}
 use Rattle.tl_command.specs.declared.search.Aim.{Aim}
+use Rattle.tl_event_chart.specs.statement.EventCharted.{ChartsEvents, GivesUpChartingEvents}
 use Rattle.tl_params.specs.declared.liberties.Liberties.{Liberties}
 use Rattle.tl_params.specs.declared.liberties.Liberty.{Liberty}
 use Rattle.tl_params.specs.statement.Header.{width_of}
@@ -142,6 +143,14 @@ EndsCharted allow win had left held holds status =
     (outcome : Result Status ToolFault) × (status ≡ exit_status outcome)
     × IfOk outcome (λ judged. (chart : List ℕ) × Charts allow win had left judged chart × Appends held holds chart)
     × IfErr outcome (GivesUpCharting allow win had left held holds)
+
+-- The same of a trace of wide beats, or of one with stores and loads.
+abbrev pub EndsChartedEvents : Liberties → Window → Option (List ℕ) → Option (List ℕ) → Option (List ℕ)
+    → Option (List ℕ) → ℕ → Type 0
+EndsChartedEvents allow win had left held holds status =
+    (outcome : Result Status ToolFault) × (status ≡ exit_status outcome)
+    × IfOk outcome (λ judged. (chart : List ℕ) × ChartsEvents allow win had left judged chart × Appends held holds chart)
+    × IfErr outcome (GivesUpChartingEvents allow win had left held holds)
 
 -- The status is that of an outcome which a search has over the input and the output.
 abbrev pub EndsFound : Aim → Option (List ℕ) → Option (List ℕ) → Option (List ℕ) → Option (List ℕ) → ℕ → Type 0

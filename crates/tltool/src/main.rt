@@ -3,16 +3,18 @@
 
 ghost use Rattle.std.specs.Prelude.{◌≡◌, IfOk, OnOk, OnErr, Err};
 ghost use Rattle.tl_engine.specs.statement.Exit.{exit_status};
-ghost use Rattle.tltool.specs.Ended.{EndsAllowed, EndsAs, EndsCharted, EndsDrawn, EndsExplained, EndsFound, EndsOver, IsRefused};
+ghost use Rattle.tltool.specs.Ended.{EndsAllowed, EndsAs, EndsDrawn, EndsExplained, EndsFound, EndsOver, IsRefused};
 ghost use Rattle.tltool.specs.Ended.{explain_status};
 
+mod chart;
 mod commits;
 mod cover;
 mod decode;
+mod front;
 mod report;
-mod unread;
 mod wide;
 
+use chart::chart;
 use commits::{explain_commits_over, is_commits_file};
 use cover::cover;
 use decode::decode;
@@ -21,12 +23,10 @@ use std::fs::File;
 use std::io::{Read, Write};
 use std::process::ExitCode;
 use std::{env, fs, io};
-use tl_command::chart::Range;
 use tl_command::random::Options;
 use tl_command::search::Aim;
 use tl_command::task::Task;
 use tl_commit_lines::run::run_events;
-use tl_engine::chart::{Window, chart_input, window_of};
 use tl_engine::command::Command;
 use tl_engine::explain::explain_input;
 use tl_engine::explain_fault::ExplainFault;
@@ -40,7 +40,6 @@ use tl_params::liberties::Liberties;
 use tl_random::schedule::write_schedule;
 use tl_report::find::find_all;
 use tl_words::words::{WordsFault, invocation, usage_status};
-use unread::{front_of, tell_unread, tell_unread_in};
 use wide::{explain_wide_over, is_wide_file};
 
 /// The exit status of a run. Its fault is printed on standard error.
@@ -277,44 +276,6 @@ fn draw<W: Write>(rt: &HostRuntime, options: &Options, output: &mut W) -> u8
 {
     let written = write_schedule(rt.alloc(), options, output);
     told(rt, written.map(|_| Status::Clean))
-}
-
-/// Draws the input of a reader, and returns the exit status. These liberties are allowed beyond those that the header
-/// names.
-fn chart_over<R: Read, W: Write>(
-    rt: &HostRuntime,
-    allow: Liberties,
-    window: Window,
-    input: &mut R,
-    output: &mut W,
-) -> u8
-    ensures { EndsCharted allow window (R.remaining input.old) (R.remaining input.new) (W.contents output.old)
-        (W.contents output.new) result }
-{
-    told(rt, chart_input(rt.alloc(), allow, window, input, output))
-}
-
-/// Draws a chart of the trace on standard input, or in the file of this name. These liberties are allowed beyond those
-/// that the header names. Returns the exit status.
-fn chart(rt: &HostRuntime, range: Range, allow: Liberties, name: Option<String>) -> u8 {
-    let window = window_of(range);
-    let mut output = io::writer(rt);
-    match name {
-        None => {
-            let mut input = rt.reader();
-            let front = front_of(&mut input);
-            let mut whole = front.as_slice().chain(input);
-            let status = chart_over(rt, allow, window, &mut whole, &mut output);
-            tell_unread(rt, front.as_slice(), status)
-        }
-        Some(name) => match fs::open(rt, name.as_str()) {
-            Ok(mut file) => {
-                let status = chart_over(rt, allow, window, &mut file, &mut output);
-                tell_unread_in(rt, name.as_str(), status)
-            }
-            Err(_) => unopened(rt, name.as_str()),
-        },
-    }
 }
 
 /// Writes the lines at fault of a reader's input, and returns the exit status.

@@ -3,8 +3,8 @@
 ghost use Rattle.std.specs.Prelude.{◌≡◌};
 ghost use Rattle.tltool.specs.Ended.{EndsExplainedWide};
 
+use crate::front::front_of;
 use crate::told_explained;
-use crate::unread::front_of;
 use std::fs;
 use std::io::{Read, Write};
 use tl_params::liberties::Liberties;

@@ -1,0 +1,2 @@
+pub mod EventCharted
+pub mod Noted

@@ -1,0 +1,78 @@
+//! Draws charts of traces.
+
+ghost use Rattle.tltool.specs.Ended.{EndsCharted, EndsChartedEvents};
+
+use crate::front::front_of;
+use crate::{told, unopened};
+use std::io::{Read, Write};
+use std::{fs, io};
+use tl_command::chart::Range;
+use tl_commit_lines::header::read_marked;
+use tl_engine::chart::{Window, chart_input, window_of};
+use tl_event_chart::chart::chart_events;
+use tl_params::liberties::Liberties;
+use tl_wide_lines::header::read_wide;
+
+/// Draws the input of a reader, and returns the exit status. These liberties are allowed beyond those that the header
+/// names.
+fn chart_over<R: Read, W: Write>(
+    rt: &HostRuntime,
+    allow: Liberties,
+    window: Window,
+    input: &mut R,
+    output: &mut W,
+) -> u8
+    ensures { EndsCharted allow window (R.remaining input.old) (R.remaining input.new) (W.contents output.old)
+        (W.contents output.new) result }
+{
+    told(rt, chart_input(rt.alloc(), allow, window, input, output))
+}
+
+/// The same of a trace of wide beats, or of one with stores and loads.
+fn chart_events_over<R: Read, W: Write>(
+    rt: &HostRuntime,
+    allow: Liberties,
+    window: Window,
+    input: &mut R,
+    output: &mut W,
+) -> u8
+    ensures { EndsChartedEvents allow window (R.remaining input.old) (R.remaining input.new) (W.contents output.old)
+        (W.contents output.new) result }
+{
+    told(rt, chart_events(rt.alloc(), allow, window, input, output))
+}
+
+/// Whether a first line is a header of wide beats, or of a trace with stores and loads.
+fn is_of_events(line: &[u8]) -> bool {
+    read_wide(line).is_some() || read_marked(line).is_some()
+}
+
+/// Draws the trace that a reader has, by its header.
+fn chart_whole<R: Read + Drop>(
+    rt: &HostRuntime,
+    allow: Liberties,
+    window: Window,
+    mut input: R,
+) -> u8 {
+    let mut output = io::writer(rt);
+    let front = front_of(&mut input);
+    let mut whole = front.as_slice().chain(input);
+    if is_of_events(front.as_slice()) {
+        chart_events_over(rt, allow, window, &mut whole, &mut output)
+    } else {
+        chart_over(rt, allow, window, &mut whole, &mut output)
+    }
+}
+
+/// Draws a chart of the trace on standard input, or in the file of this name. These liberties are allowed beyond those
+/// that the header names. Returns the exit status.
+pub(crate) fn chart(rt: &HostRuntime, range: Range, allow: Liberties, name: Option<String>) -> u8 {
+    let window = window_of(range);
+    match name {
+        None => chart_whole(rt, allow, window, rt.reader()),
+        Some(name) => match fs::open(rt, name.as_str()) {
+            Ok(file) => chart_whole(rt, allow, window, file),
+            Err(_) => unopened(rt, name.as_str()),
+        },
+    }
+}

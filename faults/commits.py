@@ -3,10 +3,10 @@
 
 Random traces of caches whose cores store and load, by the model bench/commits_trial.py: RUNS runs of right caches (60 if none
 is said), and a tenth as many of each wrong one. `TOOL coherent` must have the model's verdict on each, and `TOOL monitor` must
-find no fault in those of right caches. The command judges M3 by the beats alone, and the model by the stores too, so runs of which
-the model says M3 are left out. Of each run at fault `TOOL explain --coherent` must have the rule's sentence and the event in
-words, and for M5 to M7 the last store to each byte, as they are found here in the lines before it; each line that it cites must
-be the one of its number.
+find no fault in those of right caches. Of each run at fault `TOOL explain --coherent` must have the rule's sentence and the event
+in words, and for M5 to M7 the last store to each byte, as they are found here in the lines before it; each line that it cites
+must be the one of its number. `TOOL chart` of each must draw the rows of the chart of its beats, and its stores and loads between
+them.
 
 Traces of worlds: the schedules of the examples and twenty of `TOOL random`. What `TOOL run --trace --commits` writes of each must
 be what this script makes of the outcomes that `TOOL run` writes; without stores, loads and marks it must be what `TOOL run --trace`
@@ -115,6 +115,51 @@ def slips(tool, trace):
     told, _ = of(tool, "monitor", str(trace))
     if trace.name.startswith("right_") and told != wanted.replace("coherent", "clean"):
         yield f"{trace.name}: monitor says {told.strip()}"
+    count = trace.read_text().count("\n")
+    for lines in None, (count // 3, count // 2):
+        yield from chart_slips(tool, trace, lines)
+
+
+def rows_of(tool, text, *words):
+    """What `chart` draws of a trace: its rows, with the numbers of their lines, and how many messages and commits follow."""
+    chart = of(tool, "chart", *words, text=text)[0]
+    told = re.search(r"<desc id='text'>(.*)</desc>", chart, re.DOTALL)[1]
+    rows = [(int(line), words) for line, words in re.findall(r"(?m)^Line (\d+): (.*)\.$", told)]
+    drawn = re.findall(r"<text class='n' x='60' y='\d+'>(\d+)</text><text x='70' y='\d+'>(.*)</text>", chart)
+    marks = len(re.findall(r"<rect class='[rw]' width='6' height='6'", chart))
+    assert sorted(rows) == sorted((int(line), words) for line, words in drawn), "a row is told otherwise than it is drawn"
+    more = [re.search(f"{what} that follow: (\\d+)", chart) for what in ("messages", "stores and loads")]
+    return rows, [int(it[1]) if it else 0 for it in more], marks, re.search(r"The monitor says: (.*)</desc>", chart)[1]
+
+
+def chart_slips(tool, trace, lines=None):
+    """What is wrong with the chart of a trace: it must have the rows of the chart of its beats alone, with the lines of the trace, and
+    between them a row for each commit, up to the message or the commit that is one too many."""
+    most, (first, last) = (2000, lines) if lines else (200, (2, 10**9))
+    header, *events = trace.read_text().splitlines()
+    numbered = list(enumerate(events, 2))
+    words = {number: told.removeprefix("link ") for number, told in zip(range(2, 10**9), decoded(tool, header.split()[2], events))}
+    commits = [number for number, it in numbered if it.split()[1] in "SLI" and number >= first]
+    last = min([last, *(number - 1 for number in commits[most:most + 1])])
+    beats = [number for number, it in numbered if it.split()[1] in "ABCDE"]
+    plain = "\n".join([header.replace("+", ""), *(events[number - 2] for number in beats), ""])
+    place = {number: count for count, number in enumerate(beats, 2)}
+    window = f"{min([place[it] for it in beats if it >= first], default=len(beats) + 2)}-{max([place[it] for it in beats if it <= last], default=1)}"
+    if int(window.split("-")[0]) > int(window.split("-")[1]):
+        return
+    rows, _, _, _ = rows_of(tool, plain, "--lines", window)
+    began = [beats[line - 2] for line, _ in rows if beats[line - 2] >= first]
+    last = min([last, *(number - 1 for number in began[most:most + 1])])
+    if began[most:]:
+        rows, _, _, _ = rows_of(tool, plain, "--lines", f"{window.split('-')[0]}-{max(place[it] for it in beats if it <= last)}")
+    rows = [(beats[line - 2], told) for line, told in rows]
+    ought = sorted([*rows, *((it, words[it]) for it in commits if it <= last)])
+    all_rows = [beats[line - 2] for line, _ in rows_of(tool, plain, "--lines", f"2-{len(beats) + 1}")[0]]
+    follow = [sum(it > last for it in all_rows), sum(it > last for it in commits)]
+    verdict = of(tool, "monitor", str(trace))[0].strip()
+    says = rows_of(tool, trace.read_text(), *(["--lines", f"{lines[0]}-{lines[1]}"] if lines else []))
+    if says != (ought, follow, sum(it <= last for it in commits), verdict):
+        yield f"{trace.name}: chart {lines} draws {says}, and ought to draw {ought}, then {follow}, {verdict}"
 
 
 def header_of(schedule):
@@ -186,7 +231,6 @@ def main():
         subprocess.run([sys.executable, MODEL, "--runs", runs, "--traces", folder], check=True, stdout=subprocess.DEVNULL)
         # where no link says that all its stores are there the command reads no commits
         traces = [it for it in sorted(pathlib.Path(folder).glob("*.trace")) if "C+" in it.open().readline()]
-        traces = [it for it in traces if not it.with_suffix(".verdict").read_text().endswith(" M3\n")]
         found = list(pool.map(lambda it: list(slips(tool, it)), traces))
         schedules = [(it.name, it.read_text()) for it in sorted(SCHEDULES.glob("*.schedule"))]
         schedules += [(f"random {' '.join(it)}", of(tool, "random", *it)[0]) for it in WORLDS]

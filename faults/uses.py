@@ -66,7 +66,6 @@ release-toB                    -       -       0
 release-toN                    -       0       0
 
 """
-WIDE = "tltool: the header is of wide beats, which only monitor, coherent, explain and cover read\n"
 NUMBER = "a number from 0 to 18446744073709551615"
 LIST = "1 to 16 clients with commas between them, each UL, UH or C with its number of sources from 1 to 8, as C:2,C:2,UH:1"
 
@@ -86,6 +85,31 @@ ASKED_TOLD = f"{GRANTED_TOLD}Line 5: 00 A AcquirePerm NtoT block 000 source 00.\
 DROPPED_TOLD = f"{ASKED_TOLD}With line 5 00 holds nothing.\nThe monitor says: clean 4</desc>\n"
 KEPT_TOLD = f"{ASKED_TOLD}The monitor says: line 5 H5</desc>\n"
 DENIED_TOLD = f"{GRANTED_TOLD}The monitor says: clean 3</desc>\n"
+# Of a trace of wide beats, and of one with stores and loads, each with lines and names of its own.
+WIDE_TOLD = """Line 2: 00 A AcquireBlock NtoT block 6000000 source 0100.
+Line 3: 00 D GrantData toT block 6000000 source 0100 sink 0010 2 beats.
+Line 5: 00 E GrantAck block 6000000 sink 0010.
+Line 6: 01 A AcquireBlock NtoB block 6000000 source 0002.
+Line 7: 00 B ProbeBlock toB block 6000000.
+Line 8: 00 C ProbeAckData TtoB block 6000000 source 0000 2 beats.
+Line 10: 01 D GrantData toB block 6000000 source 0002 sink 0011 2 beats.
+Line 12: 01 E GrantAck block 6000000 sink 0011.
+"""
+# A permission changes with the last beat of a message.
+WIDE_HELD = """With line 4 00 is a writer.
+With line 9 00 is a reader.
+With line 11 01 is a reader.
+"""
+WIDE_FAULT = """Line 2: 00 A AcquireBlock NtoB block 3fffffffe000001 source 0000.
+Line 3: 00 D GrantData toB block 3fffffffe000001 source 0000 sink 0000.
+Line 4: 00 E GrantAck block 3fffffffe000001 sink 0000.
+Line 5: 00 B ProbeBlock toN block 3fffffffe000001.
+Line 6: 00 C ProbeAck TtoN block 3fffffffe000001 source 0000.
+The monitor says: line 6 H12</desc>
+"""
+STORED_TOLD = f"""{GRANTED_TOLD}Line 5: 00 stores 1 byte at 00000000: 05.
+Line 6: 00 loads 1 byte at 00000000: 06.
+"""
 ANSWERED_TOLD = """Line 5: 00 A Get block 000 source 00.
 Line 6: 00 D AccessAckData block 000 source 00.
 The monitor says: clean 5</desc>
@@ -113,6 +137,7 @@ WITHOUT_EARLY = (("M1_early", 4, "H8"), ("M2_early_grant", 6, "H8"), ("M2_early_
 COMMITS = (
     ("L1_commit", 1, "line 2 L1"), ("L1_commit_right", 1, "coherent 1"), ("M5", 4, "line 5 M5"), ("M5_right", 4, "coherent 4"),
     ("M2_stored", 8, "line 9 M2"), ("M2_stored_right", 8, "coherent 8"),
+    ("M3_stored", 8, "line 9 M3"), ("M3_stored_right", 8, "coherent 8"),
     ("M5_load", 2, "line 3 M5"), ("M5_load_right", 3, "coherent 3"), ("M5_begun", 7, "line 8 M5"), ("M5_begun_right", 7, "coherent 7"),
     ("M6", 5, "line 6 M6"), ("M6_right", 5, "coherent 5"), ("M6_unmarked_right", 5, "coherent 5"), ("M7", 5, "line 6 M7"),
     ("M7_right", 5, "coherent 5"), ("M7_dropped", 8, "line 9 M7"), ("M7_dropped_right", 8, "coherent 8"), ("M7_asked_right", 9, "coherent 9"),
@@ -166,7 +191,6 @@ STORIES = {
   8: link 00 stores 1 byte at 00000000: 05
 """,
 }
-COMMITS_UNREAD = "tltool: the header has a level C+, which only monitor, coherent, explain and cover read"
 # Lines of no commit, with their faults, and headers in which a mark isn't at its place.
 NO_COMMITS = (("00 S 0 00000000", "F1"), ("00 I 0 00000000 05", "F1"), ("00 L 0 00000000 05 0", "F1"), ("00 T 0 00000000 05", "F2"),
     ("00 s 0 00000000 05", "F2"), ("00 S 4 00000000 05", "F3"), ("00 S 1 00000001 0505", "F3"), ("00 S 1 00000000 05", "F3"),
@@ -304,7 +328,6 @@ ROWS = [
     ("(cat wide/second_part.trace; tail -1 wide/second_part.trace) | tltool coherent --all 10", 1, "line 6 M3\nline 7 M3\nfaults 2\n", ""),
     ("(cat wide/second_part.trace; tail -1 wide/second_part.trace) | tltool monitor --all 10", 1, "line 7 H2\nfaults 1\n", ""),
     ("sed '1s/none/early/' wide/two_caches.trace | tltool coherent --all 3", 0, "coherent 11\n", ""),
-    ("tltool chart wide/two_caches.trace | grep -c 'line 1 F7'", 0, "..", WIDE),
     # words of liberties
     *(
         (f"tltool monitor --allow {word} two_caches.trace", 2, "", f"error: invalid value '{word}' for '--allow <LIBERTIES>': {LIBERTIES}\n..")
@@ -457,8 +480,6 @@ ROWS = [
     ("printf 'tltrace 4 8 none C+' | tltool coherent", 1, "line 1 F7\n", ""),
     ("echo 'tltrace 4 8 none C+' | tltool coherent", 0, "coherent 0\n", ""),
     ("echo 'tltrace 4 8 none C+' | tltool monitor", 0, "clean 0\n", ""),
-    ("tltool chart rules/M6.trace", 1, "..", f"{COMMITS_UNREAD}\n"),
-    ("tltool chart <rules/M6.trace", 1, "..", f"{COMMITS_UNREAD}\n"),
     # why an event is at fault
     ("tltool explain rules/M6.trace", 0, "clean 5\n  clean means ..", ""),
     ("tltool explain --coherent rules/M6_right.trace", 0, "coherent 5\n  coherent means ..", ""),
@@ -531,6 +552,23 @@ ROWS = [
     (charted("none", [PERM, GRANT, "E 00", PERM], "--block 000"), 0, KEPT_TOLD, ""),
     (charted("denied", [PERM, DENIED, "E 00"], "--block 000"), 0, DENIED_TOLD, ""),
     (charted("early", ANSWERED_EARLY, "--lines 5-6"), 0, ANSWERED_TOLD, ""),
+    # wide beats, and stores and loads
+    *((f"tltool chart {way}wide/two_caches.trace | sed -n '/^Line/,/<.desc>/p'", 0, f"{WIDE_TOLD}The monitor says: clean 11</desc>\n", "") for way in ("", "<")),
+    ("tltool chart --block 6000000 wide/two_caches.trace | sed -n '/^Line/,/<.desc>/p'", 0, f"{WIDE_TOLD}{WIDE_HELD}The monitor says: clean 11</desc>\n", ""),
+    ("tltool chart --block 000 wide/two_caches.trace | grep -c '<circle'", 1, "0\n", ""),
+    ("tltool chart --lines 7-9 wide/two_caches.trace | grep -o '^Line .*'", 0, "".join(f"{it}\n" for it in WIDE_TOLD.splitlines()[3:6]), ""),
+    ("tltool chart wide/wrong_report.trace | sed -n '/^Line/,/<.desc>/p'", 0, WIDE_FAULT, ""),
+    ("tltool chart wide/wrong_report.trace", 1, "<svg ..", ""),
+    *((f"tltool chart {way}rules/M6.trace | sed -n '/^Line/,/<.desc>/p'", 0, f"{STORED_TOLD}The monitor says: clean 5</desc>\n", "") for way in ("", "<")),
+    ("tltool chart --block 000 rules/M6.trace | sed -n '/^Line/,/<.desc>/p'", 0, f"{STORED_TOLD}With line 3 00 is a writer.\nThe monitor says: clean 5</desc>\n", ""),
+    ("tltool chart --block 001 rules/M6.trace | grep -c '^Line'", 1, "0\n", ""),
+    ("tltool chart rules/M6.trace | grep -c \"<rect class='[wr]' width='6' height='6'\"", 0, "2\n", ""),
+    ("tltool chart rules/M6.trace | grep -c \"<rect class='w' width='6' height='6'\"", 0, "1\n", ""),
+    ("tltool chart --lines 2-4 rules/M6.trace | grep -o 'stores and loads that follow: .'", 0, "stores and loads that follow: 2\n", ""),
+    ("tltool chart --lines 6-6 rules/M6.trace | grep -o '^Line .*'", 0, "Line 6: 00 loads 1 byte at 00000000: 06.\n", ""),
+    ("(cat rules/M6.trace; echo '00 S 4 00000000 05') | tltool chart | grep -c 'says: line 7 F3'", 0, "1\n", ""),
+    ("tltool chart --allow early rules/M6.trace | cmp - <(tltool chart rules/M6.trace)", 0, "", ""),
+    ("tltool chart wide/two_caches.trace >/dev/full", 3, "", "tltool: write failed\n"),
     ("tltool chart nope.trace", 3, "", "tltool: cannot open nope.trace\n"),
     ("tltool chart rules", 3, "", "tltool: read failed\n"),
     ("tltool chart two_caches.trace >/dev/full", 3, "", "tltool: write failed\n"),

@@ -7,8 +7,9 @@ what it counts of the narrow trace, with the lines of the wide beats. Traces wit
 report it must find what it finds line by line in the trace without the lines found before, and count the beats of the others.
 `explain`, also with `--coherent`, must write what it writes of the narrow trace, with the lines and the names of the wide one: the
 grounds, the liberties that would allow the beat, and after a trace without a fault, whole or cut off, the pending messages. So it
-must of the examples of rules, pending messages and situations in crates/tl_examples/data, written wide. `decode --wide` must write of each what this program writes of its
-fields. Ends with 'wide: N passed, M failed'."""
+must of the examples of rules, pending messages and situations in crates/tl_examples/data, written wide. `chart` must draw the rows of the chart of
+the narrow one with those lines and names, and up to 16 bytes the same picture. `decode --wide` must write of each what this program
+writes of its fields. Ends with 'wide: N passed, M failed'."""
 import collections
 import concurrent.futures
 import hashlib
@@ -400,6 +401,55 @@ def misexplained(tool, text, liberties, levels, beats, width):
             yield f"{' '.join(commands)} says {says}, and ought to say {ought}"
 
 
+# ---- charts
+
+
+def rows_of(tool, words, text):
+    """The status of `chart`, the rows of a chart with the numbers of their lines, and what else its readers are told that don't see it."""
+    status, chart = of(tool, "chart", *words, text=text)
+    told = re.search(r"<desc id='text'>(.*)</desc>", chart, re.DOTALL)[1].splitlines()
+    rows = [re.fullmatch(r"Line (\d+): (.*)\.", it) for it in told]
+    drawn = re.findall(r"<text class='n' x='60' y='\d+'>(\d+)</text><text x='70' y='\d+'>(.*)</text>", chart)
+    shown = [(int(it[1]), it[2]) for it in rows if it]
+    assert sorted(shown) == sorted((int(line), words) for line, words in drawn), "a row is told otherwise than it is drawn"
+    return status, shown, [it for it, row in zip(told, rows) if not row], chart
+
+
+def long_block(number):
+    """A block in three, seven or fifteen digits."""
+    return f"{number:03x}" if number < 16**3 else f"{number:07x}" if number < 16**7 else f"{number:015x}"
+
+
+def charted_wide(told, names, width):
+    """The words of a row of a narrow chart with the names of the wide trace; how many beats the wide beats of the message are."""
+    parts = max(1, width // 16)
+    told = re.sub(r"(?<=block )\w+", lambda it: long_block(names["blocks"][int(it[0], 16)]), told)
+    told = re.sub(r"(?<=source )\w+", lambda it: f"{names['sources'].get(int(it[0], 16), 0):04x}", told)
+    told = re.sub(r"(?<=sink )\w+", lambda it: f"{names['sinks'].get(int(it[0], 16), 0):04x}", told)
+    return re.sub(r" (\d+) beats", lambda it: "" if int(it[1]) <= parts else f" {int(it[1]) // parts} beats", told)
+
+
+def mischarted(tool, text, liberties, levels, beats, width):
+    """What is wrong with the chart of a wide trace: it must be that of the narrow one, with the lines and the names of the wide one,
+    and the verdict of `monitor`."""
+    lines, owners, beyond = narrow_trace(liberties, levels, beats, width)
+    owner = [0, 1, *owners]
+    known = {link: names_of(beats, width, link) for link in {it.link for it in beats}}
+    verdict = wanted(tool, ["monitor"], liberties, levels, beats, width)
+    status, rows, others, chart = rows_of(tool, [], text)
+    _, ought, others_ought, twin = rows_of(tool, [], "\n".join(lines) + "\n")
+    ought = [(owner[line], charted_wide(told, known[told[:2]], width)) for line, told in ought]
+    if (status, rows) != (verdict[0], ought):
+        yield f"chart draws {rows}, and ought to draw {ought}"
+    if others[-1] != f"The monitor says: {verdict[1].strip()}" or others[:-1] != others_ought[:-1]:
+        yield f"chart tells {others}, and ought to tell {others_ought}"
+    if width <= 16 and not beyond:
+        # the picture itself, but for the words
+        plain = [re.sub(r"(?<='>)[^<>]*(?=</text>)|<desc.*?</desc>", "", it, flags=re.DOTALL) for it in (chart, twin)]
+        if plain[0] != plain[1]:
+            yield "chart draws another picture than that of the narrow trace"
+
+
 def text_of(liberties, levels, beats, width):
     """The text of a wide trace."""
     return "\n".join([f"tltrace 5 {width} {liberties} {levels}", *(it.line(width, 4, 16) for it in beats)]) + "\n"
@@ -420,12 +470,13 @@ def example(file, rng):
 
 
 def examples(tool):
-    """What is wrong with the explanations of the examples that are written wide, and the verdicts of `coherent` on them."""
+    """What is wrong with the explanations and charts of the examples that are written wide, and the verdicts of `coherent` on them."""
     rng, wrong, verdicts = random.Random(1), [], collections.Counter()
     data = pathlib.Path(__file__).resolve().parent.parent / "crates/tl_examples/data"
     for file in [it for folder in ("rules", "pending", "situations") for it in sorted((data / folder).glob("*.trace"))]:
         for text, *written in example(file, rng):
-            wrong += [f"{file.name} at {written[-1]} bytes: {it}" for it in misexplained(tool, text, *written)]
+            for check in misexplained, mischarted:
+                wrong += [f"{file.name} at {written[-1]} bytes: {it}" for it in check(tool, text, *written)]
             verdicts[of(tool, "coherent", text=text)[1].split()[-1]] += 1
     return wrong, verdicts
 
@@ -502,8 +553,10 @@ def slips(tool, seed):
     wrong += misexplained(tool, text, liberties, levels, beats, width)
     cut = beats[:rng.randrange(len(beats))]
     wrong += [f"cut after {len(cut)} beats: {it}" for it in misexplained(tool, text_of(liberties, levels, cut, width), liberties, levels, cut, width)]
+    wrong += mischarted(tool, text, liberties, levels, beats, width)
     if miscounted(tool, text, liberties, levels, beats, width):
         wrong.append("cover counts other situations than those of the narrow trace")
+    for command in ["monitor"], ["coherent"]:
         most = rng.choice([1, 2, 3, 20])
         found, taken = wanted_all(tool, command, liberties, levels, beats, width, most)
         wrong += report(tool, [*command, "--all", str(most)], text, found, taken)

@@ -14,7 +14,7 @@ use Rattle.tl_bytes.specs.statement.Bytes.{same_value, tells, told_too, value_le
 use Rattle.tl_bytes.specs.statement.Early.{ends_request}
 use Rattle.tl_bytes.proofs.Finding.{among-or}
 use Rattle.tl_bytes.proofs.Pending.{AsksNot, IsAnsweredNow, IsAskedNow, pending-after, pending-before}
-use Rattle.tl_memory.proofs.Writing.{put_left}
+use Rattle.tl_memory.proofs.values.Writing.{put_left}
 use Rattle.tl_one_memory.proofs.Covered.{AreWindowed, IsLate, IsOrderly, IsToldLate, IsUntold, IsWrittenNow}
 use Rattle.tl_one_memory.proofs.Covered.{could_be-same, is_writable}
 use Rattle.tl_one_memory.proofs.Growing.{HasGrown, WasPending, asked-or, asked-pending}

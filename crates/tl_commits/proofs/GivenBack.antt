@@ -13,9 +13,9 @@ use Rattle.tl_bytes.specs.statement.Bytes.{carried_byte, could_be}
 unfoldable use Rattle.tl_bytes.specs.statement.Bytes.{each_from}
 use Rattle.tl_bytes.specs.statement.Free.{all_liberties}
 use Rattle.tl_forgiving.proofs.Lawful.{lawful-beat}
-use Rattle.tl_memory.proofs.EarlyMessages.{released-is}
-use Rattle.tl_memory.proofs.OpenAccesses.{is-fine, legal-on}
-use Rattle.tl_memory.proofs.Unfinished.{room}
+use Rattle.tl_memory.proofs.messages.EarlyMessages.{released-is}
+use Rattle.tl_memory.proofs.lawful.OpenAccesses.{is-fine, legal-on}
+use Rattle.tl_memory.proofs.lawful.Unfinished.{room}
 use Rattle.tl_memory.specs.code.Early.{is_answered}
 use Rattle.tl_memory.specs.declared.early.Releasing.{Releasing}
 use Rattle.tl_memory.specs.statement.Links.{AreLegal, IsLegal, KnowsReleasing}

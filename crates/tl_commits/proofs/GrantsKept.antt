@@ -13,15 +13,15 @@ use Rattle.tl_burst.proofs.ControlFields.{control_d}
 use Rattle.tl_burst.specs.statement.Messages.{breaks_burst, on, same_control}
 unfoldable use Rattle.tl_burst.specs.statement.Messages.{unfinished}
 use Rattle.tl_bytes.proofs.Finding.{same-some}
-use Rattle.tl_memory.proofs.Answering.{goes_on_d, same_d, same_head, unended}
-use Rattle.tl_memory.proofs.BlockAnswers.{grant-open}
-use Rattle.tl_memory.proofs.Expecting.{not_answer, off_channel, same_tail, served}
-use Rattle.tl_memory.proofs.Lawful.{goes_on}
+use Rattle.tl_memory.proofs.lawful.Answering.{goes_on_d, same_d, same_head, unended}
+use Rattle.tl_memory.proofs.states.BlockAnswers.{grant-open}
+use Rattle.tl_memory.proofs.messages.Expecting.{not_answer, off_channel, same_tail, served}
+use Rattle.tl_memory.proofs.lawful.Lawful.{goes_on}
 use Rattle.std.proofs.lemmas.List.{get_or-set_other, get_or-set_same, length-set}
 use Rattle.std.proofs.lemmas.Option.{get_or_from_slice_get, slice_get-get_or, slice_get_within}
-use Rattle.tl_memory.proofs.LegalBeats.{response-legal}
-use Rattle.tl_memory.proofs.Open.{completes_answer, open-parts, open-whole}
-use Rattle.tl_memory.proofs.OpenAccesses.{is-fine, open-after, other-link, own-link}
+use Rattle.tl_memory.proofs.lawful.LegalBeats.{response-legal}
+use Rattle.tl_memory.proofs.lawful.Open.{completes_answer, open-parts, open-whole}
+use Rattle.tl_memory.proofs.lawful.OpenAccesses.{is-fine, open-after, other-link, own-link}
 use Rattle.tl_memory.specs.statement.Links.{AreLegal, IsLegal}
 use Rattle.tl_params.specs.declared.level.Level.{Level}
 use Rattle.tl_rules.proofs.Open.{not_release_ack}

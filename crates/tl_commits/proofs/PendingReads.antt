@@ -3,9 +3,9 @@ use Rattle.std.proofs.Common.{◌≡◌, ℕ, zero, suc, Bool, true, false, not,
 use Rattle.std.proofs.Common.{refl, sym, ap, subst, ◌∙◌, filter, find, inl, inr}
 use Rattle.std.proofs.lemmas.Bool.{and_parts, cases_Bool, cases_eq, eq-eqb, eqb-true, le-leb, lt-ltb}
 use Rattle.std.specs.Prelude.{if◌then◌else◌, ◌==◌, is_some, Option, Some, None}
-use Rattle.tl_memory.proofs.Open.{open-whole}
-use Rattle.tl_memory.proofs.OpenAccesses.{pending-open}
-use Rattle.tl_memory.proofs.Writing.{found-append}
+use Rattle.tl_memory.proofs.lawful.Open.{open-whole}
+use Rattle.tl_memory.proofs.lawful.OpenAccesses.{pending-open}
+use Rattle.tl_memory.proofs.values.Writing.{found-append}
 use Rattle.tl_memory.specs.statement.Links.{AreLegal}
 use Rattle.tl_monitor.specs.statement.Knows.{request_on}
 use Rattle.tl_beat.specs.statement.Width.{IsWidth}

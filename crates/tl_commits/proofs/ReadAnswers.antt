@@ -14,8 +14,8 @@ use Rattle.tl_burst.specs.statement.Messages.{unfinished}
 use Rattle.tl_bytes.proofs.Finding.{same-some}
 use Rattle.tl_bytes.specs.statement.Bytes as bytes
 use Rattle.tl_bytes.specs.statement.Bytes.{Access, each_from, is_put, pending_accesses}
-use Rattle.tl_memory.proofs.Answering.{is-answering}
-use Rattle.tl_memory.proofs.OpenAccesses.{is-fine, legal-on, pending-open}
+use Rattle.tl_memory.proofs.lawful.Answering.{is-answering}
+use Rattle.tl_memory.proofs.lawful.OpenAccesses.{is-fine, legal-on, pending-open}
 use Rattle.tl_memory.specs.statement.Known.{AnyIsTo}
 use Rattle.tl_memory.specs.statement.Links.{AreLegal, IsLegal}
 use Rattle.tl_params.specs.declared.level.Level.{Level}

@@ -22,13 +22,14 @@ unfoldable use Rattle.tl_bytes.specs.statement.Bytes.{pending_accesses}
 use Rattle.tl_bytes.specs.statement.Early.{is_outrun_of}
 unfoldable use Rattle.tl_bytes.specs.statement.Early.{outrun_accesses}
 use Rattle.tl_bytes.specs.statement.Shown.{is_window}
-use Rattle.tl_memory.proofs.Answering.{fields_of, goes_on_d, last-request}
-use Rattle.tl_memory.proofs.Expecting.{off_channel, served}
-use Rattle.tl_memory.proofs.Found.{in_block}
-use Rattle.tl_memory.proofs.Lawful.{goes_on}
-use Rattle.tl_memory.proofs.Open.{IsOpen, ack-whole, completes_answer, fresh}
-use Rattle.tl_memory.proofs.OpenAccesses.{IsFine, answered-gone, is-fine, legal-on, other-link, own-link, pending-open}
-use Rattle.tl_memory.proofs.Outrunning.{comes-parts, kept-fields}
+use Rattle.tl_memory.proofs.lawful.Answering.{fields_of, goes_on_d, last-request}
+use Rattle.tl_memory.proofs.messages.Expecting.{off_channel, served}
+use Rattle.tl_memory.proofs.states.Found.{in_block}
+use Rattle.tl_memory.proofs.lawful.Lawful.{goes_on}
+use Rattle.tl_memory.proofs.lawful.Open.{IsOpen, ack-whole, completes_answer, fresh}
+use Rattle.tl_memory.proofs.lawful.OpenAccesses.{IsFine, answered-gone, is-fine, legal-on, other-link, own-link}
+use Rattle.tl_memory.proofs.lawful.OpenAccesses.{pending-open}
+use Rattle.tl_memory.proofs.lawful.Outrunning.{comes-parts, kept-fields}
 use Rattle.tl_memory.specs.code.ByteSet.{has_at}
 use Rattle.tl_memory.specs.statement.Links.{AreLegal, IsLegal}
 use Rattle.tl_params.specs.declared.level.Level.{Level}

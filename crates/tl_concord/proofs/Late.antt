@@ -18,7 +18,7 @@ use Rattle.tl_coherence.specs.statement.{Delivery.levels_of, Flow.IsTaken, Flow.
 unfoldable use Rattle.tl_coherence.specs.statement.Flow.{EachTaken}
 use Rattle.tl_concord.proofs.Alike.{kept-world}
 use Rattle.tl_forgiving.proofs.Lawful.{AreLawful, lawful-beat, lawful-history}
-use Rattle.tl_memory.proofs.OpenAccesses.{is-fine, legal-on}
+use Rattle.tl_memory.proofs.lawful.OpenAccesses.{is-fine, legal-on}
 use Rattle.tl_memory.specs.statement.Links.{KeepRules}
 use Rattle.tl_params.specs.declared.{level.Level.Level, liberties.Liberties.Liberties}
 use Rattle.tl_params.specs.statement.Liberties.{liberties_of}

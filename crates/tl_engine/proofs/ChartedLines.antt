@@ -30,7 +30,7 @@ use Rattle.tl_explain.specs.statement.Evidence.{next_line}
 use Rattle.tl_monitor.proofs.Knowing.{broken_by, unbroken}
 use Rattle.tl_monitor.specs.declared.fault.MonitorFault.TheVariants as monitor
 use Rattle.tl_monitor.specs.declared.monitor.Monitor.{Monitor}
-use Rattle.tl_memory.proofs.LinkTables.{link-there}
+use Rattle.tl_memory.proofs.messages.LinkTables.{link-there}
 use Rattle.tl_monitor.specs.statement.Knows.{KnowsUnder, begins_on, fault_under}
 use Rattle.tl_engine.specs.code.Charting.{EndsChart, EndsCharting, EndsJudge, IsBegun, KnowsChart, KnowsCharting}
 use Rattle.tl_engine.specs.code.Charting.{GathersLine, KnowsJudge, fault_of_chart, gatherer_in}

@@ -23,7 +23,7 @@ use Rattle.tl_rules.specs.statement.History.{capped}
 use Rattle.tl_explain.specs.statement.Spelled.{spelled}
 use Rattle.tl_explain.specs.declared.told.Spelling.{Spelling}
 use Rattle.tl_explain.specs.statement.Evidence.{next_line}
-use Rattle.tl_memory.proofs.LinkTables.{link-there}
+use Rattle.tl_memory.proofs.messages.LinkTables.{link-there}
 use Rattle.tl_together.specs.declared.breach.Breach.TheVariants.{OfMemory}
 use Rattle.tl_params.specs.declared.memory_rule.MemoryRule.{MemoryRule}
 use Rattle.tl_params.specs.declared.memory_rule.MemoryRule.TheVariants.{M1, M2, M3, M4}

@@ -16,7 +16,7 @@ use Rattle.tl_bytes.specs.statement.Bytes.{same_value, tells, told_too, value_le
 use Rattle.tl_bytes.specs.statement.Early.{ends_request, telling_beats}
 use Rattle.tl_bytes.proofs.Finding.{Among, among-map, among-or}
 use Rattle.tl_bytes.proofs.Pending.{AsksNot, IsAnsweredNow, IsAskedNow, pending-after, pending-before}
-use Rattle.tl_memory.proofs.Writing.{put_left}
+use Rattle.tl_memory.proofs.values.Writing.{put_left}
 use Rattle.tl_one_memory.proofs.Growing.{HasGrown, WasPending, asked-or, asked-pending}
 use Rattle.tl_one_memory.proofs.Outrun.{IsOutrunNow, MayLeave, ReachesOwn, outrun-after, outrun-now}
 use Rattle.tl_one_memory.proofs.Spans.{began_by_now, one-still, windowed-more}

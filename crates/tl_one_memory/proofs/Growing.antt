@@ -26,9 +26,9 @@ use Rattle.tl_bytes.specs.statement.Bytes.{asked_by, asked_since, asks_new, foun
 use Rattle.tl_bytes.specs.statement.Early.{outrun_accesses}
 use Rattle.tl_bytes.proofs.Finding.{none-some}
 use Rattle.tl_bytes.proofs.Pending.{AsksNot, IsAskedNow, pending-before}
-use Rattle.tl_memory.proofs.OpenAccesses.{other-link, own-link}
-use Rattle.tl_memory.proofs.Payloads.{wide-length}
-use Rattle.tl_memory.proofs.Writing.{put_pending}
+use Rattle.tl_memory.proofs.lawful.OpenAccesses.{other-link, own-link}
+use Rattle.tl_memory.proofs.values.Payloads.{wide-length}
+use Rattle.tl_memory.proofs.values.Writing.{put_pending}
 use Rattle.tl_memory.specs.statement.Known.{AreWide}
 use Rattle.tl_one_memory.proofs.Outrun.{asks-or, never-both}
 use Rattle.tl_one_memory.specs.statement.Run.{GoesOn}

@@ -25,11 +25,11 @@ use Rattle.tl_bytes.specs.statement.Early.{Outrun, is_outrun_of, outruns}
 unfoldable use Rattle.tl_bytes.specs.statement.Early.{outrun_accesses}
 use Rattle.tl_bytes.specs.statement.Free.{all_liberties}
 use Rattle.tl_memory.specs.statement.Links.{AreLegal}
-use Rattle.tl_memory.proofs.Answering.{fields_of, kept-now}
-use Rattle.tl_memory.proofs.Lawful.{goes_on}
-use Rattle.tl_memory.proofs.Open.{IsOpen, completes_answer}
-use Rattle.tl_memory.proofs.OpenAccesses.{IsFine, found-still, is-fine, legal-on, other-link, own-link}
-use Rattle.tl_memory.proofs.Outrunning.{IsOut, kept-pending, out-before, out-still, outrun-from}
+use Rattle.tl_memory.proofs.lawful.Answering.{fields_of, kept-now}
+use Rattle.tl_memory.proofs.lawful.Lawful.{goes_on}
+use Rattle.tl_memory.proofs.lawful.Open.{IsOpen, completes_answer}
+use Rattle.tl_memory.proofs.lawful.OpenAccesses.{IsFine, found-still, is-fine, legal-on, other-link, own-link}
+use Rattle.tl_memory.proofs.lawful.Outrunning.{IsOut, kept-pending, out-before, out-still, outrun-from}
 
 no : true ≡ false → ⊥
 no e = cc

@@ -30,13 +30,13 @@ unfoldable use Rattle.tl_bytes.specs.statement.Shown.{had_window}
 use Rattle.tl_bytes.proofs.Finding.{none-some}
 use Rattle.tl_bytes.proofs.Pending.{AsksNot, IsAskedNow, pending-before}
 use Rattle.tl_memory.specs.statement.Links.{AreLegal, IsLegal}
-use Rattle.tl_memory.proofs.Answering.{fields_of, last-request}
-use Rattle.tl_memory.proofs.Outrunning.{kept-fields}
-use Rattle.tl_memory.proofs.Lawful.{by_itself, goes_on, is-request}
-use Rattle.tl_memory.proofs.Open.{IsOpen, completes_answer, open-parts, open-whole}
-use Rattle.tl_memory.proofs.OpenAccesses.{IsFine, IsRequestOf, is-fine, legal-link}
-use Rattle.tl_memory.proofs.OpenAccesses.{open-after, other-link, own-link, pending-open}
-use Rattle.tl_memory.proofs.Puts.{put-carries}
+use Rattle.tl_memory.proofs.lawful.Answering.{fields_of, last-request}
+use Rattle.tl_memory.proofs.lawful.Outrunning.{kept-fields}
+use Rattle.tl_memory.proofs.lawful.Lawful.{by_itself, goes_on, is-request}
+use Rattle.tl_memory.proofs.lawful.Open.{IsOpen, completes_answer, open-parts, open-whole}
+use Rattle.tl_memory.proofs.lawful.OpenAccesses.{IsFine, IsRequestOf, is-fine, legal-link}
+use Rattle.tl_memory.proofs.lawful.OpenAccesses.{open-after, other-link, own-link, pending-open}
+use Rattle.tl_memory.proofs.values.Puts.{put-carries}
 use Rattle.tl_one_memory.proofs.Performed.{asked-again, found-performed, found-taken, some-value}
 use Rattle.tl_one_memory.proofs.Read.{put-unread}
 unfoldable use Rattle.tl_one_memory.proofs.Read.{in-window}

@@ -12,7 +12,7 @@ use Rattle.tl_bytes.specs.statement.Early.{Outrun, is_outrun, is_outrun_of, outr
 use Rattle.tl_bytes.specs.statement.Early.{settled_by, without, without_settled}
 unfoldable use Rattle.tl_bytes.specs.statement.Early.{outrun_accesses}
 use Rattle.tl_bytes.proofs.Finding.{among-found, found-among, found-passes, none-some}
-use Rattle.tl_memory.proofs.Outrunning.{IsOut, apart, either-key, found-but, out-unpending, settled-a, settled-d}
+use Rattle.tl_memory.proofs.lawful.Outrunning.{IsOut, apart, either-key, found-but, out-unpending, settled-a, settled-d}
 
 -- the beat belongs to an answer that comes before the request is complete
 pub record IsOutrunNow {w : ℕ} (c s : ℕ) (y : Link × Beat w) (t : Trace w) : Type 0 where

@@ -18,7 +18,7 @@ use Rattle.tl_bytes.proofs.WorkedBeats.{done, eight, found, get}
 use Rattle.tl_bytes.specs.statement.Bytes.{carried_mask, is_put}
 use Rattle.tl_bytes.specs.statement.Early.{outrun_accesses, outruns}
 use Rattle.tl_bytes.specs.statement.Free.{all_liberties}
-use Rattle.tl_memory.proofs.{Payloads.bit_below, Puts.placed}
+use Rattle.tl_memory.proofs.{values.Payloads.bit_below, values.Puts.placed}
 use Rattle.tl_one_memory.proofs.Beatwise.{asks-as, begun, begun-taken, nines}
 use Rattle.tl_one_memory.proofs.Wider.{at-link}
 use Rattle.tl_one_memory.proofs.Worked.{answers-one, each-eight, is_written, pending_of, plain, response, takes, unequal}

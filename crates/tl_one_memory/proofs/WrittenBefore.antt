@@ -18,7 +18,7 @@ use Rattle.tl_bytes.specs.statement.Early.{outrun_accesses}
 use Rattle.tl_bytes.specs.statement.Bytes.{carried_mask}
 unfoldable use Rattle.tl_bytes.specs.statement.Shown.{had_window}
 use Rattle.tl_bytes.proofs.WorkedBeats.{done, eight, grant_unread, part}
-use Rattle.tl_memory.proofs.{Payloads.bit_below, Puts.placed}
+use Rattle.tl_memory.proofs.{values.Payloads.bit_below, values.Puts.placed}
 use Rattle.tl_one_memory.proofs.Beatwise.{first_half, half-asked}
 use Rattle.tl_one_memory.proofs.Wider.{asked, asked-taken, at-link, free_if, granted_if, still}
 use Rattle.tl_one_memory.proofs.Worked.{answers-one, pending_of, response, single, takes, unequal, zeros}

@@ -19,8 +19,9 @@ use Rattle.tl_bytes.specs.statement.Early.{without_settled}
 unfoldable use Rattle.tl_bytes.specs.statement.Early.{outrun_accesses}
 use Rattle.tl_renaming.proofs.Outrun.{IsRoomy, left-roomy}
 use Rattle.tl_bytes.specs.statement.Bytes.{pending_accesses, pending_with}
-use Rattle.tl_memory.proofs.{Lawful.by_itself, Lawful.is-request, Lawful.legal-parts, OpenAccesses.is-fine, OpenAccesses.legal-on}
-use Rattle.tl_memory.proofs.Unfinished.{fewer-before}
+use Rattle.tl_memory.proofs.{lawful.Lawful.by_itself, lawful.Lawful.is-request, lawful.Lawful.legal-parts}
+use Rattle.tl_memory.proofs.{lawful.OpenAccesses.is-fine, lawful.OpenAccesses.legal-on}
+use Rattle.tl_memory.proofs.lawful.Unfinished.{fewer-before}
 use Rattle.tl_memory.specs.statement.Links.{AreLegal}
 use Rattle.tl_params.specs.declared.level.Level.{Level}
 use Rattle.tl_rules.{proofs.Rooms.room_in_block, proofs.Rooms.room_of_base}

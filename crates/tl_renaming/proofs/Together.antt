@@ -10,7 +10,8 @@ use Rattle.std.proofs.Common.{◌≡◌, ℕ, List, [], ◌∷◌, length, refl,
 use Rattle.std.proofs.Math.Path.{ap₂}
 use Rattle.std.specs.Prelude.{Option, Some, None}
 use Rattle.tl_beat.{specs.declared.beat.Link.Link, specs.statement.Width.IsWidth}
-use Rattle.tl_memory.{proofs.OpenAccesses.is-fine, proofs.OpenAccesses.legal-on, proofs.Unfinished.room}
+use Rattle.tl_memory.{proofs.lawful.OpenAccesses.is-fine, proofs.lawful.OpenAccesses.legal-on}
+use Rattle.tl_memory.{proofs.lawful.Unfinished.room}
 use Rattle.tl_memory.specs.statement.Links.{AreLegal, IsLegal, KeepRules}
 use Rattle.tl_params.specs.declared.level.Level.{Level}
 use Rattle.tl_params.specs.declared.rule.Rule.{Rule}

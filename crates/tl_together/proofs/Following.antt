@@ -6,8 +6,8 @@ use Rattle.tl_beat.specs.declared.beat.Link.{Link}
 use Rattle.tl_bytes.specs.statement.Free.{all_liberties, may_hold}
 use Rattle.tl_forgiving.proofs.Forgiving.{held, histories}
 use Rattle.tl_forgiving.specs.statement.Forgiving.{IsWithin}
-use Rattle.tl_memory.proofs.Lawful.{legal-parts}
-use Rattle.tl_memory.proofs.OpenAccesses.{is-fine, legal-on}
+use Rattle.tl_memory.proofs.lawful.Lawful.{legal-parts}
+use Rattle.tl_memory.proofs.lawful.OpenAccesses.{is-fine, legal-on}
 use Rattle.tl_memory.specs.statement.Links.{AreLegal, IsLegal, KeepRules, KeepsRules}
 use Rattle.tl_monitor.specs.declared.monitor.Monitor.{Monitor}
 use Rattle.tl_monitor.specs.statement.Knows.{KnowsUnder}

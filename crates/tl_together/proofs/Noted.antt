@@ -22,16 +22,16 @@ use Rattle.tl_rules.specs.statement.Conformance.{comes_in_request}
 use Rattle.tl_rules.specs.statement.History.{begins, ends, pending, request_of, is_release_ack}
 use Rattle.tl_rules.proofs.Tables.{request-next}
 use Rattle.tl_bytes.specs.statement.Free.{all_liberties}
-use Rattle.tl_memory.proofs.Lawful.{goes_on}
-use Rattle.tl_memory.proofs.LinkTables.{link-there}
-use Rattle.tl_memory.proofs.OpenAccesses.{is-fine}
+use Rattle.tl_memory.proofs.lawful.Lawful.{goes_on}
+use Rattle.tl_memory.proofs.messages.LinkTables.{link-there}
+use Rattle.tl_memory.proofs.lawful.OpenAccesses.{is-fine}
 use Rattle.tl_memory.specs.statement.Links.{IsLegal}
 use Rattle.tl_memory.specs.code.Changing.{IsChange, KnowsFree}
 use Rattle.tl_memory.specs.code.Elsewhere.{LeavesHeld}
 use Rattle.tl_memory.specs.code.Passing.{changes_held}
 use Rattle.tl_memory.specs.declared.memory.Change.{Change}
 use Rattle.tl_memory.specs.declared.memory.Memory.{Memory}
-use Rattle.tl_memory.proofs.PassedBy.{held-left}
+use Rattle.tl_memory.proofs.states.PassedBy.{held-left}
 use Rattle.tl_monitor.specs.code.LinkState.{is_block}
 use Rattle.tl_monitor.specs.statement.Knows.{request_on}
 use Rattle.tl_monitor.specs.declared.monitor.Monitor.{Monitor}

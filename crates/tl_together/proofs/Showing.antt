@@ -15,10 +15,10 @@ use Rattle.tl_bytes.specs.statement.Shown.{shows}
 use Rattle.tl_memory.specs.{declared.free.Freedom.Freedom, statement.Known.freedom}
 use Rattle.tl_monitor.specs.code.LinkState.{is_block}
 use Rattle.tl_params.specs.declared.perm.Perm.{Perm}
-use Rattle.tl_memory.proofs.Bearing.{none_of_both, silent-or}
+use Rattle.tl_memory.proofs.states.Bearing.{none_of_both, silent-or}
 use Rattle.tl_params.specs.declared.key.Key.TheVariants.{ReleaseOf}
 use Rattle.tl_rules.specs.statement.Liberties.{is_answered}
-use Rattle.tl_memory.proofs.Elsewhere.{held-kept}
+use Rattle.tl_memory.proofs.states.Elsewhere.{held-kept}
 use Rattle.tl_monitor.specs.statement.Knows.{begins_on}
 use Rattle.tl_params.specs.declared.level.Level.{Level}
 use Rattle.tl_rules.specs.statement.Conformance.{Trace, on_link}

@@ -1,17 +1,12 @@
 //! Plays the trials of data/ and writes their results, which are compared with the expected ones.
 #![tactic(auto)]
 
-#[cfg(test)]
-mod agents;
-mod play;
-#[cfg(test)]
-mod tests;
 mod text;
 
-use play::stage::{Stage, play_text};
 use std::io::Write;
 use std::process::ExitCode;
 use std::{fs, io};
+use tl_play::stage::{Stage, play_text};
 
 /// The files of trials, by their names in data/.
 const TRIALS: [(Stage, &str); 18] = [

@@ -1,11 +1,9 @@
 //! Plays files of sections. A section is a line `$ KIND` and the lines after it, for which the text of a command, or
 //! the content of the lines, is written. In `$ unended KIND` the last LF is left out.
 
-pub mod device;
 mod kind;
 mod lines;
 
-use crate::text::device::{Narrow, Slow};
 use crate::text::kind::{Kind, kind_of};
 use std::alloc::Global;
 use std::io::{ErrorKind, Write};
@@ -13,6 +11,7 @@ use std::{fs, io};
 use tl_engine::command::Command;
 use tl_engine::status::exit_of;
 use tl_engine::tool::run_tool;
+use tl_play::device::{Narrow, Slow};
 
 /// The files, by their names in data/.
 const FILES: [&str; 15] = [

@@ -10,9 +10,9 @@ use Rattle.tl_beat.specs.statement.Opcode.{d_carries_data}
 use Rattle.tl_beat.specs.statement.Width.{IsWidth}
 use Rattle.tl_bytes.specs.statement.Bytes.{Access, before_last, found_after, is_of, may_grant}
 use Rattle.tl_bytes.specs.statement.Bytes.{pending_accesses}
-use Rattle.tl_memory.proofs.Judging.{in_block, read_inside}
-use Rattle.tl_memory.proofs.Kept.{told-exact}
-use Rattle.tl_memory.proofs.Lanes.{base-of_block, granted-byte, read-byte}
+use Rattle.tl_memory.proofs.messages.Judging.{in_block, read_inside}
+use Rattle.tl_memory.proofs.messages.Kept.{told-exact}
+use Rattle.tl_memory.proofs.values.Lanes.{base-of_block, granted-byte, read-byte}
 use Rattle.tl_memory.specs.code.Expected.{allows}
 use Rattle.tl_memory.specs.code.Lines.{told_by}
 use Rattle.tl_memory.specs.declared.expected.Expected.{Expected}

@@ -42,7 +42,7 @@ use Rattle.tl_params.specs.statement.Param.{grow_code}
 use Rattle.tl_rules.specs.statement.Liberties.{broken_in_order_under, grows_from_none, grows_from_under}
 unfoldable use Rattle.tl_rules.specs.statement.Liberties.{broken_order_under, held_under}
 use Rattle.tl_forgiving.proofs.Lawful.{lawful-beat}
-use Rattle.tl_memory.proofs.OpenAccesses.{is-fine}
+use Rattle.tl_memory.proofs.lawful.OpenAccesses.{is-fine}
 use Rattle.tl_memory.specs.statement.Links.{KeepRules}
 use Rattle.tl_together.proofs.Following.{most}
 use Rattle.tl_coherence.specs.refinement.AbstractStep.{AbstractState}

@@ -3,7 +3,7 @@ use Rattle.std.proofs.lemmas.Bool.{le-ltb, lt-ltb}
 use Rattle.tl_memory.specs.code.ByteSet.{has_at}
 use Rattle.tl_commits.specs.code.Filling.{filled}
 use Rattle.tl_commits.specs.statement.Copies.{brought}
-use Rattle.tl_memory.proofs.ByteSets.{set-next}
+use Rattle.tl_memory.proofs.values.ByteSets.{set-next}
 use Rattle.tl_commits.proofs.bringing.with_filled.Goals as goal
 
 pub loop-i-init : goal.loop-i-init

@@ -3,7 +3,7 @@ use Rattle.std.proofs.lemmas.List.{get_or-replicate}
 use Rattle.tl_memory.specs.code.ByteSet.{has, has_at, nothing}
 use Rattle.tl_commits.specs.code.GivingBack.{is_seen}
 use Rattle.tl_commits.specs.statement.Copies.{holds, holds_trunk, link_beats}
-use Rattle.tl_memory.proofs.ByteSets.{any-or, none-or}
+use Rattle.tl_memory.proofs.values.ByteSets.{any-or, none-or}
 use Rattle.tl_commits.proofs.LoadedBytes.{address-from, block-from, have-known, have-none, have-unknown}
 use Rattle.tl_commits.proofs.bringing.with_held.Goals as goal
 

@@ -1,5 +1,5 @@
 use Rattle.std.proofs.Common.{rules, arith, ap, sym, ◌∙◌, ◌≡◌, ◌+◌, ◌*◌, ◌<◌, length, true, false, get_or}
-use Rattle.tl_memory.proofs.Lanes.{all-passed, one-failed, one-passed}
+use Rattle.tl_memory.proofs.values.Lanes.{all-passed, one-failed, one-passed}
 use Rattle.tl_commits.specs.statement.Commits.{may_give}
 use Rattle.tl_commits.proofs.giving_back.gives_each.Goals as goal
 

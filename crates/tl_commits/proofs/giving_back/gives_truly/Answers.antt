@@ -2,7 +2,7 @@ use Rattle.std.proofs.Common.{rules, arith, refl, sym, ap, length, ◌∙◌, �
 use Rattle.tl_beat.specs.declared.beat.Beat.{Beat}
 use Rattle.tl_beat.specs.declared.channel.Channel.{Channel}
 use Rattle.tl_burst.specs.statement.Messages.{unfinished}
-use Rattle.tl_memory.proofs.LinkTables.{link-there}
+use Rattle.tl_memory.proofs.messages.LinkTables.{link-there}
 use Rattle.tl_rules.specs.statement.Conformance.{on_link}
 use Rattle.tl_together.proofs.Following.{followed, one_more}
 use Rattle.tl_commits.specs.statement.Events.{beats_of}

@@ -1,5 +1,5 @@
 use Rattle.std.proofs.Common.{◌<◌, arith, sym, ap, length, refl, slice_set, ◌∙◌}
-use Rattle.tl_memory.proofs.LinkTables.{link-there}
+use Rattle.tl_memory.proofs.messages.LinkTables.{link-there}
 use Rattle.tl_together.proofs.Following.{one_more}
 use Rattle.tl_together.proofs.Noted.{on_levels}
 use Rattle.tl_commits.specs.statement.Events.{beats_of}

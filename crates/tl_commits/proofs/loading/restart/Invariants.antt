@@ -1,5 +1,5 @@
 use Rattle.tl_commits.specs.code.Loading.{IsRestarted}
-use Rattle.tl_memory.proofs.Keeping.{IsDone}
+use Rattle.tl_memory.proofs.states.Keeping.{IsDone}
 use Rattle.tl_commits.proofs.loading.restart.Given as goal
 
 abbrev pub invariant-loop-n : goal.invariant-loop-n

@@ -1,6 +1,6 @@
 use Rattle.std.proofs.Common.{length, rules, sym, ◌∙◌}
 use Rattle.tl_beat.specs.declared.beat.{Beat.Beat, Link.Link}
-use Rattle.tl_memory.proofs.LinkTables.{link-there}
+use Rattle.tl_memory.proofs.messages.LinkTables.{link-there}
 use Rattle.tl_commits.specs.statement.Events.{beats_of}
 use Rattle.tl_commits.proofs.TableJudged.{kept-known, next-none, next-same, next-some}
 use Rattle.tl_commits.proofs.next_values.next_values.Goals as goal

@@ -3,9 +3,9 @@ use Rattle.std.specs.Prelude.{find, Some, None}
 use Rattle.tl_beat.specs.declared.beat.Beat.{Beat}
 use Rattle.tl_beat.specs.declared.channel.Channel.{Channel}
 use Rattle.tl_burst.specs.statement.Messages.{unfinished}
-use Rattle.tl_memory.proofs.Judging.{read_inside}
-use Rattle.tl_memory.proofs.Lanes.{some-lanes}
-use Rattle.tl_memory.proofs.LinkTables.{link-there}
+use Rattle.tl_memory.proofs.messages.Judging.{read_inside}
+use Rattle.tl_memory.proofs.values.Lanes.{some-lanes}
+use Rattle.tl_memory.proofs.messages.LinkTables.{link-there}
 use Rattle.tl_rules.specs.code.Place.{base_of}
 use Rattle.tl_rules.specs.statement.Admission.{is_spoiled}
 use Rattle.tl_rules.specs.statement.History.{block_at}

@@ -1,5 +1,5 @@
 use Rattle.std.proofs.Common.{◌∷◌, length, refl}
-use Rattle.tl_memory.proofs.LinkTables.{link-there}
+use Rattle.tl_memory.proofs.messages.LinkTables.{link-there}
 use Rattle.tl_together.proofs.Following.{followed}
 use Rattle.tl_events.specs.declared.commit.Event.TheVariants as event
 use Rattle.tl_commits.specs.statement.Events.{beats_of}

@@ -1,5 +1,5 @@
 use Rattle.tl_commits.specs.code.Reading.{IsTakenBy}
-use Rattle.tl_memory.proofs.Keeping.{IsDone}
+use Rattle.tl_memory.proofs.states.Keeping.{IsDone}
 use Rattle.tl_commits.proofs.readings.take_each.Given as goal
 
 abbrev pub invariant-loop-n : goal.invariant-loop-n

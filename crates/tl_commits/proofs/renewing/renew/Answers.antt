@@ -1,6 +1,6 @@
 use Rattle.std.proofs.Common.{arith}
 use Rattle.tl_commits.specs.code.Loading.{IsRenewed}
-use Rattle.tl_memory.proofs.Keeping.{done-all, done-more, done-none}
+use Rattle.tl_memory.proofs.states.Keeping.{done-all, done-more, done-none}
 use Rattle.tl_commits.proofs.renewing.renew.Goals as goal
 
 pub loop-n-init : goal.loop-n-init

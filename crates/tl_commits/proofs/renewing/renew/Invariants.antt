@@ -1,5 +1,5 @@
 use Rattle.tl_commits.specs.code.Loading.{IsRenewed}
-use Rattle.tl_memory.proofs.Keeping.{IsDone}
+use Rattle.tl_memory.proofs.states.Keeping.{IsDone}
 use Rattle.tl_commits.proofs.renewing.renew.Given as goal
 
 abbrev pub invariant-loop-n : goal.invariant-loop-n

@@ -1,5 +1,5 @@
 use Rattle.std.proofs.Common.{arith}
-use Rattle.tl_memory.proofs.Lanes.{reach-far}
+use Rattle.tl_memory.proofs.values.Lanes.{reach-far}
 use Rattle.tl_memory.proofs.access.reaches.Goals as goal
 
 pub returns-then-size-gt6 : goal.returns-then-size-gt6

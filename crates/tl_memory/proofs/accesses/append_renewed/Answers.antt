@@ -1,7 +1,7 @@
 use Rattle.std.proofs.Common.{rules, ap, append-nil, append_assoc, sym, ◌∙◌, ◌≡◌, ◌++◌, [], ◌∷◌}
 use Rattle.std.proofs.lemmas.List.{take_all}
 use Rattle.tl_memory.specs.code.Writers.{found_by}
-use Rattle.tl_memory.proofs.Keeping.{copied-left, copied-more, copied-none}
+use Rattle.tl_memory.proofs.states.Keeping.{copied-left, copied-more, copied-none}
 use Rattle.tl_memory.proofs.accesses.append_renewed.Goals as goal
 use Rattle.tl_memory.proofs.accesses.append_renewed.Goals.{then-stays+in_ok-renewed+in_ok-push, else-stays}
 

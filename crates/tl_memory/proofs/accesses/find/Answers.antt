@@ -1,6 +1,6 @@
 use Rattle.std.proofs.Common.{sym, ◌∙◌}
 use Rattle.tl_memory.specs.code.Writers.{is_named}
-use Rattle.tl_memory.proofs.Keeping.{found-here, found-later, found-none}
+use Rattle.tl_memory.proofs.states.Keeping.{found-here, found-later, found-none}
 use Rattle.tl_memory.proofs.accesses.find.Goals as goal
 
 pub returns-then-is_of : goal.returns-then-is_of

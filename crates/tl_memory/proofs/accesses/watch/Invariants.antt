@@ -1,4 +1,4 @@
-use Rattle.tl_memory.{specs.code.Writers.IsWatched, proofs.Keeping.IsDone}
+use Rattle.tl_memory.{specs.code.Writers.IsWatched, proofs.states.Keeping.IsDone}
 use Rattle.tl_memory.proofs.accesses.watch.Given as goal
 
 abbrev pub invariant-loop-n : goal.invariant-loop-n

@@ -1,7 +1,8 @@
 use Rattle.std.proofs.Common.{ap}
 use Rattle.tl_rules.specs.statement.History.{is_release_ack}
 use Rattle.tl_bytes.specs.statement.Bytes.{pending_accesses}
-use Rattle.tl_memory.proofs.{Beginning.none-again, Beginning.read-again, BlockAnswers.answered-there}
+use Rattle.tl_memory.proofs.{messages.Beginning.none-again, messages.Beginning.read-again}
+use Rattle.tl_memory.proofs.{states.BlockAnswers.answered-there}
 use Rattle.tl_memory.proofs.begun.along.Goals as goal
 
 pub returns-in_ok-read-in-AccessAckData : goal.returns-in_ok-read-in-AccessAckData

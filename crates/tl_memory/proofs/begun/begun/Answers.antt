@@ -1,11 +1,12 @@
 use Rattle.std.proofs.Common.{ap, arith, refl, ◌≡◌, ◌<◌, ◌*◌, ◌^◌}
 use Rattle.tl_rules.specs.statement.History.{is_grant, is_release_ack}
-use Rattle.tl_memory.proofs.{BlockAnswers.grant-open, Memories.block-small}
+use Rattle.tl_memory.proofs.{states.BlockAnswers.grant-open, states.Memories.block-small}
 use Rattle.std.specs.Prelude.{find}
 use Rattle.tl_rules.{specs.code.Open.open_request, specs.statement.Conformance.on_link}
 use Rattle.tl_bytes.specs.statement.Bytes.{is_of, pending_accesses}
-use Rattle.tl_memory.{specs.declared.expected.Expected.Expected, proofs.BlockAnswers.answered-no_put, proofs.BlockAnswers.answered-there}
-use Rattle.tl_memory.proofs.Beginning.{grant-begun, none-begun, read-begun}
+use Rattle.tl_memory.{specs.declared.expected.Expected.Expected, proofs.states.BlockAnswers.answered-no_put}
+use Rattle.tl_memory.{proofs.states.BlockAnswers.answered-there}
+use Rattle.tl_memory.proofs.messages.Beginning.{grant-begun, none-begun, read-begun}
 use Rattle.tl_memory.proofs.begun.begun.Goals as goal
 
 pub returns-in_ok-granted-in-GrantData : goal.returns-in_ok-granted-in-GrantData

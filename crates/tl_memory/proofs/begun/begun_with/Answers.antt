@@ -5,8 +5,8 @@ use Rattle.tl_beat.{specs.declared.beat.Beat.Beat, specs.declared.channel.Channe
 use Rattle.tl_burst.specs.statement.Messages.{unfinished}
 use Rattle.tl_rules.specs.statement.Conformance.{on_link}
 use Rattle.tl_rules.specs.statement.History.{begins}
-use Rattle.tl_memory.proofs.Memories.{along-by, begun-by, no-response}
-use Rattle.tl_memory.proofs.{PassedBy.none-before, Taken.response-borne}
+use Rattle.tl_memory.proofs.states.Memories.{along-by, begun-by, no-response}
+use Rattle.tl_memory.proofs.{states.PassedBy.none-before, states.Taken.response-borne}
 use Rattle.tl_memory.proofs.begun.begun_with.Goals as goal
 
 pub returns-then-count-eq0 : goal.returns-then-count-eq0

@@ -3,10 +3,10 @@ use Rattle.tl_beat.specs.declared.beat.Beat.{Beat}
 use Rattle.tl_bytes.specs.statement.Bytes.{pending_accesses}
 use Rattle.tl_bytes.specs.statement.Early.{outrun_accesses}
 use Rattle.tl_rules.specs.statement.Conformance.{on_link}
-use Rattle.tl_memory.proofs.BlockAnswers.{answer-ends, answer-over, answered-there, unsettled-answer}
-use Rattle.tl_memory.proofs.ByteChanges.{settled-change}
-use Rattle.tl_memory.proofs.Responses.{access-untold}
-use Rattle.tl_memory.proofs.Settling.{kept-found, none-kept, settles-answer}
+use Rattle.tl_memory.proofs.states.BlockAnswers.{answer-ends, answer-over, answered-there, unsettled-answer}
+use Rattle.tl_memory.proofs.values.ByteChanges.{settled-change}
+use Rattle.tl_memory.proofs.lawful.Responses.{access-untold}
+use Rattle.tl_memory.proofs.states.Settling.{kept-found, none-kept, settles-answer}
 use Rattle.tl_memory.proofs.byte_change.by_access.Goals as goal
 
 pub returns-in-Some : goal.returns-in-Some

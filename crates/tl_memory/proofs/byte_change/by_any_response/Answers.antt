@@ -6,10 +6,10 @@ use Rattle.tl_burst.specs.statement.Messages.{unfinished}
 use Rattle.tl_rules.{specs.statement.Conformance.on_link, specs.statement.History.is_release_ack}
 use Rattle.tl_rules.specs.statement.Conformance.{comes_in_request}
 use Rattle.tl_bytes.specs.statement.Early.{outruns}
-use Rattle.tl_memory.proofs.Borne.{ack-carried, ack-tells}
-use Rattle.tl_memory.proofs.ByteChanges.{ack-keeps, same-outrun, unread-none}
-use Rattle.tl_memory.proofs.EarlyMessages.{asks-with}
-use Rattle.tl_memory.proofs.{Taken.none-open, Taken.open-asked, Taken.response-borne}
+use Rattle.tl_memory.proofs.states.Borne.{ack-carried, ack-tells}
+use Rattle.tl_memory.proofs.values.ByteChanges.{ack-keeps, same-outrun, unread-none}
+use Rattle.tl_memory.proofs.messages.EarlyMessages.{asks-with}
+use Rattle.tl_memory.proofs.{states.Taken.none-open, states.Taken.open-asked, states.Taken.response-borne}
 use Rattle.tl_memory.proofs.byte_change.by_any_response.Goals as goal
 
 pub returns-then-is_release_ack : goal.returns-then-is_release_ack

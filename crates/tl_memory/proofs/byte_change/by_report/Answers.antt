@@ -9,8 +9,8 @@ use Rattle.tl_rules.{specs.statement.Conformance.on_link, specs.statement.Histor
 use Rattle.tl_bytes.specs.statement.Early.{is_released}
 use Rattle.tl_bytes.specs.statement.Free.{all_liberties}
 use Rattle.tl_memory.specs.code.Early.{is_answered}
-use Rattle.tl_memory.proofs.Bearing.{report-tells}
-use Rattle.tl_memory.proofs.{EarlyMessages.released-is, Masks.few}
+use Rattle.tl_memory.proofs.states.Bearing.{report-tells}
+use Rattle.tl_memory.proofs.{messages.EarlyMessages.released-is, messages.Masks.few}
 use Rattle.tl_memory.proofs.byte_change.by_report.Goals as goal
 
 pub returns : goal.returns

@@ -6,9 +6,10 @@ use Rattle.tl_burst.specs.statement.Messages.{unfinished}
 use Rattle.tl_bytes.specs.statement.Early.{outrun_accesses}
 use Rattle.tl_memory.specs.code.Early.{outrun_in}
 use Rattle.tl_rules.{specs.statement.Conformance.on_link, specs.statement.History.ends}
-use Rattle.tl_memory.proofs.ByteChanges.{same-request, settled-change, settles-no_request}
-use Rattle.tl_memory.proofs.{Masks.few, Settling.kept-found, Settling.none-kept, Settling.settles-request}
-use Rattle.tl_memory.proofs.Settling.{unsettled-request}
+use Rattle.tl_memory.proofs.values.ByteChanges.{same-request, settled-change, settles-no_request}
+use Rattle.tl_memory.proofs.{messages.Masks.few, states.Settling.kept-found, states.Settling.none-kept}
+use Rattle.tl_memory.proofs.{states.Settling.settles-request}
+use Rattle.tl_memory.proofs.states.Settling.{unsettled-request}
 use Rattle.tl_memory.proofs.byte_change.by_request.Goals as goal
 
 pub returns-in_default : goal.returns-in_default

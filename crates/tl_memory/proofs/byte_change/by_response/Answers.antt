@@ -5,10 +5,11 @@ use Rattle.tl_burst.specs.statement.Messages.{unfinished}
 use Rattle.tl_rules.{specs.statement.Conformance.on_link, specs.statement.History.ends}
 use Rattle.tl_bytes.specs.statement.Bytes.{is_access}
 use Rattle.tl_memory.specs.code.Early.{is_in_doubt}
-use Rattle.tl_memory.{specs.code.Taking.tells_response, proofs.Masks.few}
-use Rattle.tl_memory.proofs.BlockAnswers.{answer-ends, begun-elsewhere, grant-bare, grant-tells, tells-given, told-elsewhere}
-use Rattle.tl_memory.proofs.BlockAnswers.{told-or, told-sure}
-use Rattle.tl_memory.proofs.ByteChanges.{grant-keeps, same-elsewhere, unread-is}
+use Rattle.tl_memory.{specs.code.Taking.tells_response, proofs.messages.Masks.few}
+use Rattle.tl_memory.proofs.states.BlockAnswers.{answer-ends, begun-elsewhere, grant-bare, grant-tells, tells-given}
+use Rattle.tl_memory.proofs.states.BlockAnswers.{told-elsewhere}
+use Rattle.tl_memory.proofs.states.BlockAnswers.{told-or, told-sure}
+use Rattle.tl_memory.proofs.values.ByteChanges.{grant-keeps, same-elsewhere, unread-is}
 use Rattle.tl_memory.proofs.byte_change.by_response.Goals as goal
 
 pub returns-then-not-completes : goal.returns-then-not-completes

@@ -1,7 +1,7 @@
 use Rattle.std.proofs.Common.{◌≡◌, ◌<◌, rules, arith, ap, ◌∙◌, length, true, false}
 use Rattle.tl_bytes.specs.code.Tellings.{is_written}
 use Rattle.tl_memory.specs.code.ByteSet.{has_at}
-use Rattle.tl_memory.proofs.ByteSets.{set-unwritten, set-written}
+use Rattle.tl_memory.proofs.values.ByteSets.{set-unwritten, set-written}
 use Rattle.tl_memory.proofs.byte_set.add_write.Goals as goal
 use Rattle.tl_memory.proofs.byte_set.add_write.Goals.{then-writes, else-writes}
 

@@ -1,6 +1,6 @@
 use Rattle.std.proofs.Common.{◌<◌, ◌+◌, arith, sym, ◌∙◌, length, length-set}
 use Rattle.tl_memory.specs.code.ByteSet.{has_at}
-use Rattle.tl_memory.proofs.ByteSets.{set-before, set-past, set-told, told-none}
+use Rattle.tl_memory.proofs.values.ByteSets.{set-before, set-past, set-told, told-none}
 use Rattle.tl_memory.proofs.byte_set.with_told.Goals as goal
 use Rattle.tl_memory.proofs.byte_set.with_told.Goals.{in-Some+then-at, in-Some+else-at, in_default}
 

@@ -1,7 +1,7 @@
 use Rattle.std.proofs.Common.{◌∙◌, ap, ◌&&◌, ◌-◌, ◌%◌}
 use Rattle.std.specs.Prelude.{nat_le, nat_lt}
 use Rattle.tl_burst.specs.statement.Burst.{bit}
-use Rattle.tl_memory.proofs.Reached.{any-reach}
+use Rattle.tl_memory.proofs.values.Reached.{any-reach}
 use Rattle.tl_memory.proofs.early.any_write.Goals as goal
 
 pub returns-clause-written : goal.returns-clause-written

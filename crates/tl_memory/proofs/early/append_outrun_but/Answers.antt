@@ -1,7 +1,7 @@
 use Rattle.std.proofs.Common.{sym, ap, not, ◌∙◌, ◌++◌, append-nil}
 use Rattle.std.proofs.lemmas.List.{take_all}
 use Rattle.tl_memory.specs.code.Early.{is_outrun_of, outrun_but}
-use Rattle.tl_memory.proofs.{Reached.outrun-kept, Reached.outrun-left, Writing.none_yet}
+use Rattle.tl_memory.proofs.{values.Reached.outrun-kept, values.Reached.outrun-left, values.Writing.none_yet}
 use Rattle.tl_memory.proofs.early.append_outrun_but.Goals as goal
 use Rattle.tl_memory.proofs.early.append_outrun_but.Goals.{then-not-is_of+in_ok-push, else-not-is_of}
 

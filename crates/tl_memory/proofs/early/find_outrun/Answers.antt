@@ -1,6 +1,6 @@
 use Rattle.std.proofs.Common.{sym, ◌∙◌}
 use Rattle.tl_memory.specs.code.Early.{is_outrun_of}
-use Rattle.tl_memory.proofs.{Keeping.found-none, Reached.outrun-here, Reached.outrun-later}
+use Rattle.tl_memory.proofs.{states.Keeping.found-none, values.Reached.outrun-here, values.Reached.outrun-later}
 use Rattle.tl_memory.proofs.early.find_outrun.Goals as goal
 
 pub returns-then-is_of : goal.returns-then-is_of

@@ -1,7 +1,7 @@
 use Rattle.std.proofs.Common.{ap, ◌∙◌, ◌++◌}
 use Rattle.tl_bytes.specs.code.Tellings.{left_as}
 use Rattle.tl_memory.specs.code.Writers.{writes_outrun}
-use Rattle.tl_memory.proofs.Writing.{windowed-may-write}
+use Rattle.tl_memory.proofs.values.Writing.{windowed-may-write}
 use Rattle.tl_memory.proofs.granted.grant_writes.Goals as goal
 
 pub returns : goal.returns

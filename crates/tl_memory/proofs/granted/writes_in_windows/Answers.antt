@@ -1,7 +1,7 @@
 use Rattle.std.proofs.Common.{rules, ap, true, false, ◌∙◌, ◌≡◌, ◌++◌, [], ◌∷◌}
 use Rattle.std.proofs.lemmas.List.{take_all}
 use Rattle.tl_memory.specs.code.Writers.{some_window, writes_windowed}
-use Rattle.tl_memory.proofs.Writing.{none_yet, one_kept, one_left}
+use Rattle.tl_memory.proofs.values.Writing.{none_yet, one_kept, one_left}
 use Rattle.tl_memory.proofs.granted.writes_in_windows.Goals as goal
 use Rattle.tl_memory.proofs.granted.writes_in_windows.Goals.{then-some_window+in_ok-push, else-some_window}
 

@@ -1,6 +1,6 @@
 use Rattle.std.proofs.Common.{rules}
 use Rattle.std.specs.Prelude.{option_copied}
-use Rattle.tl_memory.proofs.LinkStates.{allowed-none, allowed-some}
+use Rattle.tl_memory.proofs.messages.LinkStates.{allowed-none, allowed-some}
 use Rattle.tl_memory.proofs.link.is_allowed.Goals as goal
 
 pub returns-in-None : goal.returns-in-None

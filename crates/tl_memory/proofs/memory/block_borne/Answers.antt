@@ -1,5 +1,5 @@
 use Rattle.std.proofs.Common.{◌∙◌}
-use Rattle.tl_memory.proofs.EarlyMessages.{grants-block}
+use Rattle.tl_memory.proofs.messages.EarlyMessages.{grants-block}
 use Rattle.tl_memory.proofs.memory.block_borne.Goals as goal
 
 pub returns-in-D : goal.returns-in-D

@@ -1,5 +1,5 @@
 use Rattle.std.proofs.Common.{arith}
-use Rattle.tl_memory.proofs.Masks.{added}
+use Rattle.tl_memory.proofs.messages.Masks.{added}
 use Rattle.tl_memory.proofs.message.with_mask.Goals as goal
 
 pub returns : goal.returns

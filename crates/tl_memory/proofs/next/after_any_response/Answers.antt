@@ -7,8 +7,9 @@ use Rattle.tl_rules.{specs.statement.Conformance.on_link, specs.statement.Histor
 use Rattle.tl_rules.specs.statement.Conformance.{comes_in_request}
 use Rattle.tl_bytes.specs.statement.Early.{outruns}
 use Rattle.tl_memory.specs.code.Early.{asks_with}
-use Rattle.tl_memory.proofs.EarlyMessages.{asked-with, asks-with}
-use Rattle.tl_memory.proofs.{Masks.few, Taken.none-open, Taken.open-asked, Taken.response-borne}
+use Rattle.tl_memory.proofs.messages.EarlyMessages.{asked-with, asks-with}
+use Rattle.tl_memory.proofs.{messages.Masks.few, states.Taken.none-open, states.Taken.open-asked}
+use Rattle.tl_memory.proofs.{states.Taken.response-borne}
 use Rattle.tl_memory.proofs.next.after_any_response.Goals as goal
 
 pub returns-then-is_release_ack : goal.returns-then-is_release_ack

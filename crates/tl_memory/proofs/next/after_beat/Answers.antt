@@ -1,7 +1,8 @@
 use Rattle.std.{proofs.Common.arith, proofs.Common.◌≡◌, proofs.Common.◌/◌, specs.Prelude.length, specs.Prelude.Some}
 use Rattle.std.{proofs.lemmas.Result.IfOk-weaker}
 use Rattle.tl_beat.specs.declared.beat.Beat.{Beat}
-use Rattle.tl_memory.proofs.{Bearing.ack-elsewhere, Taken.none-borne, Taken.same-block, Taken.seen-other}
+use Rattle.tl_memory.proofs.{states.Bearing.ack-elsewhere, states.Taken.none-borne, states.Taken.same-block}
+use Rattle.tl_memory.proofs.{states.Taken.seen-other}
 use Rattle.tl_memory.proofs.next.after_beat.Goals as goal
 
 pub returns-in-A : goal.returns-in-A

@@ -1,7 +1,7 @@
 use Rattle.tl_beat.{specs.declared.beat.Beat.Beat, specs.declared.channel.Channel.Channel}
 use Rattle.tl_burst.specs.statement.Messages.{unfinished}
 use Rattle.tl_rules.specs.statement.Conformance.{on_link}
-use Rattle.tl_memory.proofs.Borne.{ack-carried, ack-outrun, ack-stays, ack-tells}
+use Rattle.tl_memory.proofs.states.Borne.{ack-carried, ack-outrun, ack-stays, ack-tells}
 use Rattle.tl_memory.proofs.next.after_early_ack.Goals as goal
 
 pub returns : goal.returns

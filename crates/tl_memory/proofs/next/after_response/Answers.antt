@@ -5,9 +5,10 @@ use Rattle.tl_burst.specs.statement.Messages.{unfinished}
 use Rattle.tl_rules.{specs.statement.Conformance.on_link, specs.statement.History.ends}
 use Rattle.tl_bytes.specs.statement.Bytes.{is_access}
 use Rattle.tl_memory.specs.code.Early.{is_in_doubt}
-use Rattle.tl_memory.{specs.code.Taking.tells_response, proofs.Masks.few}
-use Rattle.tl_memory.proofs.BlockAnswers.{answer-ends, bare-leaves, begun-elsewhere, grant-bare, grant-stays, grant-tells}
-use Rattle.tl_memory.proofs.BlockAnswers.{calm-until, told-elsewhere, told-or, told-sure}
+use Rattle.tl_memory.{specs.code.Taking.tells_response, proofs.messages.Masks.few}
+use Rattle.tl_memory.proofs.states.BlockAnswers.{answer-ends, bare-leaves, begun-elsewhere, grant-bare, grant-stays}
+use Rattle.tl_memory.proofs.states.BlockAnswers.{grant-tells}
+use Rattle.tl_memory.proofs.states.BlockAnswers.{calm-until, told-elsewhere, told-or, told-sure}
 use Rattle.tl_memory.proofs.next.after_response.Goals as goal
 
 pub returns-then-not-completes : goal.returns-then-not-completes

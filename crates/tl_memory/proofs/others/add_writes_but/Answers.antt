@@ -1,7 +1,7 @@
 use Rattle.std.proofs.Common.{◌≡◌, ◌∙◌, rules, ap, not, true, false}
 use Rattle.tl_memory.specs.code.ByteSet.{has_at}
 use Rattle.tl_memory.specs.code.Writers.{names}
-use Rattle.tl_memory.proofs.Added.{added-none, added-not, added-one}
+use Rattle.tl_memory.proofs.values.Added.{added-none, added-not, added-one}
 use Rattle.tl_memory.proofs.others.add_writes_but.Goals as goal
 use Rattle.tl_memory.proofs.others.add_writes_but.Goals.{then-not-is_of, else-not-is_of}
 

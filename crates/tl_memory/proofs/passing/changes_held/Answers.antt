@@ -3,7 +3,7 @@ use Rattle.tl_beat.specs.declared.channel.Channel.{Channel}
 use Rattle.tl_burst.specs.statement.Messages.{unfinished}
 use Rattle.tl_rules.specs.statement.History.{is_grant, is_release_ack}
 use Rattle.std.specs.Prelude.{is_some}
-use Rattle.tl_memory.proofs.EarlyMessages.{grants-with, releases-with}
+use Rattle.tl_memory.proofs.messages.EarlyMessages.{grants-with, releases-with}
 use Rattle.tl_memory.proofs.passing.changes_held.Goals as goal
 
 pub returns-in-A : goal.returns-in-A

@@ -4,8 +4,8 @@ use Rattle.tl_beat.specs.declared.channel.Channel.{Channel}
 use Rattle.tl_burst.specs.statement.Messages.{unfinished}
 use Rattle.tl_memory.{specs.code.Passing.acquires_from_none}
 use Rattle.std.specs.Prelude.{is_none, is_some}
-use Rattle.tl_memory.proofs.EarlyMessages.{grants-with, none-some}
-use Rattle.tl_memory.proofs.PassedBy.{none-before}
+use Rattle.tl_memory.proofs.messages.EarlyMessages.{grants-with, none-some}
+use Rattle.tl_memory.proofs.states.PassedBy.{none-before}
 use Rattle.tl_memory.proofs.passing.passes_by.Goals as goal
 
 pub returns-then-acquires_from_none : goal.returns-then-acquires_from_none

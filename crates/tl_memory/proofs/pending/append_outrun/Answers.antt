@@ -1,7 +1,7 @@
 use Rattle.std.proofs.Common.{true, sym, ap, ◌∙◌, ◌++◌, append-nil}
 use Rattle.std.proofs.lemmas.List.{take_all}
 use Rattle.tl_memory.specs.code.Writers.{writes_outrun}
-use Rattle.tl_memory.proofs.{Reached.outrun-written, Writing.none_yet}
+use Rattle.tl_memory.proofs.{values.Reached.outrun-written, values.Writing.none_yet}
 use Rattle.tl_memory.proofs.pending.append_outrun.Goals as goal
 
 pub loop-access-init : goal.loop-access-init

@@ -1,7 +1,7 @@
 use Rattle.std.proofs.Common.{rules, ap, not, true, false, ◌∙◌, ◌≡◌, ◌++◌, [], ◌∷◌}
 use Rattle.std.proofs.lemmas.List.{take_all}
 use Rattle.tl_memory.specs.code.Writers.{names, writes_but, writes_outrun}
-use Rattle.tl_memory.proofs.Writing.{none_yet, one_kept, one_left}
+use Rattle.tl_memory.proofs.values.Writing.{none_yet, one_kept, one_left}
 use Rattle.tl_memory.proofs.pending.writes_of_others.Goals as goal
 use Rattle.tl_memory.proofs.pending.writes_of_others.Goals.{then-not-is_of+in_ok-push, else-not-is_of}
 

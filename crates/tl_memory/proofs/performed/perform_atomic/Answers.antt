@@ -2,7 +2,7 @@ use Rattle.std.proofs.Common.{false, true, refl, ap, sym, ◌∙◌, ◌≡◌, 
 use Rattle.std.specs.Prelude.{is_ok}
 use Rattle.tl_params.specs.statement.Refusal.{ok_unless}
 use Rattle.tl_rules.specs.statement.Effect.{effect}
-use Rattle.tl_memory.proofs.Atomics.{atomic-legal, same-fields}
+use Rattle.tl_memory.proofs.values.Atomics.{atomic-legal, same-fields}
 use Rattle.tl_memory.proofs.performed.perform_atomic.Goals as goal
 
 pub returns-then-is_ok : goal.returns-then-is_ok

@@ -1,6 +1,6 @@
 use Rattle.std.{proofs.Common.ap, proofs.Common.◌∙◌, specs.Prelude.unwrap_or}
 use Rattle.tl_rules.specs.code.Place.{base_of}
-use Rattle.tl_memory.{proofs.Atomics.atomic-leaves, proofs.Atomics.atomic-writes}
+use Rattle.tl_memory.{proofs.values.Atomics.atomic-leaves, proofs.values.Atomics.atomic-writes}
 use Rattle.tl_memory.proofs.performed.performed.Goals as goal
 
 pub returns : goal.returns

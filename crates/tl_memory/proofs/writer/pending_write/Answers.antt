@@ -5,8 +5,9 @@ use Rattle.std.specs.Prelude.{◌&&◌, nat_le, nat_lt}
 use Rattle.tl_burst.specs.statement.Burst.{bit}
 use Rattle.tl_bytes.specs.statement.Bytes.{access_writes}
 use Rattle.tl_bytes.{specs.statement.Bytes.asked_by, specs.statement.Bytes.is_put, proofs.Brought.width_positive}
-use Rattle.tl_memory.proofs.{Atomics.performable-room, Atomics.performable-sized, Masked.put-values, Masked.reach-places}
-use Rattle.tl_memory.proofs.{Puts.put-carries, Puts.put-places, Writing.other_pending}
+use Rattle.tl_memory.proofs.{values.Atomics.performable-room, values.Atomics.performable-sized}
+use Rattle.tl_memory.proofs.{values.Masked.put-values, values.Masked.reach-places}
+use Rattle.tl_memory.proofs.{values.Puts.put-carries, values.Puts.put-places, values.Writing.other_pending}
 use Rattle.tl_memory.proofs.writer.pending_write.Goals as goal
 
 pub returns-then-is_put : goal.returns-then-is_put

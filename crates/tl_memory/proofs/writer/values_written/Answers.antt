@@ -1,7 +1,7 @@
 use Rattle.std.proofs.Common.{ap, sym, ◌∙◌, ◌≡◌, ◌||◌, true, false}
 use Rattle.std.specs.Prelude.{find, is_some, Some}
 use Rattle.tl_rules.specs.statement.Admission.{is_spoiled}
-use Rattle.tl_memory.proofs.Writing.{both_false, sound_value, spoiled_value}
+use Rattle.tl_memory.proofs.values.Writing.{both_false, sound_value, spoiled_value}
 use Rattle.tl_memory.proofs.writer.values_written.Goals as goal
 
 pub returns-then-either : goal.returns-then-either

@@ -2,8 +2,9 @@ use Rattle.std.proofs.Common.{arith, ap, sym, ◌∙◌, ◌≡◌, ◌-◌, ◌
 use Rattle.tl_bytes.specs.statement.KnownBytes.{known_at}
 use Rattle.tl_rules.specs.statement.History.{block_at}
 use Rattle.tl_bytes.specs.statement.Bytes.{is_put}
-use Rattle.tl_memory.{proofs.Writing.other_left, proofs.Writing.put_left}
-use Rattle.tl_memory.proofs.{Atomics.performable-room, Atomics.performable-sized, Masked.reach-places}
+use Rattle.tl_memory.{proofs.values.Writing.other_left, proofs.values.Writing.put_left}
+use Rattle.tl_memory.proofs.{values.Atomics.performable-room, values.Atomics.performable-sized}
+use Rattle.tl_memory.proofs.{values.Masked.reach-places}
 use Rattle.tl_memory.proofs.writer.written.Goals as goal
 
 pub returns-then-is_put : goal.returns-then-is_put

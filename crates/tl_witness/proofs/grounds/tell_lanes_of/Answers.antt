@@ -1,7 +1,7 @@
 use Rattle.std.proofs.Common.{◌≡◌, ap, append-nil, length, refl, sym, ◌∙◌, ◌++◌}
 use Rattle.std.proofs.lemmas.Result.{on_ok_weaker}
 use Rattle.tl_beat.specs.declared.beat.Beat.{Beat}
-use Rattle.tl_memory.proofs.LinkTables.{link-there}
+use Rattle.tl_memory.proofs.messages.LinkTables.{link-there}
 use Rattle.tl_witness.proofs.Brought.{brings, brings-nothing}
 use Rattle.tl_witness.specs.statement.Strays.{beats_come}
 use Rattle.tl_witness.proofs.grounds.tell_lanes_of.Goals as goal

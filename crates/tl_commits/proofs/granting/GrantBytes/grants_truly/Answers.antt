@@ -2,9 +2,9 @@ use Rattle.std.proofs.Common.{arith, refl, sym, ap, length, ◌∙◌, ◌≡◌
 use Rattle.tl_beat.specs.declared.beat.Beat.{Beat}
 use Rattle.tl_beat.specs.declared.channel.Channel.{Channel}
 use Rattle.tl_burst.specs.statement.Messages.{unfinished}
-use Rattle.tl_memory.proofs.Judging.{doubt-of, granted-of, in_block}
-use Rattle.tl_memory.proofs.Lanes.{no-lanes}
-use Rattle.tl_memory.proofs.LinkTables.{link-there}
+use Rattle.tl_memory.proofs.messages.Judging.{doubt-of, granted-of, in_block}
+use Rattle.tl_memory.proofs.values.Lanes.{no-lanes}
+use Rattle.tl_memory.proofs.messages.LinkTables.{link-there}
 use Rattle.tl_rules.specs.statement.History.{is_grant}
 use Rattle.tl_together.proofs.Following.{followed, one_more}
 use Rattle.tl_commits.specs.statement.Copies.{link_beats}

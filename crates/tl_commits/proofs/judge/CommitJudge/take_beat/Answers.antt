@@ -1,7 +1,7 @@
 use Rattle.std.proofs.Common.{◌∷◌, false, length, refl, sym, ap, subst, ◌∙◌}
 use Rattle.std.specs.Prelude.{Err}
 use Rattle.tl_beat.specs.declared.beat.Link.{Link}
-use Rattle.tl_memory.proofs.LinkTables.{link-there}
+use Rattle.tl_memory.proofs.messages.LinkTables.{link-there}
 use Rattle.tl_together.proofs.Following.{followed, one_more}
 use Rattle.tl_together.specs.statement.Coherence.{broken_memory, but_bytes}
 use Rattle.tl_together.specs.statement.Knows.{Knows, broken}

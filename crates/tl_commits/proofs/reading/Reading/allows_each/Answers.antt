@@ -1,5 +1,5 @@
 use Rattle.std.proofs.Common.{rules, arith, ap, sym, ◌∙◌, ◌≡◌, ◌+◌, ◌*◌, ◌<◌, length, true, false, get_or}
-use Rattle.tl_memory.proofs.Lanes.{all-passed, one-failed, one-passed}
+use Rattle.tl_memory.proofs.values.Lanes.{all-passed, one-failed, one-passed}
 use Rattle.tl_commits.proofs.reading.Reading.allows_each.Goals as goal
 
 pub returns-then-not-allows : goal.returns-then-not-allows

@@ -2,7 +2,7 @@ use Rattle.std.proofs.Common.{◌≡◌, ◌+◌, ◌*◌, ◌&&◌, ◌||◌, r
 use Rattle.std.proofs.Math.Bool.{or-false}
 use Rattle.tl_bytes.specs.statement.Bytes.{all_but, may_write, pending_accesses}
 use Rattle.tl_bytes.specs.statement.Early.{outrun_accesses}
-use Rattle.tl_memory.proofs.Added.{or-more}
+use Rattle.tl_memory.proofs.values.Added.{or-more}
 use Rattle.tl_memory.specs.code.ByteSet.{has_at}
 use Rattle.tl_rules.specs.statement.History.{block_at}
 use Rattle.tl_commits.specs.code.GivingBack.{is_seen}

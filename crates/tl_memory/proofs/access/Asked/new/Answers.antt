@@ -3,7 +3,8 @@ use Rattle.std.specs.Prelude.{unwrap_or, ◌∷◌, length, ◌*◌}
 use Rattle.tl_beat.specs.declared.beat.Beat.{Beat}
 use Rattle.tl_burst.specs.statement.Burst.{bit}
 use Rattle.tl_bytes.{specs.statement.Bytes.carried_byte, proofs.Brought.width_positive}
-use Rattle.tl_memory.proofs.{Atomics.atomic_carries, Payloads.bit_below, Payloads.known, Payloads.wide-bytes, Payloads.wide-length}
+use Rattle.tl_memory.proofs.{values.Atomics.atomic_carries, values.Payloads.bit_below, values.Payloads.known}
+use Rattle.tl_memory.proofs.{values.Payloads.wide-bytes, values.Payloads.wide-length}
 use Rattle.tl_memory.proofs.access.Asked.new.Goals as goal
 
 pub returns : goal.returns

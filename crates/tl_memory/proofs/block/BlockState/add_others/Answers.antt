@@ -3,8 +3,8 @@ use Rattle.tl_bytes.specs.code.Tellings.{leaves, left_as}
 use Rattle.tl_memory.specs.code.ByteSet.{has_at}
 use Rattle.tl_memory.specs.code.Writers.{writes_but, writes_outrun}
 use Rattle.tl_memory.specs.statement.Known.{open_for}
-use Rattle.tl_memory.proofs.Added.{or-more}
-use Rattle.tl_memory.proofs.Writing.{all-may-write, found-append}
+use Rattle.tl_memory.proofs.values.Added.{or-more}
+use Rattle.tl_memory.proofs.values.Writing.{all-may-write, found-append}
 use Rattle.tl_memory.proofs.block.BlockState.add_others.Goals as goal
 
 pub returns : goal.returns

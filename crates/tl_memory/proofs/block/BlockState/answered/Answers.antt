@@ -1,7 +1,7 @@
 use Rattle.std.{proofs.lemmas.Result.IfOk-weaker, specs.Prelude.Some}
 use Rattle.tl_beat.specs.declared.beat.Beat.{Beat}
-use Rattle.tl_memory.proofs.Elsewhere.{outrun-stays}
-use Rattle.tl_memory.proofs.States.{gone-here, gone-inside, pending-answered}
+use Rattle.tl_memory.proofs.states.Elsewhere.{outrun-stays}
+use Rattle.tl_memory.proofs.states.States.{gone-here, gone-inside, pending-answered}
 use Rattle.tl_memory.proofs.block.BlockState.answered.Goals as goal
 
 pub returns : goal.returns

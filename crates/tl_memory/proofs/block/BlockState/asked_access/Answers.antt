@@ -11,9 +11,12 @@ use Rattle.tl_bytes.{specs.statement.Bytes.is_of, specs.statement.Bytes.pending_
 use Rattle.tl_bytes.{proofs.Finding.found-passes}
 use Rattle.tl_memory.specs.{code.Taking.none_shown, code.Writers.is_named}
 use Rattle.tl_memory.specs.statement.Known.{IsLawful, KnowsAccess, open_for}
-use Rattle.tl_memory.proofs.{Bearing.asks-bare, Bearing.request-leaves, Elsewhere.free-kept, Elsewhere.last-kept}
-use Rattle.tl_memory.proofs.{Found.found-first, Keeping.finds, States.is-found, States.none-found}
-use Rattle.tl_memory.proofs.Asked.{asked-window, continued-as, continued-to, first-access, grown-access, whole_room}
+use Rattle.tl_memory.proofs.{states.Bearing.asks-bare, states.Bearing.request-leaves, states.Elsewhere.free-kept}
+use Rattle.tl_memory.proofs.{states.Elsewhere.last-kept}
+use Rattle.tl_memory.proofs.{states.Found.found-first, states.Keeping.finds, states.States.is-found}
+use Rattle.tl_memory.proofs.{states.States.none-found}
+use Rattle.tl_memory.proofs.states.Asked.{asked-window, continued-as, continued-to, first-access, grown-access}
+use Rattle.tl_memory.proofs.states.Asked.{whole_room}
 use Rattle.tl_memory.proofs.block.BlockState.asked_access.Goals as goal
 
 pub returns-in_default : goal.returns-in_default

@@ -4,9 +4,10 @@ use Rattle.tl_beat.{specs.declared.beat.Beat.Beat, specs.declared.channel.Channe
 use Rattle.tl_beat.{specs.statement.Opcode.a_carries_data}
 use Rattle.tl_burst.specs.statement.Messages.{unfinished}
 use Rattle.tl_rules.specs.statement.Conformance.{on_link}
-use Rattle.tl_memory.{specs.code.Writers.is_named, specs.statement.Known.IsPendingWrite, proofs.Elsewhere.bytes-kept}
-use Rattle.tl_memory.{specs.statement.Known.open_for, proofs.Keeping.finds}
-use Rattle.tl_memory.proofs.States.{at-block, is-found, none-found, reads-only, writes-none}
+use Rattle.tl_memory.{specs.code.Writers.is_named, specs.statement.Known.IsPendingWrite}
+use Rattle.tl_memory.{proofs.states.Elsewhere.bytes-kept}
+use Rattle.tl_memory.{specs.statement.Known.open_for, proofs.states.Keeping.finds}
+use Rattle.tl_memory.proofs.states.States.{at-block, is-found, none-found, reads-only, writes-none}
 use Rattle.tl_memory.proofs.block.BlockState.bytes_answered.Goals as goal
 
 pub returns-in_default : goal.returns-in_default

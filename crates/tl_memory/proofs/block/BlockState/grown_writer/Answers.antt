@@ -10,11 +10,14 @@ use Rattle.tl_bytes.{proofs.Finding.found-passes, specs.statement.Bytes.is_put}
 use Rattle.tl_memory.specs.code.Taking.{asked_now, none_shown}
 use Rattle.tl_memory.specs.code.Writers.{found_by, is_named, with_writer}
 use Rattle.tl_memory.specs.statement.Known.{IsLawful, KnowsAccess, open_for}
-use Rattle.tl_memory.proofs.{Bearing.asks-bare, Bearing.pending-asked, Bearing.request-leaves, Elsewhere.bytes-kept}
-use Rattle.tl_memory.proofs.{Growing.grown-items, Growing.none-stays, Growing.only-one, Growing.put-grown}
-use Rattle.tl_memory.proofs.{Keeping.finds, States.is-found}
-use Rattle.tl_memory.proofs.Asked.{asked-state, continued-as, continued-to, grown-access, leaves-asked, unsettled-asked}
-use Rattle.tl_memory.proofs.Asked.{whole_room}
+use Rattle.tl_memory.proofs.{states.Bearing.asks-bare, states.Bearing.pending-asked, states.Bearing.request-leaves}
+use Rattle.tl_memory.proofs.{states.Elsewhere.bytes-kept}
+use Rattle.tl_memory.proofs.{states.Growing.grown-items, states.Growing.none-stays, states.Growing.only-one}
+use Rattle.tl_memory.proofs.{states.Growing.put-grown}
+use Rattle.tl_memory.proofs.{states.Keeping.finds, states.States.is-found}
+use Rattle.tl_memory.proofs.states.Asked.{asked-state, continued-as, continued-to, grown-access, leaves-asked}
+use Rattle.tl_memory.proofs.states.Asked.{unsettled-asked}
+use Rattle.tl_memory.proofs.states.Asked.{whole_room}
 use Rattle.tl_memory.proofs.block.BlockState.grown_writer.Goals as goal
 
 pub returns : goal.returns

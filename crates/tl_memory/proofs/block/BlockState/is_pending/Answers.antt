@@ -2,8 +2,8 @@ use Rattle.std.proofs.Common.{◌≡◌, ◌∙◌, ap, rules}
 use Rattle.std.specs.Prelude.{find, is_some}
 use Rattle.tl_memory.specs.code.Writers.{is_named}
 use Rattle.tl_memory.specs.statement.Known.{open_for}
-use Rattle.tl_memory.proofs.Keeping.{finds}
-use Rattle.tl_memory.proofs.States.{both-found}
+use Rattle.tl_memory.proofs.states.Keeping.{finds}
+use Rattle.tl_memory.proofs.states.States.{both-found}
 use Rattle.tl_memory.proofs.block.BlockState.is_pending.Goals as goal
 
 pub returns : goal.returns

@@ -1,4 +1,4 @@
-use Rattle.tl_memory.proofs.States.{all-free, state-first}
+use Rattle.tl_memory.proofs.states.States.{all-free, state-first}
 use Rattle.tl_memory.proofs.block.BlockState.new.Goals as goal
 
 pub returns : goal.returns

@@ -1,6 +1,6 @@
 use Rattle.std.proofs.Common.{sym, ◌∙◌, ◌≡◌, false}
 use Rattle.tl_memory.specs.code.Writers.{has_reader}
-use Rattle.tl_memory.proofs.Keeping.{puts-renewed}
+use Rattle.tl_memory.proofs.states.Keeping.{puts-renewed}
 use Rattle.tl_memory.proofs.block.BlockState.next_accesses.Goals as goal
 
 pub returns-in-None : goal.returns-in-None

@@ -1,7 +1,7 @@
 use Rattle.std.{proofs.lemmas.Result.IfOk-weaker, specs.Prelude.Some}
 use Rattle.tl_beat.specs.declared.beat.Beat.{Beat}
-use Rattle.tl_memory.proofs.Settling.{asked-source, outrun-bytes, outrun-known, outrun-pending}
-use Rattle.tl_memory.proofs.States.{gone-here, gone-inside}
+use Rattle.tl_memory.proofs.states.Settling.{asked-source, outrun-bytes, outrun-known, outrun-pending}
+use Rattle.tl_memory.proofs.states.States.{gone-here, gone-inside}
 use Rattle.tl_memory.proofs.block.BlockState.outrun.Goals as goal
 
 pub returns : goal.returns

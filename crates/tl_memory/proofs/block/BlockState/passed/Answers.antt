@@ -1,7 +1,7 @@
 use Rattle.std.{proofs.Common.◌∙◌, proofs.lemmas.Result.IfOk-weaker, specs.Prelude.filter}
 use Rattle.tl_bytes.specs.statement.Bytes.{pending_accesses}
 use Rattle.tl_memory.specs.statement.Known.{is_to}
-use Rattle.tl_memory.proofs.{Elsewhere.bytes-kept, Elsewhere.outrun-stays, Keeping.keeps-all}
+use Rattle.tl_memory.proofs.{states.Elsewhere.bytes-kept, states.Elsewhere.outrun-stays, states.Keeping.keeps-all}
 use Rattle.tl_memory.proofs.block.BlockState.passed.Goals as goal
 
 pub returns : goal.returns

@@ -1,8 +1,8 @@
 use Rattle.std.proofs.Common.{rules, refl, ◌≡◌, find}
 use Rattle.std.specs.Prelude.{None, Some}
-use Rattle.tl_memory.{specs.code.Writers.is_named, specs.statement.Known.open_for, proofs.Keeping.finds}
-use Rattle.tl_memory.{proofs.Keeping.kept-one}
-use Rattle.tl_memory.proofs.States.{expects-none, expects-some, is-found, none-found}
+use Rattle.tl_memory.{specs.code.Writers.is_named, specs.statement.Known.open_for, proofs.states.Keeping.finds}
+use Rattle.tl_memory.{proofs.states.Keeping.kept-one}
+use Rattle.tl_memory.proofs.states.States.{expects-none, expects-some, is-found, none-found}
 use Rattle.tl_memory.proofs.block.BlockState.read.Goals as goal
 
 pub returns-in_default : goal.returns-in_default

@@ -2,8 +2,8 @@ use Rattle.std.proofs.Common.{rules, refl, true, ◌≡◌, find}
 use Rattle.tl_bytes.specs.statement.Bytes.{is_get}
 use Rattle.std.specs.Prelude.{None, Some}
 use Rattle.std.proofs.lemmas.Result.{IfOk-weaker}
-use Rattle.tl_memory.{specs.code.Writers.is_named, specs.statement.Known.open_for, proofs.Keeping.finds}
-use Rattle.tl_memory.proofs.States.{again-get, again-none, again-other, get-no_put, is-found, none-found}
+use Rattle.tl_memory.{specs.code.Writers.is_named, specs.statement.Known.open_for, proofs.states.Keeping.finds}
+use Rattle.tl_memory.proofs.states.States.{again-get, again-none, again-other, get-no_put, is-found, none-found}
 use Rattle.tl_memory.proofs.block.BlockState.read_again.Goals as goal
 
 pub returns-in_default : goal.returns-in_default

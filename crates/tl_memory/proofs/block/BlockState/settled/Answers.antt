@@ -1,7 +1,8 @@
 use Rattle.std.proofs.Common.{◌∙◌, refl}
 use Rattle.std.{proofs.lemmas.Result.IfOk-weaker, specs.Prelude.None}
 use Rattle.tl_bytes.specs.statement.Bytes.{pending_accesses}
-use Rattle.tl_memory.proofs.{Keeping.keeps-all, Settling.is-settling, Settling.settled-outrun, States.gone-here, States.gone-inside}
+use Rattle.tl_memory.proofs.{states.Keeping.keeps-all, states.Settling.is-settling, states.Settling.settled-outrun}
+use Rattle.tl_memory.proofs.{states.States.gone-here, states.States.gone-inside}
 use Rattle.tl_memory.proofs.block.BlockState.settled.Goals as goal
 
 pub returns : goal.returns

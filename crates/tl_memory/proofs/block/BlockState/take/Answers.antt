@@ -1,4 +1,4 @@
-use Rattle.tl_memory.proofs.Tables.{next-seen, next-unseen, next-whole}
+use Rattle.tl_memory.proofs.states.Tables.{next-seen, next-unseen, next-whole}
 use Rattle.tl_memory.proofs.block.BlockState.take.Goals as goal
 
 pub returns-in-Some : goal.returns-in-Some

@@ -1,6 +1,7 @@
 use Rattle.std.{proofs.Common.◌∙◌, proofs.lemmas.Result.IfOk-weaker, specs.Prelude.None}
 use Rattle.tl_bytes.specs.statement.Bytes.{pending_accesses}
-use Rattle.tl_memory.proofs.{Elsewhere.outrun-stays, Keeping.keeps-all, States.gone-here, States.gone-inside}
+use Rattle.tl_memory.proofs.{states.Elsewhere.outrun-stays, states.Keeping.keeps-all, states.States.gone-here}
+use Rattle.tl_memory.proofs.{states.States.gone-inside}
 use Rattle.tl_memory.proofs.block.BlockState.told.Goals as goal
 
 pub returns : goal.returns

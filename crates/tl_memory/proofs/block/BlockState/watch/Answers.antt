@@ -1,5 +1,5 @@
 use Rattle.std.proofs.Common.{refl}
-use Rattle.tl_memory.proofs.States.{watched-state}
+use Rattle.tl_memory.proofs.states.States.{watched-state}
 use Rattle.tl_memory.proofs.block.BlockState.watch.Goals as goal
 
 pub returns : goal.returns

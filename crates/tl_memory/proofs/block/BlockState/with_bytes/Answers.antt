@@ -1,5 +1,5 @@
 use Rattle.tl_memory.specs.declared.next_state.NextState.{NextState}
-use Rattle.tl_memory.proofs.States.{unseen-state}
+use Rattle.tl_memory.proofs.states.States.{unseen-state}
 use Rattle.tl_memory.proofs.block.BlockState.with_bytes.Goals as goal
 
 pub returns : goal.returns

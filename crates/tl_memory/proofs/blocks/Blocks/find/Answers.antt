@@ -1,7 +1,8 @@
 use Rattle.std.proofs.Common.{arith, refl, rules, ◌≡◌, ◌∙◌, ◌++◌, ap, length, take, ◌∷◌, [], None}
 use Rattle.std.{proofs.Math.Seq.take-append_seam, proofs.lemmas.Grind.common_steps, specs.BTreeMap.is_at}
 use Rattle.std.{specs.Map.lookup, specs.Ordering.nat_cmp}
-use Rattle.tl_memory.{specs.statement.Blocks.place_in, proofs.Tables.blocks-more, proofs.Tables.blocks-same}
+use Rattle.tl_memory.{specs.statement.Blocks.place_in, proofs.states.Tables.blocks-more}
+use Rattle.tl_memory.{proofs.states.Tables.blocks-same}
 use Rattle.tl_memory.proofs.blocks.Blocks.find.Goals as goal
 
 pub returns-in-Ok-insert-clause-known : goal.returns-in-Ok-insert-clause-known

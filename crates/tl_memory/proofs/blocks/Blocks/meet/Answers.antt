@@ -1,4 +1,4 @@
-use Rattle.tl_memory.proofs.Tables.{blocks-met}
+use Rattle.tl_memory.proofs.states.Tables.{blocks-met}
 use Rattle.tl_memory.proofs.blocks.Blocks.meet.Goals as goal
 
 pub returns-clause-known : goal.returns-clause-known

@@ -1,5 +1,5 @@
 use Rattle.std.proofs.Common.{refl}
-use Rattle.tl_memory.proofs.Tables.{blocks-first}
+use Rattle.tl_memory.proofs.states.Tables.{blocks-first}
 use Rattle.tl_memory.proofs.blocks.Blocks.new.Goals as goal
 
 pub returns : goal.returns

@@ -1,6 +1,6 @@
 use Rattle.std.proofs.Common.{arith, refl, ◌≡◌, ◌<◌, length, slice_get, Some, true, false}
 use Rattle.std.{specs.Vec.with_item, proofs.lemmas.Option.slice_get_read}
-use Rattle.tl_memory.proofs.Tables.{blocks-taken}
+use Rattle.tl_memory.proofs.states.Tables.{blocks-taken}
 use Rattle.tl_memory.proofs.blocks.Blocks.take.Goals as goal
 
 pub returns-in-Some : goal.returns-in-Some

@@ -1,5 +1,5 @@
 use Rattle.std.proofs.Common.{refl}
-use Rattle.tl_memory.proofs.ByteSets.{has-all}
+use Rattle.tl_memory.proofs.values.ByteSets.{has-all}
 use Rattle.tl_memory.proofs.byte_set.ByteSet.all.Goals as goal
 
 pub returns : goal.returns

@@ -1,5 +1,5 @@
 use Rattle.std.proofs.Common.{rules}
-use Rattle.tl_memory.proofs.ByteSets.{has-one}
+use Rattle.tl_memory.proofs.values.ByteSets.{has-one}
 use Rattle.tl_memory.proofs.byte_set.ByteSet.with_one.Goals as goal
 
 pub returns : goal.returns

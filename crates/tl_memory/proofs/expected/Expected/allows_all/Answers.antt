@@ -1,7 +1,7 @@
 use Rattle.std.proofs.Common.{rules, arith, sym, ◌∙◌, ◌≡◌, ◌+◌, ◌*◌, ◌<◌, length, true, false, get_or}
 use Rattle.tl_rules.specs.statement.History.{block_at}
 use Rattle.tl_memory.specs.code.Expected.{allows}
-use Rattle.tl_memory.proofs.Lanes.{all-passed, at-lane, one-failed, one-passed}
+use Rattle.tl_memory.proofs.values.Lanes.{all-passed, at-lane, one-failed, one-passed}
 use Rattle.tl_memory.proofs.expected.Expected.allows_all.Goals as goal
 
 pub returns-then-not-allows : goal.returns-then-not-allows

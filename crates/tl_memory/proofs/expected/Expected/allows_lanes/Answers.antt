@@ -2,7 +2,7 @@ use Rattle.std.proofs.Common.{rules, arith, sym, ◌≡◌, ◌+◌, ◌*◌, �
 use Rattle.tl_beat.specs.declared.beat.Beat.{Beat}
 use Rattle.tl_rules.{specs.code.Place.base_of, specs.statement.Admission.lanes_of}
 use Rattle.tl_memory.specs.code.Expected.{allows}
-use Rattle.tl_memory.proofs.Lanes.{each-passed, no-lanes, open-allows, some-lanes}
+use Rattle.tl_memory.proofs.values.Lanes.{each-passed, no-lanes, open-allows, some-lanes}
 use Rattle.tl_memory.proofs.expected.Expected.allows_lanes.Goals as goal
 
 pub returns-then-is_open : goal.returns-then-is_open

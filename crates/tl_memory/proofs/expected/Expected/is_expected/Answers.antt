@@ -1,7 +1,7 @@
 use Rattle.std.proofs.Common.{arith, ap, ◌∙◌}
 use Rattle.tl_rules.{specs.code.Place.base_of, specs.statement.Admission.lanes_of}
 use Rattle.tl_beat.specs.declared.beat.Beat.{Beat}
-use Rattle.tl_memory.proofs.Lanes.{base-of_block, granted-all, read-all}
+use Rattle.tl_memory.proofs.values.Lanes.{base-of_block, granted-all, read-all}
 use Rattle.tl_memory.proofs.expected.Expected.is_expected.Goals as goal
 
 pub returns-clause-granted : goal.returns-clause-granted

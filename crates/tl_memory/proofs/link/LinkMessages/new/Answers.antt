@@ -1,5 +1,5 @@
 use Rattle.std.proofs.Common.{refl}
-use Rattle.tl_memory.proofs.LinkBeats.{none-carried}
+use Rattle.tl_memory.proofs.messages.LinkBeats.{none-carried}
 use Rattle.tl_memory.proofs.link.LinkMessages.new.Goals as goal
 
 pub returns : goal.returns

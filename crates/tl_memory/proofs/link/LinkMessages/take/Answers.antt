@@ -2,7 +2,7 @@ use Rattle.std.proofs.Common.{rules, false, ◌≡◌}
 use Rattle.tl_beat.specs.declared.channel.Channel.{Channel}
 use Rattle.tl_burst.specs.statement.Messages.{unfinished}
 use Rattle.tl_burst.specs.statement.Part.{is_small}
-use Rattle.tl_memory.proofs.LinkBeats.{large-breaks, with-ack, with-probe, with-request}
+use Rattle.tl_memory.proofs.messages.LinkBeats.{large-breaks, with-ack, with-probe, with-request}
 use Rattle.tl_memory.proofs.link.LinkMessages.take.Goals as goal
 
 pub returns-then-not-is_small : goal.returns-then-not-is_small

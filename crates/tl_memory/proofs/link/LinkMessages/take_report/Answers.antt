@@ -4,7 +4,7 @@ use Rattle.tl_beat.specs.declared.channel.Channel.{Channel}
 use Rattle.tl_burst.specs.statement.Part.{completes}
 use Rattle.tl_burst.specs.statement.Messages.{unfinished}
 use Rattle.tl_memory.specs.code.Early.{overtaken}
-use Rattle.tl_memory.proofs.LinkBeats.{few-burst, with-report}
+use Rattle.tl_memory.proofs.messages.LinkBeats.{few-burst, with-report}
 use Rattle.tl_memory.proofs.link.LinkMessages.take_report.Goals as goal
 
 pub returns-then-completes : goal.returns-then-completes

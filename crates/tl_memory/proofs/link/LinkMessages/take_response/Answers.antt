@@ -3,7 +3,7 @@ use Rattle.tl_beat.specs.declared.beat.Beat.{Beat}
 use Rattle.tl_beat.specs.declared.channel.Channel.{Channel}
 use Rattle.tl_burst.specs.statement.Part.{completes}
 use Rattle.tl_burst.specs.statement.Messages.{unfinished}
-use Rattle.tl_memory.proofs.LinkBeats.{few-burst, with-response}
+use Rattle.tl_memory.proofs.messages.LinkBeats.{few-burst, with-response}
 use Rattle.tl_memory.proofs.link.LinkMessages.take_response.Goals as goal
 
 pub returns : goal.returns

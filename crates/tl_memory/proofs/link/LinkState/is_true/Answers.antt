@@ -4,7 +4,7 @@ use Rattle.tl_beat.specs.declared.channel.Channel.{Channel}
 use Rattle.tl_burst.specs.statement.Messages.{unfinished}
 use Rattle.tl_rules.specs.statement.Conformance.{on_link}
 use Rattle.tl_memory.{specs.code.Allowed.IsAllowed, specs.code.Allowed.is_judged, specs.code.Early.is_doubted}
-use Rattle.tl_memory.proofs.Judging.{doubtful-true, judged-true}
+use Rattle.tl_memory.proofs.messages.Judging.{doubtful-true, judged-true}
 use Rattle.tl_memory.proofs.link.LinkState.is_true.Goals as goal
 
 pub returns : goal.returns

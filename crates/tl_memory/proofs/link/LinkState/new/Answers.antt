@@ -1,5 +1,5 @@
 use Rattle.std.specs.Prelude.{None}
-use Rattle.tl_memory.proofs.LinkStates.{link-first}
+use Rattle.tl_memory.proofs.messages.LinkStates.{link-first}
 use Rattle.tl_memory.proofs.link.LinkState.new.Goals as goal
 
 pub returns : goal.returns

@@ -2,8 +2,8 @@ use Rattle.std.proofs.Common.{rules, refl, sym, ◌∙◌, ◌≡◌}
 use Rattle.tl_beat.specs.declared.channel.Channel.{Channel}
 use Rattle.tl_burst.specs.statement.Messages.{unfinished}
 use Rattle.tl_rules.specs.statement.Conformance.{on_link}
-use Rattle.tl_memory.proofs.LinkStates.{link-begins, link-goes_on, link-other}
-use Rattle.tl_memory.proofs.OpenAccesses.{is-fine, legal-on}
+use Rattle.tl_memory.proofs.messages.LinkStates.{link-begins, link-goes_on, link-other}
+use Rattle.tl_memory.proofs.lawful.OpenAccesses.{is-fine, legal-on}
 use Rattle.tl_memory.proofs.link.LinkState.take.Goals as goal
 
 pub returns-then-first : goal.returns-then-first

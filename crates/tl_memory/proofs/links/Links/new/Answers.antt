@@ -1,5 +1,5 @@
 use Rattle.std.proofs.Common.{arith, refl, ◌∷◌, [], length-append}
-use Rattle.tl_memory.proofs.LinkTables.{links-first, none-new, one-new}
+use Rattle.tl_memory.proofs.messages.LinkTables.{links-first, none-new, one-new}
 use Rattle.tl_memory.proofs.links.Links.new.Goals as goal
 
 pub loop-init : goal.loop-init

@@ -1,5 +1,5 @@
 use Rattle.std.proofs.Common.{◌≡◌, length}
-use Rattle.tl_memory.proofs.LinkTables.{AreNew}
+use Rattle.tl_memory.proofs.messages.LinkTables.{AreNew}
 use Rattle.tl_memory.proofs.links.Links.new.Given as goal
 
 abbrev pub invariant-loop : goal.invariant-loop

@@ -1,6 +1,6 @@
 use Rattle.std.proofs.Common.{sym}
 use Rattle.tl_rules.specs.statement.Conformance.{on_link}
-use Rattle.tl_memory.{proofs.LegalBeats.few-before, proofs.LinkTables.state-there}
+use Rattle.tl_memory.{proofs.lawful.LegalBeats.few-before, proofs.messages.LinkTables.state-there}
 use Rattle.tl_memory.proofs.links.Links.passes_by.Goals as goal
 
 pub returns-in-Some : goal.returns-in-Some

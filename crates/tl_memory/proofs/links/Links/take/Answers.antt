@@ -1,6 +1,6 @@
 use Rattle.std.proofs.Common.{arith, refl, sym, ap, ◌≡◌, ◌<◌, ◌∙◌, length, slice_get, slice_set, Some, true, false}
 use Rattle.std.{specs.Vec.with_item, proofs.lemmas.Option.slice_get_read}
-use Rattle.tl_memory.proofs.LinkTables.{link-there, links-taken}
+use Rattle.tl_memory.proofs.messages.LinkTables.{link-there, links-taken}
 use Rattle.tl_memory.proofs.links.Links.take.Goals as goal
 
 pub returns-in-Some : goal.returns-in-Some

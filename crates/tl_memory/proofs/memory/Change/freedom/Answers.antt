@@ -1,5 +1,5 @@
 use Rattle.std.proofs.Common.{false, refl}
-use Rattle.tl_memory.proofs.Memories.{said-free}
+use Rattle.tl_memory.proofs.states.Memories.{said-free}
 use Rattle.tl_memory.proofs.memory.Change.freedom.Goals as goal
 
 pub returns : goal.returns

@@ -2,7 +2,7 @@ use Rattle.std.proofs.Common.{sym}
 use Rattle.tl_beat.specs.declared.channel.Channel.{Channel}
 use Rattle.tl_burst.specs.statement.Messages.{unfinished}
 use Rattle.tl_rules.specs.statement.Conformance.{on_link}
-use Rattle.tl_memory.proofs.Kept.{item-there}
+use Rattle.tl_memory.proofs.messages.Kept.{item-there}
 use Rattle.tl_memory.proofs.memory.Memory.beats_come.Goals as goal
 
 pub returns-in-Some : goal.returns-in-Some

@@ -2,10 +2,11 @@ use Rattle.std.proofs.Common.{rules, refl, sym, ◌∙◌, ◌≡◌, false, len
 use Rattle.std.{specs.Prelude.None, specs.Prelude.Some}
 use Rattle.tl_burst.specs.statement.Part.{is_small}
 use Rattle.tl_rules.specs.statement.Conformance.{on_link}
-use Rattle.tl_memory.{proofs.LinkBeats.large-breaks, proofs.OpenAccesses.is-fine, proofs.OpenAccesses.legal-on}
-use Rattle.tl_memory.proofs.ByteChanges.{same-elsewhere}
-use Rattle.tl_memory.proofs.Memories.{all-passed, is-borne, links-legal, others-passed}
-use Rattle.tl_memory.proofs.{LinkTables.state-there}
+use Rattle.tl_memory.{proofs.messages.LinkBeats.large-breaks, proofs.lawful.OpenAccesses.is-fine}
+use Rattle.tl_memory.{proofs.lawful.OpenAccesses.legal-on}
+use Rattle.tl_memory.proofs.values.ByteChanges.{same-elsewhere}
+use Rattle.tl_memory.proofs.states.Memories.{all-passed, is-borne, links-legal, others-passed}
+use Rattle.tl_memory.proofs.{messages.LinkTables.state-there}
 use Rattle.tl_memory.proofs.memory.Memory.byte_change.Goals as goal
 
 pub returns-then-not-is_small : goal.returns-then-not-is_small

@@ -2,10 +2,12 @@ use Rattle.std.proofs.Common.{rules, sym, ◌∙◌, ◌≡◌, true, false, len
 use Rattle.std.{specs.Prelude.None, proofs.lemmas.Result.IfOk-weaker}
 use Rattle.tl_burst.specs.statement.Part.{is_small}
 use Rattle.tl_rules.specs.statement.Conformance.{on_link}
-use Rattle.tl_memory.{proofs.LinkBeats.large-breaks, proofs.OpenAccesses.is-fine, proofs.OpenAccesses.legal-on}
-use Rattle.tl_memory.proofs.PassedBy.{none-along, none-begins, passed-by}
-use Rattle.tl_memory.proofs.Memories.{is-borne, is-concerned, links-legal, none-expected, none-free, nothing-changed}
-use Rattle.tl_memory.proofs.{LinkTables.state-there, Memories.passing-concerned}
+use Rattle.tl_memory.{proofs.messages.LinkBeats.large-breaks, proofs.lawful.OpenAccesses.is-fine}
+use Rattle.tl_memory.{proofs.lawful.OpenAccesses.legal-on}
+use Rattle.tl_memory.proofs.states.PassedBy.{none-along, none-begins, passed-by}
+use Rattle.tl_memory.proofs.states.Memories.{is-borne, is-concerned, links-legal, none-expected, none-free}
+use Rattle.tl_memory.proofs.states.Memories.{nothing-changed}
+use Rattle.tl_memory.proofs.{messages.LinkTables.state-there, states.Memories.passing-concerned}
 use Rattle.tl_memory.proofs.memory.Memory.change.Goals as goal
 
 pub returns-then-not-is_small-clause-change : goal.returns-then-not-is_small-clause-change

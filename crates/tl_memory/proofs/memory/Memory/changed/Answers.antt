@@ -1,9 +1,10 @@
 use Rattle.std.proofs.Common.{rules, sym, ap, ◌∙◌, length}
 use Rattle.std.{specs.Prelude.if◌then◌else◌, specs.Prelude.Some, specs.Prelude.None, proofs.lemmas.Option.same_Some}
 use Rattle.tl_rules.specs.statement.Conformance.{on_link}
-use Rattle.tl_memory.{proofs.Kept.place-kept, proofs.Kept.place-there, proofs.LegalBeats.few-before}
-use Rattle.tl_memory.proofs.Memories.{held-own, is-borne, is-concerned, links-legal, none-free}
-use Rattle.tl_memory.proofs.Taken.{same-block}
+use Rattle.tl_memory.{proofs.messages.Kept.place-kept, proofs.messages.Kept.place-there}
+use Rattle.tl_memory.{proofs.lawful.LegalBeats.few-before}
+use Rattle.tl_memory.proofs.states.Memories.{held-own, is-borne, is-concerned, links-legal, none-free}
+use Rattle.tl_memory.proofs.states.Taken.{same-block}
 use Rattle.tl_params.specs.declared.perm.Perm.{Perm}
 use Rattle.tl_memory.proofs.memory.Memory.changed.Goals as goal
 

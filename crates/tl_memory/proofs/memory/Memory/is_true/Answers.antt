@@ -1,6 +1,6 @@
 use Rattle.std.proofs.Common.{refl, sym, length}
 use Rattle.tl_beat.specs.declared.beat.Beat.{Beat}
-use Rattle.tl_memory.{proofs.Kept.item-there, proofs.LinkTables.link-there}
+use Rattle.tl_memory.{proofs.messages.Kept.item-there, proofs.messages.LinkTables.link-there}
 use Rattle.tl_memory.proofs.memory.Memory.is_true.Goals as goal
 
 pub returns-in-Some : goal.returns-in-Some

@@ -1,5 +1,5 @@
 use Rattle.std.proofs.Common.{refl, sym}
-use Rattle.tl_memory.proofs.Kept.{item-there}
+use Rattle.tl_memory.proofs.messages.Kept.{item-there}
 use Rattle.tl_memory.proofs.memory.Memory.messages.Goals as goal
 
 pub returns-in-Some : goal.returns-in-Some

@@ -1,8 +1,8 @@
 use Rattle.std.proofs.Common.{refl, sym, ◌≡◌, ◌∙◌, true, false, length}
 use Rattle.std.specs.Prelude.{is_some, None, Option, Some}
 use Rattle.tl_beat.{specs.declared.beat.Beat.Beat, specs.declared.beat.Link.Link}
-use Rattle.tl_memory.proofs.Memories.{all-passed, held-seen, others-passed}
-use Rattle.tl_memory.proofs.Tables.{blocks-passed}
+use Rattle.tl_memory.proofs.states.Memories.{all-passed, held-seen, others-passed}
+use Rattle.tl_memory.proofs.states.Tables.{blocks-passed}
 use Rattle.tl_memory.proofs.memory.Memory.take.Goals as goal
 
 there-is : {X : Type 0} (o : Option X) → is_some o ≡ true → (x : X) × (o ≡ Some x)

@@ -1,5 +1,5 @@
 use Rattle.std.proofs.Common.{ap, refl, ◌∙◌, None, Some}
-use Rattle.tl_memory.{specs.code.Lines.told_by, proofs.Kept.told-exact}
+use Rattle.tl_memory.{specs.code.Lines.told_by, proofs.messages.Kept.told-exact}
 use Rattle.tl_memory.proofs.memory.Memory.told_at.Goals as goal
 
 pub returns-in-None-clause-kept : goal.returns-in-None-clause-kept

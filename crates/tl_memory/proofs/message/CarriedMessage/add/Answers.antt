@@ -1,7 +1,7 @@
 use Rattle.std.proofs.Common.{arith, ap, ◌∙◌, ◌||◌}
 use Rattle.std.specs.Prelude.{find, length}
 use Rattle.tl_rules.specs.statement.Admission.{is_spoiled}
-use Rattle.tl_memory.proofs.Masks.{few, one_more}
+use Rattle.tl_memory.proofs.messages.Masks.{few, one_more}
 use Rattle.tl_memory.proofs.message.CarriedMessage.add.Goals as goal
 
 pub returns : goal.returns

@@ -1,5 +1,5 @@
 use Rattle.std.{proofs.Common.arith, proofs.Common.◌≡◌, specs.Prelude.length}
-use Rattle.tl_memory.proofs.Masks.{none_brought}
+use Rattle.tl_memory.proofs.messages.Masks.{none_brought}
 use Rattle.tl_memory.proofs.message.CarriedMessage.clear.Goals as goal
 
 pub returns-else-count-gt0 : goal.returns-else-count-gt0

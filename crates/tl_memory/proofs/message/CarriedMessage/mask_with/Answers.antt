@@ -2,7 +2,7 @@ use Rattle.std.proofs.Common.{arith, ap, suc, ◌∙◌, ◌+◌, ◌*◌, ◌^�
 use Rattle.std.specs.Prelude.{length}
 use Rattle.tl_bytes.specs.statement.Bytes.{carried_mask}
 use Rattle.tl_memory.specs.statement.Known.{mask_of}
-use Rattle.tl_memory.proofs.Masks.{added_below, no_mask, positive}
+use Rattle.tl_memory.proofs.messages.Masks.{added_below, no_mask, positive}
 use Rattle.tl_memory.proofs.message.CarriedMessage.mask_with.Goals as goal
 
 pub returns-in-A : goal.returns-in-A

@@ -1,6 +1,6 @@
 use Rattle.std.proofs.Common.{refl, ◌*◌}
 use Rattle.tl_bytes.specs.statement.Bytes.{carried_mask}
-use Rattle.tl_memory.proofs.Masks.{positive}
+use Rattle.tl_memory.proofs.messages.Masks.{positive}
 use Rattle.tl_memory.proofs.message.CarriedMessage.new.Goals as goal
 
 pub returns : goal.returns

@@ -2,7 +2,7 @@ use Rattle.std.proofs.Common.{length, subst}
 use Rattle.tl_memory.specs.code.Changing.{IsChange}
 use Rattle.tl_memory.specs.statement.Links.{KeepsRules}
 use Rattle.tl_together.proofs.Answered.{broken_beginning_is, broken_bytes_are, no_d}
-use Rattle.tl_memory.proofs.LinkTables.{link-there}
+use Rattle.tl_memory.proofs.messages.LinkTables.{link-there}
 use Rattle.tl_together.proofs.judge.Judge.broken_memory.Goals as goal
 
 pub returns-in_default : goal.returns-in_default

@@ -1,6 +1,6 @@
 use Rattle.std.proofs.Common.{◌≡◌, ◌+◌, length, refl, rules}
 use Rattle.tl_together.proofs.Judging.{next_moment, unnoted}
-use Rattle.tl_memory.proofs.LinkTables.{link-there}
+use Rattle.tl_memory.proofs.messages.LinkTables.{link-there}
 use Rattle.tl_together.proofs.Following.{followed, one_more}
 use Rattle.tl_together.proofs.judge.Judge.change.Goals as goal
 

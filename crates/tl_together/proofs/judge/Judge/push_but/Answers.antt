@@ -5,7 +5,7 @@ use Rattle.tl_together.specs.statement.Knows.{broken}
 use Rattle.tl_together.specs.code.Judged.{judged}
 use Rattle.tl_together.proofs.Judging.{broken_so, fine_on_link, judged_fault, next_moment, open_still, refused}
 use Rattle.tl_together.proofs.Judging.{remembered, still, taken, unnoted}
-use Rattle.tl_memory.proofs.LinkTables.{link-there}
+use Rattle.tl_memory.proofs.messages.LinkTables.{link-there}
 use Rattle.tl_together.proofs.Following.{followed, grown, one_more, same}
 use Rattle.tl_together.proofs.Noted.{held_others, said_before}
 use Rattle.tl_together.proofs.Showing.{either_leaves, first_noted}

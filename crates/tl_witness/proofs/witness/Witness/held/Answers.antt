@@ -1,5 +1,5 @@
 use Rattle.std.proofs.Common.{refl, sym}
-use Rattle.tl_memory.proofs.Kept.{item-there}
+use Rattle.tl_memory.proofs.messages.Kept.{item-there}
 use Rattle.tl_witness.proofs.Witnesses.{said-is, since-is}
 use Rattle.tl_witness.proofs.witness.Witness.held.Goals as goal
 

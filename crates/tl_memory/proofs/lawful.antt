@@ -1,0 +1,12 @@
+pub mod Answering
+pub mod Apart
+pub mod Complete
+pub mod Histories
+pub mod Lawful
+pub mod LegalBeats
+pub mod Open
+pub mod OpenAccesses
+pub mod Outrunning
+pub mod Responses
+pub mod Sinks
+pub mod Unfinished

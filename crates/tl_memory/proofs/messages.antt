@@ -1,0 +1,9 @@
+pub mod Beginning
+pub mod EarlyMessages
+pub mod Expecting
+pub mod Judging
+pub mod Kept
+pub mod LinkBeats
+pub mod LinkStates
+pub mod LinkTables
+pub mod Masks

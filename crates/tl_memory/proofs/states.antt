@@ -1,0 +1,14 @@
+pub mod Asked
+pub mod Bearing
+pub mod BlockAnswers
+pub mod Borne
+pub mod Elsewhere
+pub mod Found
+pub mod Growing
+pub mod Keeping
+pub mod Memories
+pub mod PassedBy
+pub mod Settling
+pub mod States
+pub mod Tables
+pub mod Taken

@@ -1,0 +1,10 @@
+pub mod Added
+pub mod Atomics
+pub mod ByteChanges
+pub mod ByteSets
+pub mod Lanes
+pub mod Masked
+pub mod Payloads
+pub mod Puts
+pub mod Reached
+pub mod Writing

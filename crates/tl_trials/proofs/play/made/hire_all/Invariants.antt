@@ -1,5 +1,0 @@
-use Rattle.tl_world.specs.code.Agents.{AreMade}
-use Rattle.tl_trials.proofs.play.made.hire_all.Given as goal
-
-abbrev pub invariant-loop-client : goal.invariant-loop-client
-invariant-loop-client g l = AreMade g.A.Agent.represents g.A.Agent.terms l.config l.client-index l.clients.items

@@ -166,9 +166,9 @@ BINARY = ["verilator", "--binary", "--timing", "-Wno-WIDTH", "-Mdir", "."]
 
 
 @functools.cache
-def runtime():
+def runtime(*flags):
     """What Verilator links with each simulation: compiled once, while a small one is built."""
-    folder = made("runtime", [*BINARY, "--top-module", "runtime", *files(["tests/runtime.sv"])])
+    folder = made("runtime", [*BINARY, *flags, "--top-module", "runtime", *files(["tests/runtime.sv"])])
     return sorted(glob.glob(os.path.join(folder, "verilated*.o")))
 
 

@@ -11,7 +11,7 @@ import sys
 import xml.etree.ElementTree as ElementTree
 from pathlib import Path
 
-from harness import BUGS, HERE, HOME_BUGS, LIBERAL_BUGS, OUT, TLTOOL, path, run, shares, test, want
+from harness import BUGS, HERE, HOME_BUGS, LIBERAL_BUGS, OUT, TLTOOL, path, run, runtime, shares, test, want
 from shown import save, walk_page
 
 FOLDER = os.path.join(HERE, "conformance")
@@ -27,11 +27,17 @@ def place(out):
     return os.path.join(OUT, "built", out)
 
 
+def beside():
+    """What the command's make finds beside its words: what Verilator links with each simulation is compiled already, and the rest
+    is one file. The page's commands build without this."""
+    return {**os.environ, "MAKEFLAGS": "VM_PARALLEL_BUILDS=0 VM_GLOBAL_FAST= USER_LDLIBS=" + "\\ ".join(runtime("--trace"))}
+
+
 def conform(side, map_file, *words, status, out=None):
     """What the command writes of a map beside it, or of one with a path."""
     done = subprocess.run([COMMAND, f"--{side}", "--map", os.path.join(FOLDER, map_file), "--tool", TLTOOL,
                            "--out", place(out) if out else path("conform"), *words],
-                          stdout=subprocess.PIPE, stderr=subprocess.STDOUT, text=True, timeout=1200, cwd=path("."))
+                          stdout=subprocess.PIPE, stderr=subprocess.STDOUT, text=True, timeout=1200, cwd=path("."), env=beside())
     want(done.returncode == status, f"{side} {map_file} {words}: status {done.returncode}, wanted {status}\n{done.stdout[-3000:]}")
     return done.stdout
 

@@ -125,6 +125,11 @@ def begin(name):
     os.makedirs(room)
 
 
+def end():
+    """Removes what a test wrote that has passed."""
+    shutil.rmtree(room)
+
+
 def path(name):
     """A file of the test that runs."""
     return os.path.join(room, name)

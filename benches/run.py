@@ -4,7 +4,7 @@
     benches/run.py [--long] [--only WORD] [--jobs N]
 
 `make benches` runs this after building the command and the library. What it builds lies in benches/out, and what a test
-writes in a folder of its own there. So many tests run side by side, one for each processor if no number is said, each in a
+writes in a folder of its own there, which stays where the test fails. So many tests run side by side, one for each processor if no number is said, each in a
 process of its own; those that measure time come last, one after the other. It fails where a tool is missing, and skips
 nothing.
 """
@@ -19,7 +19,7 @@ import traceback
 
 sys.path.insert(0, os.path.join(os.path.dirname(os.path.abspath(__file__)), "tests"))
 
-from harness import LIBRARY, OUT, TESTS, TLTOOL, Failed, begin
+from harness import LIBRARY, OUT, TESTS, TLTOOL, Failed, begin, end
 # In the order in which their tests begin: those of the longest come first.
 SUBJECTS = (
     "formal", "conformance", "commits", "ports", "liberal", "commit_checker", "wide", "checker", "recorder", "shared", "agents", "your_bench",
@@ -52,6 +52,7 @@ def run_here(function):
     try:
         begin(function.__name__)
         function()
+        end()
         status = 0
     except Failed as error:
         print(error)

@@ -1,8 +1,14 @@
-"""What the tests of the benches share: how simulations, programs and the library are built and run."""
+"""What the tests of the benches share: how simulations, programs and the library are built and run.
 
+Tests run side by side. Each has a folder of its own for what it writes; what several of them use is built once."""
+
+import fcntl
+import functools
 import glob
+import hashlib
 import os
 import re
+import shutil
 import subprocess
 import sys
 
@@ -11,6 +17,8 @@ ROOT = os.path.dirname(HERE)
 OUT = os.path.join(HERE, "out")
 TLTOOL = os.environ.get("TLTOOL", os.path.join(ROOT, "crates/tltool/out/tltool"))
 LIBRARY = os.path.join(OUT, "libhefrudyl.a")
+SHARED_LIBRARY = os.path.join(OUT, "libhefrudyl.so")
+room = OUT  # where the test that this process runs writes
 
 WATCH = ["sv/tl_pkg.sv", "sv/tl_unknown.sv", "sv/tl_pending.sv", "sv/tl_port_watch.sv"]
 SV = WATCH + ["sv/tl_manager_recorder.sv", "sv/tl_link_recorder.sv"]
@@ -77,6 +85,20 @@ def test(function):
     return function
 
 
+def shares(folder):
+    """A test that writes into a folder of what is built: of those with the same one at a time runs."""
+    def marked(function):
+        function.shares = folder
+        return function
+    return marked
+
+
+def measures(function):
+    """A test that measures time: no other runs beside it."""
+    function.measures = True
+    return function
+
+
 class Failed(Exception):
     pass
 
@@ -95,29 +117,78 @@ def run(command, status=0, timeout=600, **options):
     return done.stdout
 
 
+def begin(name):
+    """Gives the test that this process runs an empty folder."""
+    global room
+    room = os.path.join(OUT, "tests", name)
+    shutil.rmtree(room, ignore_errors=True)
+    os.makedirs(room)
+
+
+def end():
+    """Removes what a test wrote that has passed."""
+    shutil.rmtree(room)
+
+
 def path(name):
-    return os.path.join(OUT, name)
+    """A file of the test that runs."""
+    return os.path.join(room, name)
 
 
 def files(names):
     return [os.path.join(HERE, name) for name in names]
 
 
+def digest(words, names=()):
+    """A sum of words and of what files have."""
+    sum = hashlib.sha256("\0".join(words).encode())
+    for name in names:
+        with open(name, "rb") as file:
+            sum.update(file.read())
+    return sum.hexdigest()
+
+
+def made(name, words):
+    """The folder in which a command has built: once for all tests, and again where a file that it names, or one that these
+    may include, has changed. Where two tests want the same at once, one waits for the other."""
+    folder = os.path.join(OUT, "built", f"{name}-{digest(words)[:12]}")
+    included = [it for ending in ("sv/*.svh", "sv/*.hpp", "include/*", "tests/*.h") for it in glob.glob(os.path.join(HERE, ending))]
+    now = digest(words, [it for it in words if os.path.isfile(it)] + sorted(included))
+    os.makedirs(os.path.dirname(folder), exist_ok=True)
+    with open(f"{folder}.mark", "a+") as mark:
+        fcntl.flock(mark, fcntl.LOCK_EX)
+        mark.seek(0)
+        if mark.read() != now:
+            mark.truncate(0)
+            shutil.rmtree(folder, ignore_errors=True)
+            os.mkdir(folder)
+            run(words, cwd=folder)
+            mark.write(now)
+    return folder
+
+
+BINARY = ["verilator", "--binary", "--timing", "-Wno-WIDTH", "-Mdir", "."]
+
+
+@functools.cache
+def runtime(*flags):
+    """What Verilator links with each simulation: compiled once, while a small one is built."""
+    folder = made("runtime", [*BINARY, *flags, "--top-module", "runtime", *files(["tests/runtime.sv"])])
+    return sorted(glob.glob(os.path.join(folder, "verilated*.o")))
+
+
 def verilator(name, top, sources, *flags):
-    """Builds a simulation where a source is newer than it, and gives its path."""
-    built = os.path.join(path(name), "V" + top)
-    included = glob.glob(os.path.join(HERE, "sv/*.svh"))
-    newest = max(os.path.getmtime(source) for source in files(sources) + included + [os.path.abspath(__file__)])
-    if not os.path.exists(built) or os.path.getmtime(built) < newest:
-        run(["verilator", "--binary", "--timing", "-O3", "-Wno-WIDTH", INCLUDES, "--top-module", top, "-Mdir", path(name),
-             "-CFLAGS", "-O2"] + list(flags) + files(sources))
-    return built
+    """Builds a simulation, and gives its path. All that Verilator writes for it is compiled as one file; only the example is
+    simulated for so long that it is worth while to optimize."""
+    make = f"VM_PARALLEL_BUILDS=0 VM_GLOBAL_FAST= OPT_FAST={'-Os' if top == 'bench_recorded' else '-O0'}"
+    folder = made(name, [*BINARY, "-O3", INCLUDES, "--top-module", top, "-MAKEFLAGS", make, "-LDFLAGS", " ".join(runtime()),
+                         *flags, *files(sources)])
+    return os.path.join(folder, "V" + top)
 
 
 def icarus(name, top, sources, *flags):
-    built = path(name)
-    run(["iverilog", "-g2012", INCLUDES, "-s", top, "-o", built] + list(flags) + files(sources))
-    return built
+    """The same by Icarus."""
+    return os.path.join(made(name, ["iverilog", "-g2012", INCLUDES, "-s", top, "-o", name, *flags, *files(sources)]), name)
 
 
 class ScriptedBench:
@@ -252,10 +323,11 @@ def liberal_in_icarus(proved=False):
     VPI."""
     flags, manager, loaded = [], [], []
     if proved:
-        flags, manager, loaded = ["-DPROVED"], ["sv/tl_proved_manager.sv"], ["-M", OUT, "-m", "tl_manager"]
         wanted = [word for word in run(["iverilog-vpi", "--cflags"]).split() if word.startswith("-I")]
-        run(["g++", "-O2", "-Wall", "-Wextra", "-Werror", "-shared", "-fPIC", INCLUDES, "-I" + os.path.join(HERE, "include"),
-             *wanted, "-o", path("tl_manager.vpi"), *files(["sv/tl_manager_vpi.cpp"]), LIBRARY])
+        folder = made("tl_manager_vpi", ["g++", "-O2", "-Wall", "-Wextra", "-Werror", "-shared", "-fPIC", INCLUDES,
+                                         "-I" + os.path.join(HERE, "include"), *wanted, "-o", "tl_manager.vpi",
+                                         *files(["sv/tl_manager_vpi.cpp"]), LIBRARY])
+        flags, manager, loaded = ["-DPROVED"], ["sv/tl_proved_manager.sv"], ["-M", folder, "-m", "tl_manager"]
     return ["vvp", "-n", *loaded, icarus(f"liberal{proved:d}.vvp", "bench_recorded", SV + manager + EXAMPLE, "-DLIBERAL", *flags)]
 
 
@@ -282,14 +354,13 @@ def enumerators(file, pattern):
 
 
 def compiled(name, compiler, source, *flags):
-    built = path(name)
-    run([compiler, "-O1", "-g", "-Wall", "-Wextra", "-Werror", "-I" + os.path.join(HERE, "include"), *flags,
-         "-o", built, os.path.join(HERE, source), LIBRARY])
-    return built
+    folder = made(name, [compiler, "-O1", "-g", "-Wall", "-Wextra", "-Werror", "-I" + os.path.join(HERE, "include"), *flags,
+                         "-o", name, os.path.join(HERE, source), LIBRARY])
+    return os.path.join(folder, name)
 
 
 def python_module():
-    os.environ["HEFRUDYL_LIBRARY"] = path("libhefrudyl.so")
+    os.environ["HEFRUDYL_LIBRARY"] = SHARED_LIBRARY
     sys.path.insert(0, os.path.join(HERE, "python"))
     import hefrudyl
     return hefrudyl

@@ -5,7 +5,7 @@ import re
 import subprocess
 import sys
 
-from harness import HERE, OUT, ROOT, TLTOOL, path, want
+from harness import HERE, OUT, ROOT, SHARED_LIBRARY, TLTOOL, path, want
 
 sys.path.insert(0, os.path.join(ROOT, "docs"))
 from files import files_of
@@ -46,7 +46,7 @@ def walk_page(page, folder):
     such as `SV=/usr/share/hefrudyl/sv` are set before each command."""
     text = text_of(page)
     variables = without_indent("".join(re.findall(r"^    [A-Z]+=.*\n(?:    +\S.*\n)*", text, re.M)))
-    beside = {"PATH": f"{os.path.dirname(TLTOOL)}:{os.environ['PATH']}", "LD_LIBRARY_PATH": OUT, "HEFRUDYL_LIBRARY": path("libhefrudyl.so")}
+    beside = {"PATH": f"{os.path.dirname(TLTOOL)}:{os.environ['PATH']}", "LD_LIBRARY_PATH": OUT, "HEFRUDYL_LIBRARY": SHARED_LIBRARY}
 
     def run(command):
         done = subprocess.run(["bash", "-c", variables + command], stdout=subprocess.PIPE, stderr=subprocess.STDOUT, text=True,

@@ -11,7 +11,7 @@ import sys
 import xml.etree.ElementTree as ElementTree
 from pathlib import Path
 
-from harness import BUGS, HERE, HOME_BUGS, LIBERAL_BUGS, OUT, TLTOOL, path, run, test, want
+from harness import BUGS, HERE, HOME_BUGS, LIBERAL_BUGS, OUT, TLTOOL, path, run, runtime, shares, test, want
 from shown import save, walk_page
 
 FOLDER = os.path.join(HERE, "conformance")
@@ -22,10 +22,22 @@ from tl_conform.map_file import Map
 COMMAND = os.path.join(FOLDER, "tl-conform")
 
 
-def conform(side, map_file, *words, status, out="conform"):
+def place(out):
+    """The folder of a design, whose simulation several tests run, one test after the other."""
+    return os.path.join(OUT, "built", out)
+
+
+def beside():
+    """What the command's make finds beside its words: what Verilator links with each simulation is compiled already, and the rest
+    is one file. The page's commands build without this."""
+    return {**os.environ, "MAKEFLAGS": "VM_PARALLEL_BUILDS=0 VM_GLOBAL_FAST= USER_LDLIBS=" + "\\ ".join(runtime("--trace"))}
+
+
+def conform(side, map_file, *words, status, out=None):
     """What the command writes of a map beside it, or of one with a path."""
-    done = subprocess.run([COMMAND, f"--{side}", "--map", os.path.join(FOLDER, map_file), "--tool", TLTOOL, "--out", path(out), *words],
-                          stdout=subprocess.PIPE, stderr=subprocess.STDOUT, text=True, timeout=1200, cwd=OUT)
+    done = subprocess.run([COMMAND, f"--{side}", "--map", os.path.join(FOLDER, map_file), "--tool", TLTOOL,
+                           "--out", place(out) if out else path("conform"), *words],
+                          stdout=subprocess.PIPE, stderr=subprocess.STDOUT, text=True, timeout=1200, cwd=path("."), env=beside())
     want(done.returncode == status, f"{side} {map_file} {words}: status {done.returncode}, wanted {status}\n{done.stdout[-3000:]}")
     return done.stdout
 
@@ -188,25 +200,26 @@ def right_and_wrong(side, map_file, bugs, seeds="6", cycles="10000"):
 
 def situations(out):
     """How often each situation came, by a report as JUnit has it; and what it says of them all."""
-    suite = ElementTree.parse(path(f"{out}/junit.xml")).getroot()
+    suite = ElementTree.parse(f"{place(out)}/junit.xml").getroot()
     found = {it.get("name"): it.get("value") for it in suite.findall("properties/property")}
     return {name.removeprefix("situation "): int(value) for name, value in found.items() if name != "situations"}, found["situations"]
 
 
 @test
+@shares("tl_cache")
 def situations_are_counted_over_the_seeds_and_holes_are_listed():
     told = conform("client", "tl_cache.toml", "--seeds", "2", "--cycles", "2000", "--keep", out="tl_cache", status=0)
     counts, summary = situations("tl_cache")
     sums, bins = collections.Counter(), collections.Counter()
     for seed in (1, 2):
-        here = json.loads(run([TLTOOL, "cover", "--json", path(f"tl_cache/seed-{seed}.trace")]))
+        here = json.loads(run([TLTOOL, "cover", "--json", f"{place('tl_cache')}/seed-{seed}.trace"]))
         sums.update({row["name"]: row["count"] for row in here["situations"]})
         bins.update({row["name"]: row["counts"][0] or 0 for row in here["bins"]})
     want(counts == dict(sums) and len(counts) == 79, f"{counts} aren't {sums}")
     holes = [name for name, count in counts.items() if not count and name not in NEVER_OF_CACHE]
     want(summary == f"{63 - len(holes)} of 63 situations seen", summary)
     want(f"{summary}; not seen: {', '.join(holes)}\n" in told if holes else f"{summary}\n" in told, told)
-    with open(path("tl_cache/report.html")) as file:
+    with open(f"{place('tl_cache')}/report.html") as file:
         page = file.read()
     for name in [*holes, *NEVER_OF_CACHE]:
         want(f'<td class="name">{name}</td>' in page, f"{name} isn't in the report")
@@ -223,12 +236,14 @@ NEVER_OF_CACHE += ["release-TtoT", "release-BtoB", "release-NtoN", "early-respon
 
 
 @test
+@shares("tl_cache")
 def a_run_ends_when_all_situations_have_come():
     told = conform("client", "tl_cache.toml", "--seeds", "40", "--jobs", "2", "--until-covered", out="tl_cache", status=0)
     want(int(re.search(r"^clean: (\d+) seeds", told, re.M)[1]) < 40 and "\n63 of 63 situations seen\n" in told, told)
 
 
 @test
+@shares("tl_ram")
 def a_situation_that_the_map_says_never_comes_is_told_where_it_comes():
     of_map = changed("tl_ram.toml", ("blocks = 16", 'blocks = 16\nnever = ["mask-full"]'))
     told = conform("device", of_map, "--seeds", "2", "--cycles", "2000", out="tl_ram", status=0)
@@ -241,6 +256,7 @@ def the_manager_is_clean_and_its_bugs_are_found():
 
 
 @test
+@shares("tl_cache")
 def the_cache_is_clean_and_its_bugs_are_found():
     # the second loses a Store, and the ninth needs a manager that takes requests at any time: the delays do
     right_and_wrong("client", "tl_cache.toml", {bug: rule or {2: "Load", 9: "H5"}[bug] for bug, (rule, _) in BUGS.items()})
@@ -253,23 +269,25 @@ def the_cache_that_takes_liberties_is_clean_and_its_bugs_are_found():
 
 
 @test
+@shares("tl_ram")
 def the_memory_is_clean_and_its_bugs_are_found():
     right_and_wrong("device", "tl_ram.toml", RAM_BUGS)
 
 
 @test
+@shares("tl_cache")
 def a_report_explains_a_fault_and_has_the_command_that_shows_it_again():
     told = conform("client", "tl_cache.toml", "--seeds", "4", "--cycles", "10000", "--set", "bug=1", out="tl_cache", status=1)
     cycle = re.search(r"^H11: \d+ of 4 seeds, first in seed (\d+) in cycle (\d+): ", told, re.M)
-    with open(path("tl_cache/report.html")) as file:
+    with open(f"{place('tl_cache')}/report.html") as file:
         page = file.read()
     for text in ("4 of 4 seeds at fault", "A Release of the block is pending", "data:image/svg+xml;base64,", f"cycle {cycle[2]}"):
         want(text.lower() in page.lower(), f"{text} isn't in the report:\n{page[:3000]}")
-    suite = ElementTree.parse(path("tl_cache/junit.xml")).getroot()
+    suite = ElementTree.parse(f"{place('tl_cache')}/junit.xml").getroot()
     want(suite.get("tests") == "4" and suite.get("failures") == "4" and len(suite.findall("testcase/failure")) == 4, "junit.xml")
     again = re.search(r"^  (.*--waves seed-\d+\.vcd)$", told, re.M)[1]
     want(again in html.unescape(page), "the command isn't in the report")
-    done = subprocess.run(again, shell=True, stdout=subprocess.PIPE, stderr=subprocess.STDOUT, text=True, cwd=OUT)
+    done = subprocess.run(again, shell=True, stdout=subprocess.PIPE, stderr=subprocess.STDOUT, text=True, cwd=path("."))
     want(done.returncode == 1 and f"first in seed {cycle[1]} in cycle {cycle[2]}: " in done.stdout, done.stdout)
     want(os.path.getsize(path(f"seed-{cycle[1]}.vcd")) > 10000, "the waves")
 

@@ -2,7 +2,7 @@
 
 import os
 
-from harness import TLTOOL, test, want, run, path, checked, recorded, together, compiled, least_times
+from harness import TLTOOL, measures, test, want, run, path, checked, recorded, together, compiled, least_times
 
 
 REFUSALS = ["-DREFUSALS", "-Wl,--wrap=malloc", "-Wl,--wrap=realloc"]
@@ -93,6 +93,7 @@ def the_library_from_cpp_under_the_sanitizers():
 
 
 @test
+@measures
 def a_struct_takes_at_most_half_as_long_again_as_a_line():
     beats = 4_000_000
     trace = path("speed.trace")
@@ -115,10 +116,12 @@ def at_most(times, built, what):
 
 
 @test
+@measures
 def checkers_of_links_at_most_double_the_benchs_time():
     at_most(2, checked(), "a checker on each link")
 
 
 @test
+@measures
 def a_checker_of_all_links_at_most_triples_the_benchs_time():
     at_most(3, together(), "one of all links")

@@ -313,7 +313,7 @@ def a_manager_from_python_has_clients_with_liberties():
 
 @test
 def coroutines_drive_the_agents_a_clock_at_a_time():
-    beside = {"HEFRUDYL_LIBRARY": path("libhefrudyl.so"), "PYTHONPATH": os.path.join(HERE, "python")}
+    beside = {"HEFRUDYL_LIBRARY": SHARED_LIBRARY, "PYTHONPATH": os.path.join(HERE, "python")}
     told = run([sys.executable, os.path.join(HERE, "tests/test_clocked.py")], env={**os.environ, **beside})
     want(told.strip().endswith("0 failures"), told)
 

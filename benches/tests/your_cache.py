@@ -19,7 +19,7 @@ def shown(command):
 
 def recorded(simulation, *words):
     """The trace that a simulation records, which writes it where it runs."""
-    run([*simulation, *words], cwd=path(""))
+    run([*simulation, *words], cwd=path("."))
     with open(path("link.trace")) as trace:
         return trace.read()
 

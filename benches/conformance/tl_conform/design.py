@@ -72,7 +72,7 @@ def simulation(design, jobs):
     own = [SV / f"{it}.sv" for it in AGENTS] + [HERE / f"sv/{it}.sv" for it in OWN]
     program = design.folder / "simulation/Vtl_conform_bench"
     folders = [SV, HERE / "sv", *design.include]
-    words = ["verilator", *HOW, "-j", str(jobs), "-CFLAGS", f"-I{include}", "-Mdir", str(program.parent), *(f"-I{it}" for it in folders),
+    words = ["verilator", *HOW, "-CFLAGS", f"-I{include}", "-Mdir", str(program.parent), *(f"-I{it}" for it in folders),
              "--top-module", "tl_conform_bench", *design.sources(), *map(str, own), str(design.folder / "tl_conform_bench.sv"),
              *map(str, CPP), str(built)]
     mark = design.folder / "simulation.mark"
@@ -80,7 +80,7 @@ def simulation(design, jobs):
     if program.exists() and mark.exists() and mark.read_text() == now:
         return program
     shutil.rmtree(program.parent, ignore_errors=True)
-    done = subprocess.run(words, stdout=subprocess.PIPE, stderr=subprocess.STDOUT, text=True)
+    done = subprocess.run([*words, "-j", str(jobs)], stdout=subprocess.PIPE, stderr=subprocess.STDOUT, text=True)
     if done.returncode:
         raise Unusable(f"the bench of {design.top} can't be built. Verilator says:\n{simulators_message(done.stdout)}")
     mark.write_text(now)

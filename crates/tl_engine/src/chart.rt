@@ -124,7 +124,9 @@ pub fn chart_input<R: Read, W: Write>(
 {
     let mut verdict = Vec::new(alloc);
     let (lines, status) = gather(alloc, allow, window, reader, &mut verdict)?;
-    let chart = drawn(alloc, window, &lines, status, &verdict)?;
+    let drawing = drawn(alloc, window, &lines, status, &verdict);
+    drop(lines);
+    let chart = drawing?;
     write_all(writer, &chart)?;
     Ok(status)
 }

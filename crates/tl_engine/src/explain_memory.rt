@@ -61,8 +61,19 @@ fn inquire<R: Read>(
         },
         inquiry,
     });
-    let status = judge_input(alloc, &mut lines, reader, verdict)?;
-    Ok((lines.into_handler().inquiry, status))
+    let status = match judge_input(alloc, &mut lines, reader, verdict) {
+        Ok(status) => status,
+        Err(fault) => {
+            drop(lines);
+            return Err(fault);
+        }
+    };
+    let Testimony {
+        link_lines,
+        inquiry,
+    } = lines.into_handler();
+    drop(link_lines);
+    Ok((inquiry, status))
 }
 
 /// Whether the verdict is that line `number` breaks the rule.

@@ -6,12 +6,12 @@ use Rattle.tl_engine.proofs.explain_memory.inquire.Goals as goal
 
 pub returns-clause-ok : goal.returns-clause-ok
 returns-clause-ok g c =
-    let h = c.in_ok-status.ensures.ok in
+    let h = c.in-Ok.ensures.ok in
     let at = ap (λ (t : Testimony). t.link_lines.allow) c.new-lines.ensures.handler in (
       h.0,
       h.1,
       judged-for _ c.args.allow _ _ _ at h.2,
       rw c.into_handler.ensures (told-for c.judge_input.new.lines.handler c.args.allow (lines_of h.0)
-          (c.in_ok-status.ensures.purpose ∙ at)
-          (stood c.judge_input.new.lines.handler (lines_of h.0) c.in_ok-status.status h.4)),
+          (c.in-Ok.ensures.purpose ∙ at)
+          (stood c.judge_input.new.lines.handler (lines_of h.0) c.in-Ok.status h.4)),
     )

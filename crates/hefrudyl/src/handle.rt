@@ -117,6 +117,7 @@ impl Handle {
     {
         if let Some(session) = mem::replace(self, Handle::empty(alloc)).into_box() {
             *self = Handle::of(session);
+            drop(opened);
             return Answer::BAD;
         }
         let session = match opened {
@@ -124,7 +125,10 @@ impl Handle {
             Ok(session) => session,
         };
         match Box::new(alloc, session) {
-            Err(_) => Answer::NO_MEMORY,
+            Err(refused) => {
+                drop(refused);
+                Answer::NO_MEMORY
+            }
             Ok(session) => {
                 *self = Handle::of(session);
                 Answer::OK

@@ -11,6 +11,7 @@ ghost use Rattle.tl_commit_lines.specs.code.EventWatching.{events_judged_for};
 ghost use Rattle.tl_commit_story.specs.code.Replaying.{KnowsStory};
 ghost use Rattle.tl_params.specs.declared.liberties.Liberties.{Liberties};
 ghost use Rattle.tl_commit_story.specs.statement.Explained.{Explains, GivesUpEvents, ReachesBoth};
+ghost use Rattle.tl_commit_story.specs.statement.Words.{is_breach};
 
 use crate::cached::Cached;
 use crate::examine::{Found, examine};
@@ -86,6 +87,38 @@ fn start_of<const W: usize>(
     })
 }
 
+/// Appends the reasons that the second reading found, if its verdict, `text`, is the same.
+fn append_story<const W: usize>(
+    alloc: Global,
+    allow: Liberties,
+    replay: &Replay<W>,
+    text: &[u8],
+    verdict: &[u8],
+    out: &mut Vec<u8>,
+) -> Result<(), ExplainFault>
+    requires { out.old.items ≡ [] }
+    ensures ok { OnOk result ((replay.now.told ≡ true) × (replay.now.allow ≡ allow) × (text.now ≡ verdict.now)
+        × (is_breach replay.now.fault ≡ true)
+        × (verdict.now ≡ fault_text (replay.now.count + 1) replay.now.fault)
+        × (out.new.items ≡ replay.now.reasons.items)) }
+    ensures fault { IfErr result (λ fault. fault ≢ ExplainFault.Tool ToolFault.Write) }
+{
+    if !replay.told || !is_breach(replay.fault) {
+        return Err(ExplainFault::Changed);
+    }
+    if replay.allow != allow {
+        return Err(ExplainFault::Changed);
+    }
+    if !is_same(text, verdict) {
+        return Err(ExplainFault::Changed);
+    }
+    if !is_verdict(alloc, replay.count, replay.fault, verdict)? {
+        return Err(ExplainFault::Changed);
+    }
+    out.extend_from_slice(&replay.reasons)?;
+    Ok(())
+}
+
 /// Explains the line of an event that breaks a rule.
 fn explain_event<const W: usize, R: Read>(
     alloc: Global,
@@ -108,23 +141,17 @@ fn explain_event<const W: usize, R: Read>(
     };
     let mut lines = Lines::new(start);
     let mut text = Vec::new(alloc);
-    judge_input(alloc, &mut lines, reader, &mut text)?;
+    match judge_input(alloc, &mut lines, reader, &mut text) {
+        Ok(_) => {}
+        Err(fault) => {
+            drop(lines);
+            return Err(ExplainFault::Tool(fault));
+        }
+    }
     let story = lines.into_handler();
-    let replay = &story.replay;
-    if !replay.told || !is_breach(replay.fault) {
-        return Err(ExplainFault::Changed);
-    }
-    if replay.allow != allow {
-        return Err(ExplainFault::Changed);
-    }
-    if !is_same(text.as_slice(), verdict) {
-        return Err(ExplainFault::Changed);
-    }
-    if !is_verdict(alloc, replay.count, replay.fault, verdict)? {
-        return Err(ExplainFault::Changed);
-    }
-    out.extend_from_slice(&replay.reasons)?;
-    Ok(())
+    let told = append_story(alloc, allow, &story.replay, &text, verdict, out);
+    drop(story);
+    told
 }
 
 /// Explains the line of an event, in a trace of beats of this width, that breaks a rule.

@@ -126,7 +126,9 @@ pub fn chart_events<R: Read, W: Write>(
 {
     let mut verdict = Vec::new(alloc);
     let (lines, status) = gather(alloc, allow, window, reader, &mut verdict)?;
-    let chart = drawn(alloc, &lines.canvas, status, &verdict)?;
+    let drawing = drawn(alloc, &lines.canvas, status, &verdict);
+    drop(lines);
+    let chart = drawing?;
     write_all(writer, &chart)?;
     Ok(status)
 }

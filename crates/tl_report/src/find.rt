@@ -25,7 +25,13 @@ pub fn search<R: Read>(alloc: Global, aim: Aim, reader: &mut R) -> Result<Findin
 {
     let mut lines = Lines::new(SearchLines::Waiting(alloc, aim));
     let mut said = Vec::new(alloc);
-    let status = judge_input(alloc, &mut lines, reader, &mut said)?;
+    let status = match judge_input(alloc, &mut lines, reader, &mut said) {
+        Ok(status) => status,
+        Err(fault) => {
+            drop(lines);
+            return Err(fault);
+        }
+    };
     Ok(lines.into_handler().into_findings(status)?)
 }
 

@@ -18,6 +18,7 @@ use crate::narrow::NarrowLineJudge;
 use crate::search::Search;
 use crate::wide::WideLineJudge;
 use std::alloc::{AllocError, Global};
+use std::mem;
 use tl_beat::fault::LineFault;
 use tl_command::search::Aim;
 use tl_commit_lines::header::{CommitHeader, read_marked_for};
@@ -175,7 +176,7 @@ impl SearchLines {
         match begin(alloc, aim, line)? {
             None => Ok(Some(Fault::Header)),
             Some(lines) => {
-                *self = lines;
+                drop(mem::replace(self, lines));
                 Ok(None)
             }
         }

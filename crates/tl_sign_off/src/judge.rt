@@ -88,7 +88,13 @@ pub fn judge_whole<R: Read>(alloc: Global, aim: Aim, reader: &mut R) -> Result<A
 {
     let mut lines = Lines::new(SearchLines::Waiting(alloc, aim));
     let mut notes = Notes::new();
-    let status = read_whole(alloc, &mut lines, &mut notes, reader)?;
+    let status = match read_whole(alloc, &mut lines, &mut notes, reader) {
+        Ok(status) => status,
+        Err(fault) => {
+            drop(lines);
+            return Err(fault);
+        }
+    };
     let findings = lines.into_handler().into_findings(status)?;
     Ok(Account {
         together: aim.together,

@@ -11,7 +11,7 @@ ghost use Rattle.tl_tried.specs.statement.EventCovered.{CommitsCovered};
 ghost use Rattle.tl_tried.specs.statement.Tried.{IsTried};
 
 use crate::cover_events::CoverEvents;
-use std::alloc::Global;
+use std::alloc::{AllocError, Global};
 use std::io::Read;
 use tl_cover::row::Row;
 use tl_engine::engine::judge_input;
@@ -48,8 +48,28 @@ fn gather<R: Read>(
     ensures fault { IfErr result (λ fault. fault ≢ ToolFault.Write) }
 {
     let mut lines = Lines::new(CoverEvents::new(alloc, allow));
-    let status = judge_input(alloc, &mut lines, reader, verdict)?;
+    let status = match judge_input(alloc, &mut lines, reader, verdict) {
+        Ok(status) => status,
+        Err(fault) => {
+            drop(lines);
+            return Err(fault);
+        }
+    };
     Ok((lines.into_handler(), status))
+}
+
+/// The situations, each with its count and its first line, and the counts of all bins.
+fn situations(
+    alloc: Global,
+    lines: &CoverEvents,
+) -> Result<(Vec<Row>, Vec<Option<u64>>), AllocError>
+    ensures { IfOk result (λ found. (found.0.items ≡ (found_of_commits lines.now).0)
+        × (found.1.items ≡ (found_of_commits lines.now).1)) }
+{
+    let mut rows = Vec::new(alloc);
+    rows.extend_from_slice(lines.rows())?;
+    let cells = lines.cells(alloc)?;
+    Ok((rows, cells))
 }
 
 /// Judges a recorded trace as `monitor` does, each link by itself, and counts the situations in which its messages
@@ -65,9 +85,9 @@ pub fn try_trace<R: Read>(
 {
     let mut verdict = Vec::new(alloc);
     let (lines, status) = gather(alloc, allow, reader, &mut verdict)?;
-    let mut rows = Vec::new(alloc);
-    rows.extend_from_slice(lines.rows())?;
-    let cells = lines.cells(alloc)?;
+    let found = situations(alloc, &lines);
+    drop(lines);
+    let (rows, cells) = found?;
     Ok(Tried {
         verdict,
         status,

@@ -1,11 +1,12 @@
 //! Explains the verdict on a wide trace, which is read twice.
 
-ghost use Rattle.std.specs.Prelude.{◌≡◌, ◌≢◌, ◌++◌, [], ℕ, List, Option, IfErr, IfOk, OnOk};
+ghost use Rattle.std.specs.Prelude.{◌≡◌, ◌≢◌, ◌+◌, ◌++◌, [], ℕ, List, Option, IfErr, IfOk, OnOk, true};
 ghost use Rattle.std.specs.Io.KnownBytes.{Appends};
 ghost use Rattle.tl_engine.specs.declared.status.Status.{Status};
 ghost use Rattle.tl_wide.specs.statement.Width.{IsWideWidth, part_width};
 ghost use Rattle.tl_engine.specs.declared.explain_fault.ExplainFault.{ExplainFault};
 ghost use Rattle.tl_engine.specs.declared.status.ToolFault.{ToolFault};
+ghost use Rattle.tl_engine.specs.statement.Fault.{fault_text};
 ghost use Rattle.tl_params.specs.declared.liberties.Liberties.{Liberties};
 ghost use Rattle.tl_wide_story.specs.code.WideReplaying.{KnowsReplay, is_rule};
 ghost use Rattle.tl_wide_story.specs.statement.WideExplained.{ExplainsWide, GivesUpWide, ReachesBoth};
@@ -98,6 +99,35 @@ fn append_lesson<const W: usize, const P: usize>(
     Ok(())
 }
 
+/// Appends the reasons that the second reading found, if its verdict is the same.
+fn append_story<const W: usize, const P: usize>(
+    alloc: Global,
+    allow: Liberties,
+    story: &mut WideStory<W, P>,
+    good: u64,
+    verdict: &[u8],
+    out: &mut Vec<u8>,
+) -> Result<(), ExplainFault>
+    requires { out.old.items ≡ [] }
+    ensures ok { OnOk result ((learned : List ℕ) × (story.old.replay.allow ≡ allow) × (story.old.replay.told ≡ true)
+        × (out.new.items ≡ story.old.replay.reasons.items ++ learned)
+        × (verdict.now ≡ fault_text (story.old.replay.count + 1) story.old.replay.fault)) }
+    ensures fault { IfErr result (λ fault. fault ≢ ExplainFault.Tool ToolFault.Write) }
+{
+    let replay = &story.replay;
+    if !replay.told {
+        return Err(ExplainFault::Changed);
+    }
+    if replay.allow != allow {
+        return Err(ExplainFault::Changed);
+    }
+    if !is_verdict(alloc, replay.count, replay.fault, verdict)? {
+        return Err(ExplainFault::Changed);
+    }
+    out.extend_from_slice(&replay.reasons)?;
+    append_lesson(alloc, &mut story.lesson, good.saturating_add(1), out)
+}
+
 /// Explains a wide beat that breaks a rule.
 fn explain_rule<const W: usize, const P: usize, R: Read>(
     alloc: Global,
@@ -122,20 +152,17 @@ fn explain_rule<const W: usize, const P: usize, R: Read>(
         lesson: Lesson::<W, P>::new(alloc, allow, question_of(coherent, fault, clue), good),
     });
     let mut text = Vec::new(alloc);
-    judge_input(alloc, &mut lines, reader, &mut text)?;
+    match judge_input(alloc, &mut lines, reader, &mut text) {
+        Ok(_) => {}
+        Err(fault) => {
+            drop(lines);
+            return Err(ExplainFault::Tool(fault));
+        }
+    }
     let mut story = lines.into_handler();
-    let replay = &story.replay;
-    if !replay.told {
-        return Err(ExplainFault::Changed);
-    }
-    if replay.allow != allow {
-        return Err(ExplainFault::Changed);
-    }
-    if !is_verdict(alloc, replay.count, replay.fault, verdict)? {
-        return Err(ExplainFault::Changed);
-    }
-    out.extend_from_slice(&replay.reasons)?;
-    append_lesson(alloc, &mut story.lesson, good.saturating_add(1), out)
+    let told = append_story(alloc, allow, &mut story, good, verdict, out);
+    drop(story);
+    told
 }
 
 /// Explains a beat of a trace of this width that breaks a rule.
@@ -238,8 +265,17 @@ fn list_pending<const W: usize, const P: usize, R: Read>(
 {
     let mut lines = Lines::new(Lesson::<W, P>::new(alloc, allow, Question::Pending, u64::MAX));
     let mut text = Vec::new(alloc);
-    judge_input(alloc, &mut lines, reader, &mut text)?;
-    append_lesson(alloc, &mut lines.into_handler(), good, out)
+    match judge_input(alloc, &mut lines, reader, &mut text) {
+        Ok(_) => {}
+        Err(fault) => {
+            drop(lines);
+            return Err(ExplainFault::Tool(fault));
+        }
+    }
+    let mut lesson = lines.into_handler();
+    let told = append_lesson(alloc, &mut lesson, good, out);
+    drop(lesson);
+    told
 }
 
 /// Lists the messages that are pending at the end of a trace without a fault, and appends the limits of the verdict.

@@ -1,6 +1,6 @@
-use Rattle.std.proofs.Common.{◌≡◌, rules, subst, true}
+use Rattle.std.proofs.Common.{◌≡◌, rules, subst}
+use Rattle.std.proofs.lemmas.Result.{on_ok_weaker}
 use Rattle.std.specs.Prelude.{Bool}
-use Rattle.tl_engine.proofs.Replaying.{same_liberties}
 use Rattle.tl_engine.specs.statement.Lines.{lines_of}
 use Rattle.tl_commit_lines.specs.statement.JudgedEvents.{JudgedCommits}
 use Rattle.tl_params.specs.declared.liberties.Liberties.{Liberties}
@@ -12,14 +12,13 @@ judge_input-requires g c = rw c.new-text.ensures.items (c.new-lines.ensures.know
 
 pub returns-clause-ok : goal.returns-clause-ok
 returns-clause-ok g c =
-    let h = c.in_ok-judge_input.ensures.ok in
-    let judged : JudgedCommits c.args.together c.args.allow (lines_of h.0) c.judge_input.new.out.items c.in_ok-judge_input.field-0 =
-    subst (λ (p : Bool × Liberties). JudgedCommits p.0 p.1 (lines_of h.0) c.judge_input.new.out.items c.in_ok-judge_input.field-0)
+    let h = c.in-Ok.ensures.ok in
+    let judged : JudgedCommits c.args.together c.args.allow (lines_of h.0) c.judge_input.new.out.items c.in-Ok.field-0 =
+    subst (λ (p : Bool × Liberties). JudgedCommits p.0 p.1 (lines_of h.0) c.judge_input.new.out.items c.in-Ok.field-0)
     (search rules) h.2 in
-    let told : c.into_handler-story.result.replay.told ≡ true = search rules in
-    let same : c.judge_input.new.out.items ≡ c.args.verdict.now =
-    rw c.as_slice.ensures.value at (c.is_same.ensures (search rules)) in
+    on_ok_weaker c.append_story-told.result
+    (λ found.
     told-explains c.into_handler-story.result c.args.together c.args.allow _ _ h.0 c.judge_input.new.out.items
-    c.args.verdict.now _ c.in_ok-judge_input.field-0 h.1 judged (rw c.into_handler-story.ensures h.4) told
-    (same_liberties c.into_handler-story.result.replay.allow c.args.allow c.ne.result c.ne.ensures c.if-ne.false) same
-    (search rules) (search rules) (search rules)
+    c.args.verdict.now _ c.in-Ok.field-0 h.1 judged (rw c.into_handler-story.ensures h.4) found.0 found.1.0
+    (rw c.deref.ensures.value at found.1.1.0) found.1.1.1.0 found.1.1.1.1.0 found.1.1.1.1.1)
+    c.append_story-told.ensures.ok

@@ -5,7 +5,7 @@ use Rattle.tl_sign_off.proofs.judge.judge_whole.Goals as goal
 
 pub returns-clause-ok : goal.returns-clause-ok
 returns-clause-ok g c =
-    accounted _ _ c.args.aim c.read_whole.new.lines.handler _ c.in_ok-status.status c.read_whole.new.notes _ refl refl
-    c.in_ok-status.ensures.ok (c.in_ok-status.ensures.aim ∙ ap aim_of c.new-lines.ensures.handler)
+    accounted _ _ c.args.aim c.read_whole.new.lines.handler _ c.in-Ok.status c.read_whole.new.notes _ refl refl
+    c.in-Ok.ensures.ok (c.in-Ok.ensures.aim ∙ ap aim_of c.new-lines.ensures.handler)
     (rw c.into_handler.ensures at c.in_ok-findings.ensures)
     c.into_input.ensures

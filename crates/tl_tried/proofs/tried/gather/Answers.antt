@@ -5,9 +5,9 @@ use Rattle.tl_tried.proofs.tried.gather.Goals as goal
 
 pub returns-clause-ok : goal.returns-clause-ok
 returns-clause-ok g c =
-    let (read, consumed, judged, ended, has, stands) = c.in_ok-status.ensures.ok in
+    let (read, consumed, judged, ended, has, stands) = c.in-Ok.ensures.ok in
     let was : c.new-lines.result.handler.plain.narrow.allow ≡ c.args.allow =
     ap (λ (h : CoverEvents). h.plain.narrow.allow) c.new-lines.ensures.handler ∙ c.new.ensures.allowed in
     rw c.into_handler.ensures
-    (gathered c.judge_input.new.lines.handler c.new-lines.result.handler c.args.allow _ _ _ c.in_ok-status.status was
-    (c.in_ok-status.ensures.purpose ∙ was) (read, consumed, judged, ended, has))
+    (gathered c.judge_input.new.lines.handler c.new-lines.result.handler c.args.allow _ _ _ c.in-Ok.status was
+    (c.in-Ok.ensures.purpose ∙ was) (read, consumed, judged, ended, has))

@@ -18,6 +18,7 @@ pub mod Granted
 pub mod AtOnce
 pub mod Loads
 pub mod LoadsNext
+pub mod Reaching
 pub mod ReadAnswers
 pub mod PendingReads
 pub mod ReadSteps

@@ -236,7 +236,7 @@ readings-commit {w} readings complete n from x e k link source access pending ot
       address_is = is.address_is;
       size_is = is.size_is;
       begun_is = is.begun_is;
-      found_are = λ place v lt small. is.found_are place v lt small
+      found_are = λ place v lt small there. is.found_are place v lt small there
           ∙ same (is_get access.request.opcode) (come access.link access.request.source e) _ v;
     }
 

@@ -24,6 +24,7 @@ use Rattle.tl_rules.specs.statement.Admission.{is_spoiled, lanes_of}
 use Rattle.tl_rules.specs.statement.Conformance.{Trace, answers, on_link}
 use Rattle.tl_rules.specs.statement.History.{block_at, is_release_ack}
 use Rattle.std.proofs.lemmas.Bool.{eq-eqb}
+use Rattle.tl_commits.specs.code.Reached.{is_reached}
 use Rattle.tl_commits.specs.code.Reading.{AllowsAs, IsReading, IsReadingOf, KnowsReadings, come, found_by, is_of}
 use Rattle.tl_commits.specs.declared.reading.Reading.{Reading}
 use Rattle.tl_commits.specs.statement.Copies.{link_beats}
@@ -118,9 +119,12 @@ module _ {w : ℕ} (levels : List Level) (width : IsWidth w) (link : Link) (z : 
   pub allows-as : (r : Reading) (p : Access w) → IsReading r complete n p e
       → AllowsAs r (block_at r.address) (test p)
   allows-as r p is place v lt small =
-      rw (is.address_is, is.size_is)
-      (ap (λ b. not (reaches p.request.address p.request.size (64 * block_at p.request.address + place)) || b)
-      (is.found_are place v lt small))
+      rw (is.address_is, is.size_is) (so (is_reached p.request.address p.request.size place) _ _
+      (λ there. is.found_are place v lt small (rw (is.address_is, is.size_is) there)))
+    where
+      so : (there a b : Bool) → (there ≡ true → a ≡ b) → (not there || a) ≡ (not there || b)
+      so true a b k = k refl
+      so false a b k = refl
 
   -- an access whose bytes are judged so
   pub read-judged : (r : Reading) (p : Access w) (all : Bool) → asked ≡ Some p → IsReading r complete n p e

@@ -42,6 +42,7 @@ unfoldable use Rattle.tl_rules.specs.statement.History.{request_of}
 unfoldable use Rattle.tl_rules.specs.statement.Liberties.{broken_after_under}
 use Rattle.tl_bytes.specs.statement.Free.{all_liberties}
 use Rattle.tl_rules.specs.statement.Windows.{needs}
+use Rattle.tl_commits.specs.code.Reached.{is_reached}
 use Rattle.tl_commits.specs.code.Reading.{IsFound, IsMet, IsReading, IsReadingOf, IsTaken, KnowsReadings}
 use Rattle.tl_commits.specs.code.Reading.{answer_beats, come, finds, found_by}
 use Rattle.tl_commits.specs.code.Reading.{is_of, is_open, may_find}
@@ -85,6 +86,12 @@ on-idle r idle = rw idle (either (is_get r.opcode))
 
 off-begun : (r : Reading) → is_get r.opcode ≡ false → r.begun ≡ true → code.goes_on r ≡ false
 off-begun r other begun = rw (other, begun) refl
+
+-- it reaches what it reached
+same-reach : (new old : Reading) (place : ℕ) → new.address ≡ old.address → new.size ≡ old.size
+    → code.reaches new place ≡ true → code.reaches old place ≡ true
+same-reach new old place address size there =
+    ap₂ (λ a s. is_reached a s place) (sym address) (sym size) ∙ there
 
 some-come : (k j : ℕ) → k ≡ suc j → nat_lt 0 k ≡ true
 some-come k j is = rw is (lt-ltb 0 (suc j) (omega arith))
@@ -415,25 +422,27 @@ module _ {w : ℕ} (levels : List Level) (width : IsWidth w) (link : Link) (x : 
         refl
 
     -- with a beat by which it may be performed
-    found-now : (r new : Reading) (p : Access w) (place v : ℕ) → place < 64 → v < 256 → IsSame r p
+    found-now : (r new : Reading) (p : Access w) (place v : ℕ) → place < 64 → v < 256 → code.reaches r place ≡ true
+        → IsSame r p
         → p.asked ≤ suc (length t) → code.goes_on r ≡ true
         → IsFound complete n (code.goes_on r && is_open n r (link, x) t) (b ∷ e) r new
         → has_at r.found place v ≡ may_read_seen complete n p e (64 * block_at p.request.address + place) v
         → has_at new.found place v ≡ may_read_seen complete n p (b ∷ e) (64 * block_at p.request.address + place) v
-    found-now r new p place v lt small same le goes found was =
+    found-now r new p place v lt small there same le goes found was =
         let a = 64 * block_at p.request.address + place in
-        found.found_are place v lt small
+        found.found_are place v lt small there
         ∙ ap₂ (λ u d. u || ((d && is_open n r (link, x) t) && may_find complete n r (b ∷ e) place v)) was goes
         ∙ ap (λ d. may_read_seen complete n p e a v || d) (same-find r p place v lt same)
         ∙ or-comm (may_read_seen complete n p e a v) _
         ∙ sym (read-more p a v le)
 
     -- and with one that adds nothing
-    found-then : (r new : Reading) (place v : ℕ) → place < 64 → v < 256 → code.goes_on r ≡ false
+    found-then : (r new : Reading) (place v : ℕ) → place < 64 → v < 256 → code.reaches r place ≡ true
+        → code.goes_on r ≡ false
         → IsFound complete n (code.goes_on r && is_open n r (link, x) t) (b ∷ e) r new
         → has_at new.found place v ≡ has_at r.found place v
-    found-then r new place v lt small stops found =
-        found.found_are place v lt small
+    found-then r new place v lt small there stops found =
+        found.found_are place v lt small there
         ∙ ap (λ d. has_at r.found place v || ((d && is_open n r (link, x) t) && may_find complete n r (b ∷ e) place v)) stops
         ∙ or-false (has_at r.found place v)
 
@@ -473,21 +482,21 @@ module _ {w : ℕ} (levels : List Level) (width : IsWidth w) (link : Link) (x : 
         → ((come c s e ≡ 0) × (come c s (b ∷ e) ≡ 0))
         ⊎ ((j : ℕ) × (come c s (b ∷ e) ≡ suc j)
         × (before_last_seen c (come c s (b ∷ e)) (b ∷ e) ≡ before_last_seen c (come c s e) e))
-        → (place v : ℕ) → place < 64 → v < 256
+        → (place v : ℕ) → place < 64 → v < 256 → code.reaches r place ≡ true
         → has_at r.found place v ≡ may_read_seen complete n p (found_by p e) (64 * block_at p.request.address + place) v
         → has_at new.found place v
         ≡ may_read_seen complete n p (found_by p (b ∷ e)) (64 * block_at p.request.address + place) v
-    kept-found c s p r new names le same begun found step place v lt small had =
+    kept-found c s p r new names le same begun found step place v lt small there had =
         elim (cases_Bool (is_get p.request.opcode)) [
           | inl get ↦
-              found-now r new p place v lt small same le (on-get r (ap is_get same.opcode_is ∙ get)) found
+              found-now r new p place v lt small there same le (on-get r (ap is_get same.opcode_is ∙ get)) found
               (had ∙ ap reads (now-get p e get)) ∙ ap reads (sym (now-get p (b ∷ e) get))
           | inr other ↦ elim step [
             | inl none ↦
-                found-now r new p place v lt small same le (on-idle r (begun ∙ ap (nat_lt 0) none.1)) found
+                found-now r new p place v lt small there same le (on-idle r (begun ∙ ap (nat_lt 0) none.1)) found
                 (had ∙ ap reads (now-first c s p e names none.0)) ∙ ap reads (sym (now-first c s p (b ∷ e) names none.1))
             | inr some ↦
-                found-then r new place v lt small
+                found-then r new place v lt small there
                 (off-begun r (ap is_get same.opcode_is ∙ other) (begun ∙ some-come (come c s (b ∷ e)) some.0 some.1)) found
                 ∙ had ∙ ap reads (now-later c s p e names other ∙ sym some.2 ∙ sym (now-later c s p (b ∷ e) names other))
           ]
@@ -520,9 +529,11 @@ module _ {w : ℕ} (levels : List Level) (width : IsWidth w) (link : Link) (x : 
           size_is = found.size_is ∙ kept.0.size_is ∙ is.size_is;
           begun_is = found.begun_is ∙ begun
               ∙ sym (ap₂ (λ i j. nat_lt 0 (come i j (b ∷ e))) names.link_is names.source_is);
-          found_are = λ place v lt small.
-              kept-found c s p r new names le same begun found one.0 place v lt small
-              (ap (λ m. has_at m place v) kept.0.found_is ∙ is.found_are place v lt small);
+          found_are = λ place v lt small there.
+              let was_there = same-reach new r place found.address_is found.size_is there in
+              kept-found c s p r new names le same begun found one.0 place v lt small was_there
+              (ap (λ m. has_at m place v) kept.0.found_is ∙ is.found_are place v lt small
+              (same-reach r old place kept.0.address_is kept.0.size_is was_there));
         }
 
     -- of one that is asked for with the beat
@@ -562,10 +573,11 @@ module _ {w : ℕ} (levels : List Level) (width : IsWidth w) (link : Link) (x : 
           address_is = found.address_is ∙ same.address_is;
           size_is = found.size_is ∙ new_one.size_is ∙ sym (ap (λ (q : Access w). q.request.size) now.access_is);
           begun_is = found.begun_is ∙ new_one.begun_is ∙ sym (ap (nat_lt 0) come_is);
-          found_are = λ place v lt small.
+          found_are = λ place v lt small there.
               let a = 64 * block_at p.request.address + place in
-              found-now r new p place v lt small same (omega (arith, asked)) (on-idle r new_one.begun_is) found
-              (new_one.found_are place v lt small ∙ sym (unread e p a v (omega (arith, asked))))
+              let was_there = same-reach new r place found.address_is found.size_is there in
+              found-now r new p place v lt small was_there same (omega (arith, asked)) (on-idle r new_one.begun_is) found
+              (new_one.found_are place v lt small was_there ∙ sym (unread e p a v (omega (arith, asked))))
               ∙ ap (λ u. may_read_seen complete n p u a v) (sym (now-first c s p (b ∷ e) names stands));
         }
 

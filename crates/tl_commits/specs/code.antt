@@ -5,6 +5,7 @@ pub mod GivingBack
 pub mod GivingUp
 pub mod Granting
 pub mod Loading
+pub mod Reached
 pub mod Reading
 pub mod Judging
 pub mod Tellings

@@ -15,6 +15,7 @@ pub mod law;
 mod loading;
 mod next_values;
 mod piece_values;
+mod reached;
 mod reading;
 mod readings;
 mod renewing;

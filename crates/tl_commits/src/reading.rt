@@ -14,6 +14,7 @@ ghost use Rattle.tl_commits.specs.code.Reading.{AllowsAs, IsAnswered, IsAsked, I
 ghost use Rattle.tl_commits.specs.code.ValueTable.{KnowsTable};
 ghost use Rattle.tl_commits.specs.statement.Events.{Events, beats_of};
 
+use crate::reached::put_reached;
 use crate::value_table::ValueTable;
 use tl_beat::beat::{Beat, BeatA, BeatD, Link};
 use tl_beat::opcode::OpA;
@@ -36,7 +37,7 @@ pub struct Reading {
     pub(crate) size: u8,
     /// Whether its answer has begun, and isn't complete.
     pub(crate) begun: bool,
-    /// For each byte of its block the values that it may have found.
+    /// For each byte of its block that it reaches the values that it may have found.
     pub(crate) found: [ByteSet; 64],
 }
 
@@ -80,12 +81,25 @@ impl Reading {
         self.link.0 == link.0 && self.source == source
     }
 
+    /// Begins the reading of the access that is asked for with this beat.
+    fn begin<const W: usize>(&mut self, link: Link, x: &BeatA<W>)
+        ensures { IsFresh self.new link x.now }
+    {
+        self.link = link;
+        self.source = x.source;
+        self.opcode = x.opcode;
+        self.address = x.address;
+        self.size = x.size.min(6);
+        self.begun = false;
+        put_reached(&mut self.found, self.address, self.size, ByteSet::none());
+    }
+
     /// Begins the reading, if this beat of a request asks for its access.
     fn ask<const W: usize>(&mut self, link: Link, x: &BeatA<W>)
         ensures { IsAsked link x.now self.old self.new }
     {
         if both(finds(x.opcode), self.is_of(link, x.source)) {
-            *self = Reading::new(link, x);
+            self.begin(link, x);
         }
     }
 
@@ -148,10 +162,9 @@ impl Reading {
         if !now {
             return;
         }
+        table.add_seen(&mut self.found, self.address, self.size);
         let block = block_at(self.address);
-        let mut found = table.with_seen(self.found, block, 0);
-        judge.add_others(&mut found, block, self.link, self.source);
-        self.found = found;
+        judge.add_others(&mut self.found, block, self.link, self.source);
     }
 
     /// Takes a beat that the judge of beats took last, by the values of blocks after it. `shown` is the block whose bytes the

@@ -2,19 +2,23 @@
 
 ghost use Rattle.std.specs.Prelude.{ℕ, Bool, List, Some, true, if◌then◌else◌, ◌==◌, ◌+◌, ◌*◌, ◌<◌, ◌≡◌, [], is_some, option_copied, OnErr, OnOk, ◌||◌};
 ghost use Rattle.tl_memory.specs.code.ByteSet.{has_at};
+ghost use Rattle.tl_rules.specs.statement.History.{block_at};
 ghost use Rattle.tl_commits.specs.code.GivingBack.{is_seen};
 ghost use Rattle.tl_commits.specs.code.BlockValues.{IsLoaded, IsStored};
+ghost use Rattle.tl_commits.specs.code.Reached.{is_reached};
 ghost use Rattle.tl_commits.specs.code.ValueTable.{IsChanged, KnowsTable, values_in};
 ghost use Rattle.tl_commits.specs.statement.Commits;
 ghost use Rattle.tl_commits.specs.statement.Events.{Events};
 
 use crate::block_values::BlockValues;
+use crate::reached::{add_told, put_reached};
 use crate::tellings::{Places, allows};
 use std::alloc::{AllocError, Global};
 use std::collections::BTreeMap;
 use std::marker::Model;
 use tl_bytes::write::Write;
 use tl_memory::byte_set::{ByteSet, with_told};
+use tl_rules::key::block_at;
 
 /// The possible values of the bytes of blocks. A block without values is as before the trace.
 #[derive(Drop)]
@@ -153,6 +157,19 @@ impl ValueTable {
         match self.get(block) {
             None => [ByteSet::all(); N],
             Some(kept) => with_told(sets, kept.seen.as_slice(), first),
+        }
+    }
+
+    /// Adds to the set of each place of its block that an access of this address and size reaches the values that its byte
+    /// may have.
+    pub(crate) fn add_seen(&self, sets: &mut [ByteSet; 64], address: u32, size: u8)
+        ensures { (w : ℕ) (complete : List Bool) (n : ℕ) (e : Events w) → KnowsTable self.now complete n e →
+            (place v : ℕ) → place < 64 → v < 256 → is_reached address size place ≡ true → has_at sets.new place v
+            ≡ (has_at sets.old place v || is_seen complete n e (64 * block_at address + place) v) }
+    {
+        match self.get(block_at(address)) {
+            None => put_reached(sets, address, size, ByteSet::all()),
+            Some(kept) => add_told(sets, address, size, kept.seen.as_slice()),
         }
     }
 }

@@ -1,6 +1,6 @@
 -- The bytes that pending Gets and atomics may have found, as a judge keeps them.
 use Rattle.std.specs.List.{AllZip}
-use Rattle.std.specs.Prelude.{ℕ, suc, Bool, true, false, not, [], ◌∷◌, ◌+◌, ◌*◌, ◌<◌, ◌≡◌, ◌==◌, ◌&&◌, ◌||◌, List}
+use Rattle.std.specs.Prelude.{ℕ, suc, Bool, true, false, not, ◌∷◌, ◌+◌, ◌*◌, ◌<◌, ◌≡◌, ◌==◌, ◌&&◌, ◌||◌, List}
 use Rattle.std.specs.Prelude.{if◌then◌else◌, find, is_some, length, min, nat_lt, Option, Some, None}
 use Rattle.tl_beat.specs.declared.beat.Beat.{Beat}
 use Rattle.tl_beat.specs.declared.beat.Beat.TheVariants as beat
@@ -11,7 +11,6 @@ use Rattle.tl_beat.specs.declared.channel.Channel.TheVariants as channel
 use Rattle.tl_beat.specs.declared.opcode.OpA.{OpA}
 use Rattle.tl_beat.specs.declared.opcode.OpD.{OpD}
 use Rattle.tl_beat.specs.declared.opcode.OpD.TheVariants as d
-use Rattle.tl_burst.specs.statement.Burst.{reaches}
 use Rattle.tl_burst.specs.statement.Messages.{unfinished}
 use Rattle.tl_bytes.specs.statement.Bytes as bytes
 use Rattle.tl_bytes.specs.statement.Bytes.{Access, all_but, is_access, is_get, is_put, may_write, pending_accesses, told_as}
@@ -27,6 +26,7 @@ use Rattle.tl_together.specs.code.Windows.{MayShow}
 use Rattle.tl_together.specs.declared.judge.Judge.{Judge}
 use Rattle.tl_together.specs.statement.Knows.{Knows}
 use Rattle.tl_events.specs.declared.commit.Event.TheVariants as event
+use Rattle.tl_commits.specs.code.Reached.{is_reached}
 use Rattle.tl_commits.specs.code.ValueTable.{KnowsTable}
 use Rattle.tl_commits.specs.declared.block_values.BlockValues.{BlockValues}
 use Rattle.tl_commits.specs.declared.reading.Reading.{Reading}
@@ -75,6 +75,10 @@ reads_truly complete n link _ e = true
 abbrev pub is_of : ℕ → ℕ → Reading → Bool
 is_of link source r = (r.link.0 == link) && (r.source == source)
 
+-- its access reaches the byte at a place of its block
+abbrev pub reaches : Reading → ℕ → Bool
+reaches r place = is_reached r.address r.size place
+
 -- the number of these beats of channel D, if they are of an answer to the access with this source
 abbrev pub answer_beats : {w : ℕ} → ℕ → List (Beat w) → ℕ
 answer_beats source (beat.D y ∷ older) = if y.source == source then suc (length older) else 0
@@ -88,14 +92,14 @@ come link source e = answer_beats source (unfinished channel.D (link_beats link 
 abbrev pub found_by : {w : ℕ} → Access w → Events w → Events w
 found_by access e = found_after_seen (Some access) access.link (come access.link access.request.source e) e
 
--- this is what is kept of the access
+-- this is what is kept of the access: the values of the bytes that it reaches
 pub record IsReading {w : ℕ} (r : Reading) (complete : List Bool) (n : ℕ) (access : Access w) (e : Events w)
     : Type 0 where
   pub opcode_is : r.opcode ≡ access.request.opcode
   pub address_is : r.address ≡ access.request.address
   pub size_is : r.size ≡ access.request.size
   pub begun_is : r.begun ≡ nat_lt 0 (come access.link access.request.source e)
-  pub found_are : (place v : ℕ) → place < 64 → v < 256
+  pub found_are : (place v : ℕ) → place < 64 → v < 256 → reaches r place ≡ true
       → has_at r.found place v
       ≡ may_read_seen complete n access (found_by access e) (64 * block_at access.request.address + place) v
 
@@ -124,7 +128,7 @@ pub record IsFresh {w : ℕ} (r : Reading) (link : Link) (y : BeatA w) : Type 0 
   pub address_is : r.address ≡ y.address
   pub size_is : r.size ≡ min y.size 6
   pub begun_is : r.begun ≡ false
-  pub found_are : (place v : ℕ) → place < 64 → v < 256 → has_at r.found place v ≡ false
+  pub found_are : (place v : ℕ) → place < 64 → v < 256 → reaches r place ≡ true → has_at r.found place v ≡ false
 
 -- the readings are of the same access, and the same bytes were found
 pub record IsSameFound (old new : Reading) : Type 0 where
@@ -170,7 +174,7 @@ pub record IsFound {w : ℕ} (complete : List Bool) (n : ℕ) (now : Bool) (e : 
   pub address_is : new.address ≡ old.address
   pub size_is : new.size ≡ old.size
   pub begun_is : new.begun ≡ old.begun
-  pub found_are : (place v : ℕ) → place < 64 → v < 256
+  pub found_are : (place v : ℕ) → place < 64 → v < 256 → reaches old place ≡ true
       → has_at new.found place v ≡ (has_at old.found place v || (now && may_find complete n old e place v))
 
 -- the beat shows that the access may be performed
@@ -202,7 +206,7 @@ AreTakenBy judge table link x shown old new = AllZip (IsTakenBy judge table link
 
 -- the answer may bring the byte v at a place, or doesn't reach it
 abbrev pub allows : Reading → ℕ → ℕ → Bool
-allows r place v = not (reaches r.address r.size (64 * block_at r.address + place)) || has_at r.found place v
+allows r place v = not (reaches r place) || has_at r.found place v
 
 -- so for this test of the bytes of a block
 abbrev pub AllowsAs : Reading → ℕ → (ℕ → ℕ → Bool) → Type 0

@@ -1,6 +1,4 @@
 use Rattle.std.proofs.Common.{◌≡◌, rules, true, false, sym, ◌∙◌, length}
-use Rattle.tl_commits.specs.code.Granting.{grants_truly}
-use Rattle.tl_commits.specs.code.Reading.{reads_truly}
 use Rattle.tl_commits.proofs.BeatsJudged.{bytes-granted, bytes-read, bytes-true}
 use Rattle.tl_commits.proofs.judge.CommitJudge.broken_bytes.Goals as goal
 

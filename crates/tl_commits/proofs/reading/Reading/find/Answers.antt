@@ -1,4 +1,4 @@
-use Rattle.std.proofs.Common.{◌≡◌, ◌+◌, ◌*◌, ◌&&◌, ◌||◌, rules, false, true, length, refl, sym, ap, ◌∙◌, arith}
+use Rattle.std.proofs.Common.{◌≡◌, ◌+◌, ◌*◌, ◌&&◌, ◌||◌, rules, false, true, length, refl, sym, ap, ◌∙◌}
 use Rattle.std.proofs.Math.Bool.{or-false}
 use Rattle.tl_bytes.specs.statement.Bytes.{all_but, may_write, pending_accesses}
 use Rattle.tl_bytes.specs.statement.Early.{outrun_accesses}
@@ -18,7 +18,7 @@ returns-then-not-now g c = λ levels l complete e k table. record {
   address_is = refl;
   size_is = refl;
   begun_is = refl;
-  found_are = λ place v lt small.
+  found_are = λ place v lt small there.
       let off : c.args.now ≡ false = search rules in
       sym (ap (λ d. has_at c.args.self.now.found place v || (d && may_find complete (length levels) c.args.self.now e
       place v)) off ∙ or-false (has_at c.args.self.now.found place v));
@@ -32,21 +32,18 @@ returns g c = λ levels l complete e k table. record {
   address_is = refl;
   size_is = refl;
   begun_is = refl;
-  found_are = λ place v lt small.
+  found_are = λ place v lt small there.
       let r = c.args.self.now in
       let had = has_at r.found place v in
       let block = block_at r.address in
-      let first : 0 + place ≡ place = omega arith in
       let on : c.args.now ≡ true = search rules in
-      let here : 64 * c.block_at-block.result + (0 + place) ≡ 64 * block + place =
-      ap (λ i. 64 * c.block_at-block.result + i) first ∙ ap (λ i. 64 * i + place) c.block_at-block.ensures in
-      let seen = c.with_seen-found.ensures g.row.W complete (length levels) e table place v lt (omega (arith, lt)) small in
+      let seen = c.add_seen.ensures g.row.W complete (length levels) e table place v lt small there in
       let others = may_write (64 * block + place) v (all_but r.link.0 r.source (pending_accesses (beats_of e)))
       (outrun_accesses (beats_of e)) in
       c.add_others.ensures levels l (beats_of e) k place v lt small
-      ∙ ap (λ i. has_at c.with_seen-found.result place v || may_write (64 * i + place) v
+      ∙ ap (λ i. has_at c.add_seen.new.sets place v || may_write (64 * i + place) v
       (all_but r.link.0 r.source (pending_accesses (beats_of e))) (outrun_accesses (beats_of e))) c.block_at-block.ensures
-      ∙ ap (λ b. b || others) (seen ∙ ap (λ a. had || is_seen complete (length levels) e a v) here)
+      ∙ ap (λ b. b || others) seen
       ∙ or-more had (is_seen complete (length levels) e (64 * block + place) v) others
       ∙ ap (λ d. had || (d && may_find complete (length levels) r e place v)) (sym on);
 }

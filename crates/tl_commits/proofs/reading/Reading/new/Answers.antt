@@ -11,6 +11,6 @@ returns g c = record {
   address_is = refl;
   size_is = search rules;
   begun_is = refl;
-  found_are = λ place v lt small.
+  found_are = λ place v lt small there.
       ap (λ s. has s v) (get_or-replicate 64 place c.none.result nothing lt) ∙ c.none.ensures v small;
 }

@@ -5,7 +5,7 @@ use Rattle.std.proofs.lemmas.List.{get_or-set_other, get_or-set_same}
 use Rattle.tl_bytes.specs.declared.telling.Told.{Told}
 use Rattle.tl_bytes.specs.statement.Bytes.{could_be, told_as}
 use Rattle.tl_bytes.specs.statement.Known.{tellings_at}
-use Rattle.tl_memory.proofs.ByteSets.{told-apart, told-next}
+use Rattle.tl_memory.proofs.values.ByteSets.{told-apart, told-next}
 use Rattle.tl_memory.specs.code.ByteSet.{has, has_at, nothing}
 use Rattle.tl_memory.specs.declared.byte_set.ByteSet.{ByteSet}
 

@@ -1,7 +1,7 @@
 use Rattle.std.proofs.Common.{rules, ◌≡◌, ◌<◌, ◌+◌, ◌||◌, ℕ, Bool, true, false, length, sym, ap, ◌∙◌, arith, drop}
 use Rattle.tl_bytes.specs.statement.Bytes.{told_as}
 use Rattle.tl_bytes.specs.statement.Known.{tellings_at}
-use Rattle.tl_memory.proofs.ByteSets.{told-apart, told-none}
+use Rattle.tl_memory.proofs.values.ByteSets.{told-apart, told-none}
 use Rattle.tl_memory.specs.code.ByteSet.{has_at}
 use Rattle.tl_commits.specs.code.Reached.{is_reached}
 use Rattle.tl_commits.proofs.Reaching.{put-told}

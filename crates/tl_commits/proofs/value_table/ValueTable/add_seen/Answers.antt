@@ -3,7 +3,7 @@ use Rattle.tl_bytes.specs.statement.Bytes.{told_as}
 use Rattle.tl_memory.specs.code.ByteSet.{has_at}
 use Rattle.tl_commits.specs.code.GivingBack.{is_seen}
 use Rattle.tl_commits.specs.code.ValueTable.{KnowsKept}
-use Rattle.tl_memory.proofs.ByteSets.{any-or}
+use Rattle.tl_memory.proofs.values.ByteSets.{any-or}
 use Rattle.tl_commits.proofs.TableJudged.{kept-known, untouched-seen}
 use Rattle.tl_commits.proofs.value_table.ValueTable.add_seen.Goals as goal
 

@@ -10,7 +10,7 @@ returns-clause-ok g c = on_ok_weaker c.append_story-told.result
     (λ found.
     let h = c.in-Ok.ensures.ok in
     told_explains c.into_handler-story.result c.args.allow _ _ h.0 _ found.0 c.in-Ok.field-0 c.args.verdict.now h.1
-    found.1.0 found.1.1.0 (rw c.into_handler-story.ensures h.4) found.1.1.1.0 found.1.1.1.1)
+    found.1 found.2 (rw c.into_handler-story.ensures h.4) found.3 found.4)
     c.append_story-told.ensures.ok
 
 pub returns-in-Err-clause-fault : goal.returns-in-Err-clause-fault

@@ -1,7 +1,6 @@
 """What a recorder sees at a port that a trace doesn't tell: a simulation that is aborted, a second reset, what is never answered,
 clients that share a port, and times."""
 
-import os
 import re
 
 from harness import DPI, SV, ScriptedBench, path, test, want, verilator, judged, beat_lines

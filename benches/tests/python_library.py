@@ -9,7 +9,7 @@ import os
 import re
 import sys
 
-from harness import HERE, ROOT, LIBRARY, TLTOOL, test, want, run, path, judged, enumerators, python_module
+from harness import HERE, ROOT, LIBRARY, SHARED_LIBRARY, TLTOOL, test, want, run, path, judged, enumerators, python_module
 
 
 @test

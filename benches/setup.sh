@@ -1,6 +1,6 @@
 #!/usr/bin/env bash
 # Installs by apt-get what the benches need beside the toolchain. It fails where a tool is missing
-# afterwards.
+# afterwards, and prints what apt-get wrote only where that fails.
 set -euo pipefail
 
 tools=(verilator iverilog vvp g++ make python3 yosys berkeley-abc)
@@ -14,9 +14,11 @@ missing() {
 if [ -n "$(missing)" ]; then
   root=()
   [ "$(id -u)" -eq 0 ] || root=(sudo)
-  "${root[@]}" apt-get update
-  "${root[@]}" env DEBIAN_FRONTEND=noninteractive apt-get install -y --no-install-recommends \
-    verilator iverilog g++ make python3 yosys berkeley-abc
+  apt=("${root[@]}" env DEBIAN_FRONTEND=noninteractive apt-get)
+  packages=(verilator iverilog g++ make python3 yosys berkeley-abc)
+  log=$(mktemp)
+  { "${apt[@]}" update && "${apt[@]}" install -y --no-install-recommends "${packages[@]}"; } >"$log" 2>&1 || { cat "$log"; exit 1; }
+  rm "$log"
 fi
 
 if [ -n "$(missing)" ]; then

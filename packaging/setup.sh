@@ -1,5 +1,6 @@
 #!/usr/bin/env bash
-# Installs by apt-get what the packages are made and tried with. It fails where a tool is missing afterwards.
+# Installs by apt-get what the packages are made and tried with. It fails where a tool is missing afterwards, and prints what apt-get
+# wrote only where that fails.
 set -euo pipefail
 
 packages=(dpkg-dev debhelper fakeroot lintian python3-build python3-setuptools python3-wheel mmdebstrap binutils xz-utils make gcc libc6-dev)
@@ -18,8 +19,9 @@ if [ -n "$(missing)" ]; then
   root=()
   [ "$(id -u)" -eq 0 ] || root=(sudo)
   apt=("${root[@]}" env DEBIAN_FRONTEND=noninteractive apt-get -o DPkg::Lock::Timeout=600 -o Acquire::Retries=5 -o APT::Sandbox::User=root)
-  "${apt[@]}" update
-  "${apt[@]}" install -y --no-install-recommends "${packages[@]}"
+  log=$(mktemp)
+  { "${apt[@]}" update && "${apt[@]}" install -y --no-install-recommends "${packages[@]}"; } >"$log" 2>&1 || { cat "$log"; exit 1; }
+  rm "$log"
 fi
 
 if [ -n "$(missing)" ]; then

@@ -35,6 +35,7 @@ impl ChartedLines {
         ensures purpose { IfOk result (λ h. events_judged_for h.lines ≡ (false, allow)) }
         ensures asked { IfOk result (λ h. h.window ≡ window) }
     {
+        let canvas = Canvas::new(alloc, 0, window)?;
         Ok(ChartedLines {
             lines: EventLines::new(alloc, false, allow),
             alloc,
@@ -42,7 +43,7 @@ impl ChartedLines {
             window,
             count: 0,
             following: Following::Nothing,
-            canvas: Canvas::new(alloc, 0, window)?,
+            canvas,
         })
     }
 

@@ -2,7 +2,8 @@
 """bodies.py [CRATE..]: tries the wrong bodies of faults/bodies, those of all crates where none is named. The prover must refuse each.
 
 The gate tries the wrong bodies of crates/*/must-fail alone, since each costs half a minute, and the first of a crate a whole proof.
-This runs `rt must-fail` on a copy of the crates, which takes an hour of processor time for all. Its exit status is that of `rt`."""
+This runs `rt must-fail` on a copy of the crates, which first proves each named one and all below it. Its exit status is that of
+`rt`."""
 import pathlib
 import shutil
 import subprocess

@@ -66,6 +66,16 @@ release-toB                    -       -       0
 release-toN                    -       0       0
 
 """
+# The times of lines 2 to 13 are 10, 20, .., 120.
+TIMED_REASONS = """line 13 H12
+  H12 (ProbeAck, ProbeAckData): the param isn't the report of the Probe's cap and the permission held
+  13: 00 C ProbeAck TtoN size=6 source=00 address=00000000 data=- corrupt=0 (time 120)
+  the Probe, of line 12 (time 110):
+  12: 00 B ProbeBlock toN size=6 source=00 address=00000000 mask=ff data=- corrupt=0 (time 110)
+  block 00000000 is held as Branch since line 10 (time 90):
+  10: 00 D GrantData toB size=6 source=00 sink=00 denied=0 data=0000000000000000 corrupt=0 (time 90)
+  wanted: BtoN
+"""
 NUMBER = "a number from 0 to 18446744073709551615"
 LIST = "1 to 16 clients with commas between them, each UL, UH or C with its number of sources from 1 to 8, as C:2,C:2,UH:1"
 
@@ -317,6 +327,19 @@ ROWS = [
     ("tltool explain --coherent wide/two_caches.trace", 0, "coherent 11\n  nothing is pending at the end\n  coherent means ..", ""),
     ("tltool explain wide/wrong_report.trace", 1, WIDE_REASONS, ""),
     ("tltool explain --coherent wide/second_part.trace | cut -c1-40", 0, WIDE_MEMORY, ""),
+    ("seq 10 10 120 >link.times; tltool explain --times link.times wrong_report.trace", 1, TIMED_REASONS, ""),
+    ("seq 10 10 110 >link.times; tltool explain --times link.times wrong_report.trace | sed -n '3,4s/.* \\(corrupt\\|of\\)/\\1/p'", 0, "corrupt=0\nof line 12 (time 110):\n", ""),
+    ("seq 10 10 120 | sed '11s/0$/x/;12s/$/ /' >link.times; tltool explain --times link.times wrong_report.trace | grep -c time", 0, "2\n", ""),
+    ("(seq 10 10 110; printf 120) >link.times; tltool explain --times link.times wrong_report.trace | grep -c 'time 1[12]0'", 0, "2\n", ""),
+    ("seq 10 10 120 >link.times; tltool explain --times link.times wide/wrong_report.trace | sed -n 's/.*corrupt=0//p;s/.*the Probe/the Probe/p'", 0, " (time 50)\nthe Probe, of line 5 (time 40):\n (time 40)\n", ""),
+    ("seq 10 10 120 >link.times; tltool explain --coherent --times link.times rules/M6.trace | grep -c 'time [235]0)$\\|time 40)$'", 0, "3\n", ""),
+    ("seq 10 10 120 >link.times; sed '3s/ 00000000/ line 2/' two_caches.trace >fault.trace; tltool explain --times link.times fault.trace | grep time", 1, "", ""),
+    ("seq 10 10 120 >link.times; tltool explain --times link.times two_caches.trace", 0, f"clean 29\n  nothing is pending at the end\n{CLEAN_MEANS}", ""),
+    ("tltool explain --times none.times wrong_report.trace", 3, "", "tltool: cannot open none.times\n"),
+    ("tltool explain --times . wrong_report.trace", 3, "", "tltool: read failed\n"),
+    ("seq 10 10 120 >link.times; tltool explain --times link.times H12", 3, "", "tltool: cannot open H12\n"),
+    ("tltool explain --times", 2, "", "error: .."),
+    ("tltool monitor --times link.times two_caches.trace", 2, "", "error: unexpected argument '--times' found.."),
     ("sed '1s/64/32/' wide/wrong_report.trace >narrower.trace; tltool explain narrower.trace", 1, F3.format(2), ""),
     ("(head -5 wide/wrong_report.trace; tail -1 wide/wrong_report.trace | sed 's/C 4 1/C 4 2/') >right.trace; tltool explain right.trace | sed -n 1p", 0, "clean 5\n", ""),
     *(

@@ -26,7 +26,7 @@ _tltool() {
     decode) options='--wide --width --help -h' ;;
     monitor) options='--allow --all --report --junit --help -h' ;;
     coherent) options='--allow --all --report --junit --help -h' ;;
-    explain) options='--coherent --allow --help -h' ;;
+    explain) options='--coherent --allow --times --help -h' ;;
     chart) options='--lines --block --allow --help -h' ;;
     cover) options='--tables --json --help -h' ;;
     run) options='--trace --commits --help -h' ;;

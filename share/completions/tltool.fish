@@ -25,6 +25,7 @@ complete -c tltool -n '__fish_seen_subcommand_from chart' -l block -x -d 'the bl
 complete -c tltool -n '__fish_seen_subcommand_from chart' -l allow -x -a 'none standard ids sinks writer early drops reports denied uncorrupt' -d 'liberties in addition to those of the header'
 complete -c tltool -n '__fish_seen_subcommand_from explain' -l coherent -d 'check all links of a manager together'
 complete -c tltool -n '__fish_seen_subcommand_from explain' -l allow -x -a 'none standard ids sinks writer early drops reports denied uncorrupt' -d 'liberties in addition to those of the header'
+complete -c tltool -n '__fish_seen_subcommand_from explain' -l times -r -d 'write the time of each line that is cited'
 complete -c tltool -n '__fish_seen_subcommand_from cover' -l tables -d 'write the tables of each link too'
 complete -c tltool -n '__fish_seen_subcommand_from cover' -l json -d 'write one JSON object'
 complete -c tltool -n '__fish_seen_subcommand_from run' -l trace -d 'write the beats as a trace'

@@ -12,11 +12,13 @@ use tl_wide::width::WideWidth;
 #[derive(Drop)]
 pub enum Task {
     /// A command over the file of this name, or over standard input. `allow` has the liberties of the links beyond
-    /// those that the header names, for `monitor`, `coherent` and `explain`.
+    /// those that the header names, for `monitor`, `coherent` and `explain`. The file of the name `times` has the times
+    /// of the trace's lines, for `explain`.
     Read {
         command: Command,
         allow: Liberties,
         file: Option<String>,
+        times: Option<String>,
     },
     /// A readable line for each line of a wide beat of this width in the file of this name, or on standard input.
     DecodeWide {

@@ -62,7 +62,7 @@ no_inquiry name word inquiry none is = let some = is.1 in absurd cc
 -- a word that stands for nothing asks for nothing
 pub no_draw : (rows : List Row) (option : RandomOption) → IsWrong (words_in rows) option → (task : Task)
     → ¬ IsTaskOf (codes "random") rows task
-no_draw rows option wrong (Read command allow file) is = let none = is.0 in absurd cc
+no_draw rows option wrong (Read command allow file times) is = let none = is.0 in absurd cc
 no_draw rows option wrong (DecodeWide width file) is = let none = is.0 in absurd cc
 no_draw rows option wrong (Search aim file) is = no_search (codes "random") (first_of (codes "all") rows) aim refl is.0
 no_draw rows option wrong (Report inquiry file report junit) is =
@@ -80,7 +80,7 @@ range_alike range {a} {b} {x} {y} p q is =
 pub no_chart : (rows : List Row) → ((range : Range) (allow : Liberties)
     → IsRange (first_of (codes "lines") rows) (first_of (codes "block") rows) range
     → ¬ AreAllowedIn rows allow) → (task : Task) → ¬ IsTaskOf (codes "chart") rows task
-no_chart rows wrong (Read command allow file) is = let none = is.0 in absurd cc
+no_chart rows wrong (Read command allow file times) is = let none = is.0 in absurd cc
 no_chart rows wrong (DecodeWide width file) is = let none = is.0 in absurd cc
 no_chart rows wrong (Search aim file) is = no_search (codes "chart") (first_of (codes "all") rows) aim refl is.0
 no_chart rows wrong (Report inquiry file report junit) is =
@@ -94,7 +94,7 @@ pub no_read : (name : Text) (rows : List Row) → command_in name rows ≡ None 
     → bytes_eq name (codes "random") ≡ false → bytes_eq name (codes "chart") ≡ false
     → bytes_eq name (codes "cover") ≡ false → is_wide name rows ≡ false → is_reported rows ≡ false
     → (task : Task) → ¬ IsTaskOf name rows task
-no_read name rows none unsaid other another apart plain unreported (Read command allow file) is = let some = is.0 in absurd cc
+no_read name rows none unsaid other another apart plain unreported (Read command allow file times) is = let some = is.0 in absurd cc
 no_read name rows none unsaid other another apart plain unreported (DecodeWide width file) is = let wide = is.0 in absurd cc
 no_read name rows none unsaid other another apart plain unreported (Search aim file) is =
     subst (λ (word : Option Text). IsAim name word aim) unsaid is.0
@@ -109,7 +109,7 @@ pub no_aim : (name word : Text) (rows : List Row) → ((aim : Aim) → ¬ IsAim 
     → first_of (codes "all") rows ≡ Some word → bytes_eq name (codes "random") ≡ false
     → bytes_eq name (codes "chart") ≡ false → bytes_eq name (codes "cover") ≡ false → is_wide name rows ≡ false
     → is_reported rows ≡ false → (task : Task) → ¬ IsTaskOf name rows task
-no_aim name word rows none said other another apart plain unreported (Read command allow file) is = let unsaid = is.1 in
+no_aim name word rows none said other another apart plain unreported (Read command allow file times) is = let unsaid = is.1 in
     absurd cc
 no_aim name word rows none said other another apart plain unreported (DecodeWide width file) is = let wide = is.0 in absurd cc
 no_aim name word rows none said other another apart plain unreported (Search aim file) is =
@@ -128,7 +128,7 @@ pub no_report : (name : Text) (word : Option Text) (rows : List Row)
     → first_of (codes "all") rows ≡ word → bytes_eq name (codes "random") ≡ false
     → bytes_eq name (codes "chart") ≡ false → bytes_eq name (codes "cover") ≡ false → is_wide name rows ≡ false
     → is_reported rows ≡ true → (task : Task) → ¬ IsTaskOf name rows task
-no_report name word rows none said other another apart plain reported (Read command allow file) is = let unreported = is.3 in
+no_report name word rows none said other another apart plain reported (Read command allow file times) is = let unreported = is.3 in
     absurd cc
 no_report name word rows none said other another apart plain reported (DecodeWide width file) is = let wide = is.0 in absurd cc
 no_report name word rows none said other another apart plain reported (Search aim file) is = let unreported = is.2 in
@@ -145,7 +145,7 @@ pub no_liberties_named : (name : Text) (rows : List Row) → ((allow : Liberties
     → bytes_eq name (codes "random") ≡ false → bytes_eq name (codes "chart") ≡ false
     → bytes_eq name (codes "cover") ≡ false → is_wide name rows ≡ false → (task : Task)
     → ¬ IsTaskOf name rows task
-no_liberties_named name rows none other another apart plain (Read command allow file) is = none allow is.4
+no_liberties_named name rows none other another apart plain (Read command allow file times) is = none allow is.4
 no_liberties_named name rows none other another apart plain (DecodeWide width file) is = let wide = is.0 in absurd cc
 no_liberties_named name rows none other another apart plain (Search aim file) is = none aim.allow is.3
 no_liberties_named name rows none other another apart plain (Report inquiry file report junit) is =
@@ -157,7 +157,7 @@ no_liberties_named name rows none other another apart plain (Draw options) is = 
 -- a word that names no width of wide beats asks for nothing
 pub no_wide : (rows : List Row) → flag_named (first_of (codes "wide") rows) ≡ true
     → wide_width_named (first_of (codes "width") rows) ≡ None → (task : Task) → ¬ IsTaskOf (codes "decode") rows task
-no_wide rows flagged none (Read command allow file) is = let plain = is.5 in absurd cc
+no_wide rows flagged none (Read command allow file times) is = let plain = is.5 in absurd cc
 no_wide rows flagged none (DecodeWide width file) is = let some = is.1 in absurd cc
 no_wide rows flagged none (Search aim file) is = no_search (codes "decode") (first_of (codes "all") rows) aim refl is.0
 no_wide rows flagged none (Report inquiry file report junit) is =
@@ -168,7 +168,7 @@ no_wide rows flagged none (Draw options) is = let same = is.0 in absurd cc
 
 -- both flags of `cover` ask for nothing
 pub no_form : (rows : List Row) → form_in rows ≡ None → (task : Task) → ¬ IsTaskOf (codes "cover") rows task
-no_form rows both (Read command allow file) is = let none = is.0 in absurd cc
+no_form rows both (Read command allow file times) is = let none = is.0 in absurd cc
 no_form rows both (DecodeWide width file) is = let none = is.0 in absurd cc
 no_form rows both (Search aim file) is = no_search (codes "cover") (first_of (codes "all") rows) aim refl is.0
 no_form rows both (Report inquiry file report junit) is =

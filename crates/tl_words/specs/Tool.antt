@@ -57,10 +57,10 @@ abbrev pub decode_of : App
 decode_of = with_rule (with_rule (with_rule (new_app (codes "decode")) (flag_rule (codes "wide"))) width_rule)
     (new_rule (codes "FILE"))
 
--- `explain [--coherent] [--allow LIBERTIES] [FILE]`
+-- `explain [--coherent] [--allow LIBERTIES] [--times FILE] [FILE]`
 abbrev pub explain_of : App
-explain_of = with_rule (with_rule (with_rule (new_app (codes "explain")) (flag_rule (codes "coherent")))
-    (valued_rule (codes "allow"))) (new_rule (codes "FILE"))
+explain_of = with_rule (with_rule (with_rule (with_rule (new_app (codes "explain")) (flag_rule (codes "coherent")))
+    (valued_rule (codes "allow"))) (valued_rule (codes "times"))) (new_rule (codes "FILE"))
 
 -- `[--lines A-B] [--block BBB]`
 abbrev pub with_range : App → App
@@ -221,13 +221,13 @@ is_wide name rows = bytes_eq name (codes "decode") && flag_named (first_of (code
 abbrev pub AreAllowedIn : List Row → Liberties → Type 0
 AreAllowedIn rows = AreAllowed (first_of (codes "allow") rows)
 
--- The task of a subcommand's name and entries: a command over FILE, its wide beats in words, a search of it, a
+-- The task of a subcommand's name and entries: a command over FILE, for `explain` with times, its wide beats in words, a search of it, a
 -- judgement of it that is reported, a chart of it, the situations of FILEs, or a random schedule.
 abbrev pub IsTaskOf : Text → List Row → Task → Type 0
-IsTaskOf name rows (Read command allow file) =
+IsTaskOf name rows (Read command allow file times) =
     (command_in name rows ≡ Some command) × (first_of (codes "all") rows ≡ None)
     × (option_map string_bytes file ≡ file_in rows) × (is_reported rows ≡ false) × AreAllowedIn rows allow
-    × (is_wide name rows ≡ false)
+    × (is_wide name rows ≡ false) × (option_map string_bytes times ≡ first_of (codes "times") rows)
 IsTaskOf name rows (DecodeWide width file) =
     (is_wide name rows ≡ true) × (wide_width_named (first_of (codes "width") rows) ≡ Some width)
     × (option_map string_bytes file ≡ file_in rows)

@@ -6,7 +6,7 @@ ghost use Rattle.clap.specs.declared.builder.command.Command.TheViews.{out-Comma
 ghost use Rattle.tl_words.specs.Tool.{chart_of, charting_of, coherent_of, cover_of};
 ghost use Rattle.tl_words.specs.Tool.{covering_of, decode_of, drawing_of, explain_of, several_rule};
 ghost use Rattle.tl_words.specs.Tool.{explaining_of, judging_of, monitor_of, playing_of, random_of, reading_of, run_of};
-ghost use Rattle.tl_words.specs.Tool.{flag_rule, sizing_of, tool_of, valued_rule, with_range, with_reports};
+ghost use Rattle.tl_words.specs.Tool.{flag_rule, sizing_of, tool_of, valued_rule, with_reports};
 
 use crate::help;
 use clap::{Arg, ArgAction};
@@ -53,6 +53,38 @@ fn with_argument<'a>(
     command.arg(argument)
 }
 
+/// Adds three arguments to a command.
+fn with_three<'a>(
+    command: clap::Command<'a>,
+    first: Arg<'a>,
+    second: Arg<'a>,
+    third: Arg<'a>,
+) -> Result<clap::Command<'a>, AllocError>
+    requires command { (out-Command command).has_globals ≡ false }
+    requires first { first.global ≡ false }
+    requires second { second.global ≡ false }
+    requires third { third.global ≡ false }
+    ensures app { IfOk result (λ c. app_of c ≡ with_rule (with_rule (with_rule (app_of command.entry)
+        (rule_of first.entry)) (rule_of second.entry)) (rule_of third.entry)) }
+    ensures local { IfOk result (λ c. (out-Command c).has_globals ≡ false) }
+{
+    let command = match with_argument(command, first) {
+        Ok(command) => command,
+        Err(error) => {
+            drop(second);
+            drop(third);
+            return Err(error);
+        }
+    };
+    match with_argument(command, second) {
+        Ok(command) => with_argument(command, third),
+        Err(error) => {
+            drop(third);
+            Err(error)
+        }
+    }
+}
+
 /// Adds a subcommand to a command.
 fn with_subcommand<'a>(
     command: clap::Command<'a>,
@@ -77,8 +109,7 @@ pub fn decode<'a>(alloc: Global) -> Result<clap::Command<'a>, AllocError>
         "Writes a readable line for each beat line of FILE",
         help::DECODE,
     );
-    let decode = with_argument(with_argument(decode, wide)?, width)?;
-    with_argument(decode, file(alloc, FILE_HELP))
+    with_three(decode, wide, width, file(alloc, FILE_HELP))
 }
 
 /// Adds to a command that judges: its liberties, with this help on `--allow`, and its reports.
@@ -94,9 +125,8 @@ fn with_reports<'a>(
     let allow = valued(alloc, "allow", "LIBERTIES", allow);
     let all = valued(alloc, "all", "N", help::ALL);
     let report = valued(alloc, "report", "FILE", help::REPORT);
-    let junit = valued(alloc, "junit", "FILE", help::JUNIT);
-    let command = with_argument(with_argument(command, allow)?, all)?;
-    with_argument(with_argument(command, report)?, junit)
+    let command = with_three(command, allow, all, report)?;
+    with_argument(command, valued(alloc, "junit", "FILE", help::JUNIT))
 }
 
 /// `tltool monitor`.
@@ -110,10 +140,8 @@ pub fn monitor<'a>(alloc: Global) -> Result<clap::Command<'a>, AllocError>
         "Checks each link of a recorded trace: writes `clean N` for N beats, or the first line at fault",
         help::TRACE,
     );
-    with_argument(
-        with_reports(alloc, monitor, help::ALLOW)?,
-        file(alloc, FILE_HELP),
-    )
+    let monitor = with_reports(alloc, monitor, help::ALLOW)?;
+    with_argument(monitor, file(alloc, FILE_HELP))
 }
 
 /// `tltool coherent`.
@@ -127,10 +155,8 @@ pub fn coherent<'a>(alloc: Global) -> Result<clap::Command<'a>, AllocError>
         "Checks all links of a manager together: writes `coherent N` for N beats, or the first line at fault",
         help::TOGETHER,
     );
-    with_argument(
-        with_reports(alloc, coherent, help::ALLOW)?,
-        file(alloc, FILE_HELP),
-    )
+    let coherent = with_reports(alloc, coherent, help::ALLOW)?;
+    with_argument(coherent, file(alloc, FILE_HELP))
 }
 
 /// `tltool explain`.
@@ -146,22 +172,9 @@ pub fn explain<'a>(alloc: Global) -> Result<clap::Command<'a>, AllocError>
         "Writes the verdict of `monitor` on FILE with its reasons, or says what a code means",
         help::EXPLAIN,
     );
-    let explain = with_argument(with_argument(explain, coherent)?, allow)?;
+    let times = valued(alloc, "times", "FILE", help::TIMES);
+    let explain = with_three(explain, coherent, allow, times)?;
     with_argument(explain, file(alloc, EXPLAINED_HELP))
-}
-
-/// Adds to a command: the lines and the block of a chart.
-fn with_range<'a>(
-    alloc: Global,
-    command: clap::Command<'a>,
-) -> Result<clap::Command<'a>, AllocError>
-    requires { (out-Command command).has_globals ≡ false }
-    ensures app { IfOk result (λ c. app_of c ≡ with_range (app_of command.entry)) }
-    ensures local { IfOk result (λ c. (out-Command c).has_globals ≡ false) }
-{
-    let lines = valued(alloc, "lines", "A-B", help::LINES);
-    let block = valued(alloc, "block", "BBB", help::BLOCK);
-    with_argument(with_argument(command, lines)?, block)
 }
 
 /// `tltool chart`.
@@ -175,8 +188,10 @@ pub fn chart<'a>(alloc: Global) -> Result<clap::Command<'a>, AllocError>
         "Draws the messages of a recorded trace as a sequence chart, in SVG",
         help::CHART,
     );
+    let lines = valued(alloc, "lines", "A-B", help::LINES);
+    let block = valued(alloc, "block", "BBB", help::BLOCK);
     let allow = valued(alloc, "allow", "LIBERTIES", help::ALLOW);
-    let chart = with_argument(with_range(alloc, chart)?, allow)?;
+    let chart = with_three(chart, lines, block, allow)?;
     with_argument(chart, file(alloc, FILE_HELP))
 }
 
@@ -197,8 +212,7 @@ pub fn cover<'a>(alloc: Global) -> Result<clap::Command<'a>, AllocError>
         "Counts the situations in which the messages of recorded traces begin",
         help::COVER,
     );
-    let cover = with_argument(with_argument(cover, tables)?, json)?;
-    with_argument(cover, files(alloc, FILES_HELP))
+    with_three(cover, tables, json, files(alloc, FILES_HELP))
 }
 
 /// `tltool run`.
@@ -218,8 +232,7 @@ pub fn run<'a>(alloc: Global) -> Result<clap::Command<'a>, AllocError>
         "Runs a schedule on a manager and its clients: writes the outcome of each event",
         help::RUN,
     );
-    let run = with_argument(with_argument(run, trace)?, commits)?;
-    with_argument(run, file(alloc, FILE_HELP))
+    with_three(run, trace, commits, file(alloc, FILE_HELP))
 }
 
 /// The program with its commands that read traces.
@@ -339,10 +352,7 @@ fn drawing<'a>(alloc: Global) -> Result<clap::Command<'a>, AllocError>
         "Writes a random schedule for `run`",
         help::RANDOM,
     );
-    with_argument(
-        with_argument(with_argument(random, seed)?, events)?,
-        contend,
-    )
+    with_three(random, seed, events, contend)
 }
 
 /// The same with the options for the size of the world.
@@ -350,11 +360,11 @@ fn sizing<'a>(alloc: Global) -> Result<clap::Command<'a>, AllocError>
     ensures app { IfOk result (λ c. app_of c ≡ sizing_of) }
     ensures local { IfOk result (λ c. (out-Command c).has_globals ≡ false) }
 {
+    let drawing = drawing(alloc)?;
     let clients = valued(alloc, "clients", "LIST", help::CLIENTS);
     let blocks = valued(alloc, "blocks", "N", help::BLOCKS);
     let trackers = valued(alloc, "trackers", "N", help::TRACKERS);
-    let random = with_argument(drawing(alloc)?, clients)?;
-    with_argument(with_argument(random, blocks)?, trackers)
+    with_three(drawing, clients, blocks, trackers)
 }
 
 /// `tltool random`.
@@ -362,9 +372,9 @@ pub fn random<'a>(alloc: Global) -> Result<clap::Command<'a>, AllocError>
     ensures app { IfOk result (λ c. app_of c ≡ random_of) }
     ensures local { IfOk result (λ c. (out-Command c).has_globals ≡ false) }
 {
-    let width = valued(alloc, "width", "BYTES", help::WIDTH);
-    let profile = valued(alloc, "profile", "P", help::PROFILE);
-    with_argument(with_argument(sizing(alloc)?, width)?, profile)
+    let sizing = sizing(alloc)?;
+    let random = with_argument(sizing, valued(alloc, "width", "BYTES", help::WIDTH))?;
+    with_argument(random, valued(alloc, "profile", "P", help::PROFILE))
 }
 
 /// The program with all its commands.

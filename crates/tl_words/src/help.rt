@@ -247,6 +247,10 @@ pub const CHART: &str = outcomes_of_a_trace!(
     "\n  tltool run --trace schedules/a_release_races_with_a_probe.schedule | tltool chart >race.svg",
 );
 
+/// The help on `--times`.
+pub const TIMES: &str =
+    "Write the time of each line that is cited: FILE has a number a line, from the trace's second line on";
+
 /// The help on `--tables`.
 pub const TABLES: &str =
     "Write the tables of each link too: messages by opcode, param and bytes, and by the permission held before";

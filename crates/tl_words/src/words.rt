@@ -1,6 +1,6 @@
 //! Reads the program's words: `tltool decode [--wide] [--width BYTES] [FILE]`, `tltool monitor [--allow LIBERTIES] [--all N]
 //! [--report FILE] [--junit FILE] [FILE]`, `tltool coherent` with the same options, `tltool explain [--coherent]
-//! [--allow LIBERTIES] FILE`, `tltool chart [--lines A-B] [--block BBB] [--allow LIBERTIES]
+//! [--allow LIBERTIES] [--times FILE] FILE`, `tltool chart [--lines A-B] [--block BBB] [--allow LIBERTIES]
 //! [FILE]`, `tltool cover [--tables] [--json] [FILE..]`, `tltool run [--trace] [--commits] [FILE]`, `tltool random --seed N`
 //! with its options, and those that ask for help or the version.
 
@@ -321,6 +321,7 @@ fn read(alloc: Global, name: &str, allow: Liberties, found: &ArgMatches) -> Resu
     let commits = found.get_str("commits");
     let coherent = found.get_str("coherent");
     let name_of_file = found.get_str("FILE");
+    let name_of_times = found.get_str("times");
     if let Some(word) = found.get_str("all") {
         return search(alloc, name, allow, word, name_of_file);
     }
@@ -328,10 +329,12 @@ fn read(alloc: Global, name: &str, allow: Liberties, found: &ArgMatches) -> Resu
         return Err(WordsFault::Usage(wrong_words(alloc, name, width)?));
     };
     let file = copied(alloc, name_of_file)?;
+    let times = copied(alloc, name_of_times)?;
     Ok(Task::Read {
         command,
         allow,
         file,
+        times,
     })
 }
 

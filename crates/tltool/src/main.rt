@@ -12,6 +12,7 @@ mod cover;
 mod decode;
 mod front;
 mod report;
+mod times;
 mod wide;
 
 use chart::chart;
@@ -23,6 +24,7 @@ use std::fs::File;
 use std::io::{Read, Write};
 use std::process::ExitCode;
 use std::{env, fs, io};
+use times::explain_timed;
 use tl_command::random::Options;
 use tl_command::search::Aim;
 use tl_command::task::Task;
@@ -124,12 +126,12 @@ fn run_file<R: Read + Drop, W: Write>(
 
 /// Writes the explanation of the rule or fault of this name, or says that there is no such file. Returns the exit
 /// status.
-fn explain_name(rt: &HostRuntime, name: &str) -> u8 {
+fn explain_name<W: Write>(rt: &HostRuntime, name: &str, output: &mut W) -> u8 {
     let mut text = Vec::new(rt.alloc());
     match tell_named(name, &mut text) {
         Err(_) => told(rt, Err(ToolFault::Memory)),
         Ok(false) => unopened(rt, name),
-        Ok(true) => match write_all(&mut io::writer(rt), &text) {
+        Ok(true) => match write_all(output, &text) {
             Ok(()) => 0,
             Err(fault) => told(rt, Err(fault)),
         },
@@ -205,9 +207,15 @@ fn allow_over<R: Read, W: Write>(
 
 /// Explains the file of this name, or the rule or fault of this name if there is no such file. These liberties are
 /// allowed beyond those that the header names. Returns the exit status.
-fn explain(rt: &HostRuntime, coherent: bool, allow: Liberties, name: &str) -> u8 {
+pub(crate) fn explain<W: Write>(
+    rt: &HostRuntime,
+    coherent: bool,
+    allow: Liberties,
+    name: &str,
+    output: &mut W,
+) -> u8 {
     let Ok(mut first) = fs::open(rt, name) else {
-        return explain_name(rt, name);
+        return explain_name(rt, name, output);
     };
     if is_read_once(&first) {
         let _ = write_once(name, &mut rt.stderr());
@@ -216,54 +224,41 @@ fn explain(rt: &HostRuntime, coherent: bool, allow: Liberties, name: &str) -> u8
     let Ok(mut second) = fs::open(rt, name) else {
         return unopened(rt, name);
     };
-    let mut output = io::writer(rt);
     if is_wide_file(rt, name) {
-        return explain_wide_over(
-            rt,
-            coherent,
-            allow,
-            name,
-            &mut first,
-            &mut second,
-            &mut output,
-        );
+        return explain_wide_over(rt, coherent, allow, name, &mut first, &mut second, output);
     }
     if is_commits_file(rt, name) {
-        return explain_commits_over(
-            rt,
-            coherent,
-            allow,
-            name,
-            &mut first,
-            &mut second,
-            &mut output,
-        );
+        return explain_commits_over(rt, coherent, allow, name, &mut first, &mut second, output);
     }
-    let explained = explain_over(
-        rt,
-        coherent,
-        allow,
-        name,
-        &mut first,
-        &mut second,
-        &mut output,
-    );
+    let explained = explain_over(rt, coherent, allow, name, &mut first, &mut second, output);
     if explained != 1 || coherent {
         return explained;
     }
     match fs::open(rt, name) {
-        Ok(mut third) => allow_over(rt, explained, allow, &mut third, &mut output),
+        Ok(mut third) => allow_over(rt, explained, allow, &mut third, output),
         Err(_) => unopened(rt, name),
     }
 }
 
-/// Runs a command over standard input, or over the file of this name. Returns the exit status.
-fn read(rt: &HostRuntime, command: Command, allow: Liberties, name: Option<String>) -> u8 {
+/// Runs a command over standard input, or over the file of this name. For `explain` the file of the name `times` has the
+/// times of the trace's lines. Returns the exit status.
+fn read(
+    rt: &HostRuntime,
+    command: Command,
+    allow: Liberties,
+    name: Option<String>,
+    times: Option<String>,
+) -> u8 {
     let mut output = io::writer(rt);
-    match (command, name) {
-        (_, None) => run_over(rt, command, allow, &mut rt.reader(), &mut output),
-        (Command::Explain { coherent }, Some(name)) => explain(rt, coherent, allow, name.as_str()),
-        (_, Some(name)) => {
+    match (command, name, times) {
+        (_, None, _) => run_over(rt, command, allow, &mut rt.reader(), &mut output),
+        (Command::Explain { coherent }, Some(name), None) => {
+            explain(rt, coherent, allow, name.as_str(), &mut output)
+        }
+        (Command::Explain { coherent }, Some(name), Some(times)) => {
+            explain_timed(rt, coherent, allow, name.as_str(), times.as_str())
+        }
+        (_, Some(name), _) => {
             let opened = fs::open(rt, name.as_str());
             run_file(rt, command, allow, name.as_str(), opened, &mut output)
         }
@@ -305,7 +300,8 @@ fn run(rt: &HostRuntime, task: Task) -> u8 {
             command,
             allow,
             file,
-        } => read(rt, command, allow, file),
+            times,
+        } => read(rt, command, allow, file, times),
         Task::DecodeWide { width, file } => decode(rt, width, file),
         Task::Search { aim, file } => find(rt, aim, file),
         Task::Report {

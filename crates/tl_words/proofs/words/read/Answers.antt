@@ -50,4 +50,5 @@ returns-clause-read c = (
   c.requires.unreported,
   c.requires.allowed,
   c.requires.plain,
+  c.in_ok-times.ensures ∙ c.get_str-name_of_times.ensures ∙ first_value-rows (found_of c.args.found.now) (codes "times"),
 )

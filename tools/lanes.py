@@ -7,12 +7,8 @@ import subprocess
 import time
 from collections.abc import Callable, Iterable, Iterator
 
-# A command hardly gains from more jobs than these.
-MOST_JOBS = 4
-# The jobs of the command with the longest chain, where others wait for a processor too.
-URGENT_JOBS = 3
-# The jobs that run beyond the processors: those of one command wait for each other at times.
-BEYOND = 1
+# A command that has more jobs than these takes twice the processor time of one job, and hardly less wall time than with these.
+MOST_JOBS = 2
 # What a job beyond the first takes, as a part of the command's memory.
 SHARE = 0.4
 
@@ -68,19 +64,17 @@ def chains(tasks: Iterable[Task]) -> dict[str, float]:
     return found
 
 
-def choose(ready: list[Task], running: list[Running], chain: dict[str, float], cores: int, memory: float) -> list[tuple[Task, int]]:
-    """The commands to start now, each with its number of jobs, of those that are ready, the longest chain first. Processors for
-    which no command waits go to more jobs."""
-    longest = max(chain[it.name] for it in [*ready, *(it.task for it in running)])
+def choose(ready: list[Task], running: list[Running], cores: int, memory: float) -> list[tuple[Task, int]]:
+    """The commands to start now, each with its number of jobs, of those that are ready, in their order. Each has one job where
+    others wait for a processor. Processors for which no command waits go to second jobs."""
     used = sum(it.jobs for it in running)
     free = memory - sum(it.task.needs(it.jobs) for it in running)
     chosen = []
     for at, task in enumerate(ready):
-        idle = cores + BEYOND - used
+        idle = cores - used
         if idle <= 0:
             break
-        wanted = URGENT_JOBS if chain[task.name] == longest else 1
-        jobs = min(max(wanted, idle // (len(ready) - at)), idle, MOST_JOBS)
+        jobs = min(max(1, idle // (len(ready) - at)), MOST_JOBS)
         while jobs > 1 and task.needs(jobs) > free:
             jobs -= 1
         if task.needs(jobs) <= free or not (running or chosen):
@@ -107,7 +101,7 @@ def run(tasks: Iterable[Task], start: Callable[[Task, int], subprocess.Popen], c
     try:
         while left or running:
             ready = [it for it in left if it.waits <= ended]
-            for task, jobs in choose(ready, list(running.values()), chain, cores, memory):
+            for task, jobs in choose(ready, list(running.values()), cores, memory):
                 left.remove(task)
                 child = start(task, jobs)
                 running[child.pid] = Running(task, jobs, child, time.monotonic())

@@ -218,7 +218,7 @@ fn acknowledgment<const W: usize>(line: &[u8], beat: &mut Beat<W>) -> Option<Lin
 
 /// Reads a line that has each byte at its place into `beat`, and returns its link. If the length of the line depends on
 /// the width, it does so only for beats of eight bytes. `USE` has no meaning: the compiler makes the code of each use by
-/// itself, and leaves out what that use doesn't need.
+/// itself, and leaves out the fields that the use doesn't read.
 #[inline(always)]
 pub(crate) fn spelled_line<const W: usize, const USE: usize>(
     line: &[u8],

@@ -1,4 +1,3 @@
-use Rattle.std.proofs.Common.{◌∙◌}
 use Rattle.tl_beat.proofs.LineAt.{line_at-is}
 use Rattle.tl_beat.proofs.Placed.{link-spells}
 use Rattle.tl_beat.proofs.read.read_spelled.Goals as goal

@@ -1,6 +1,6 @@
 -- What is read over a beat.
-use Rattle.std.proofs.Common.{◌≡◌, List, ℕ, refl, ap}
-use Rattle.std.specs.Prelude.{Result, Ok, Err, Option, IfOk, IfErr, MatchOption}
+use Rattle.std.proofs.Common.{◌≡◌, List, ℕ, refl, ap, sym, ◌∙◌}
+use Rattle.std.specs.Prelude.{Result, Ok, Err, Option, Some, None, IfOk, IfErr, MatchOption}
 use Rattle.std.specs.Result.{result_ok, result_err}
 use Rattle.tl_beat.specs.declared.beat.Link.{Link}
 use Rattle.tl_beat.specs.declared.beat.Beat.{Beat}
@@ -8,7 +8,7 @@ use Rattle.tl_beat.specs.declared.fault.LineFault.{LineFault}
 use Rattle.tl_beat.specs.statement.Width.{IsWidth}
 use Rattle.tl_beat.specs.statement.Line.{Spells}
 use Rattle.tl_beat.specs.code.Reading.{reading}
-use Rattle.tl_beat.specs.code.FromLeft.{placed}
+use Rattle.tl_beat.specs.code.FromLeft.{line_at, placed}
 use Rattle.tl_beat.proofs.ReadFields.{ok_is}
 use Rattle.tl_beat.proofs.ReadLines.{ok-spells}
 
@@ -36,3 +36,10 @@ pub placed-read : {w : ℕ} (r : Result Link LineFault) (old new : Beat w) (body
     → MatchOption link (new ≡ old) (λ link. body ≡ Ok (link, new))
 placed-read (Ok l) old new body link e read kept = rw e read
 placed-read (Err fault) old new body link e read kept = rw e kept
+
+-- a line that is read so spells the beat
+pub link-spells : {w : ℕ} (line : List ℕ) (r : Option Link) (old new : Beat w) → IsWidth w → line_at line ≡ reading w line
+    → MatchOption r (new ≡ old) (λ link. line_at line ≡ Ok (link, new))
+    → MatchOption r (new ≡ old) (λ link. Spells line link new)
+link-spells line None old new width same kept = kept
+link-spells line (Some link) old new width same read = ok-spells line (Ok (link, new)) width (sym read ∙ same)

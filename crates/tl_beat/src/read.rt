@@ -18,6 +18,11 @@ use crate::fault::LineFault;
 use crate::read::line::{any_head, line_a, line_b, line_c, line_d, line_e, spelled_head};
 use crate::read::whole::spelled_line;
 
+/// The uses of `spelled_line`: by `read_into` and `read_line`, and by `read_spelled`.
+const ANY_USE: usize = 0;
+
+const OWN_USE: usize = 1;
+
 /// The byte after the first space, if it is a field of its own.
 pub fn letter(bytes: &[u8]) -> Option<u8>
     ensures { result ≡ letter_in bytes.now }
@@ -161,7 +166,7 @@ fn place_line<const W: usize>(line: &[u8], beat: &mut Beat<W>) -> Result<Link, L
     ensures read { placed result beat.new ≡ line_at line.now }
     ensures unchanged { IfErr result (λ _. beat.new ≡ beat.old) }
 {
-    match spelled_line(line, beat) {
+    match spelled_line::<W, ANY_USE>(line, beat) {
         Some(link) => Ok(link),
         None => any_line(line, beat),
     }
@@ -176,6 +181,17 @@ fn whole_line<const W: usize>(line: &[u8]) -> Result<(Link, Beat<W>), LineFault>
     let mut beat = Beat::E(BeatE { sink: 0 });
     let link = place_line(line, &mut beat)?;
     Ok((link, beat))
+}
+
+/// Reads a line that has each byte at its place, as most lines of beats without data or of eight bytes have, into
+/// `beat`, and returns its link. If there is no link, nothing is said of the line, and the beat stays as it was. The
+/// compiler leaves out the fields that the caller doesn't use, if no other call takes the beat by reference.
+#[inline(always)]
+pub fn read_spelled<const W: usize>(line: &[u8], beat: &mut Beat<W>) -> Option<Link>
+    requires { IsWidth W }
+    ensures { MatchOption result (beat.new ≡ beat.old) (λ link. Spells line.now link beat.new) }
+{
+    spelled_line::<W, OWN_USE>(line, beat)
 }
 
 /// Reads a line of text, with its line feed, into a beat of `W` bytes (4, 8 or 16), and returns its link. The error for

@@ -217,9 +217,13 @@ fn acknowledgment<const W: usize>(line: &[u8], beat: &mut Beat<W>) -> Option<Lin
 }
 
 /// Reads a line that has each byte at its place into `beat`, and returns its link. If the length of the line depends on
-/// the width, it does so only for beats of eight bytes.
+/// the width, it does so only for beats of eight bytes. `USE` has no meaning: the compiler makes the code of each use by
+/// itself, and leaves out the fields that the use doesn't read.
 #[inline(always)]
-pub(crate) fn spelled_line<const W: usize>(line: &[u8], beat: &mut Beat<W>) -> Option<Link>
+pub(crate) fn spelled_line<const W: usize, const USE: usize>(
+    line: &[u8],
+    beat: &mut Beat<W>,
+) -> Option<Link>
     ensures { MatchOption result (beat.new ≡ beat.old) (λ link. line_at line.now ≡ Ok (link, beat.new)) }
 {
     match line.len() {

@@ -1,12 +1,7 @@
-use Rattle.std.proofs.Common.{sym}
-use Rattle.tl_engine.proofs.Decoded.{good_line, bad_line}
+use Rattle.tl_engine.proofs.Decoded.{good_line}
 use Rattle.tl_engine.proofs.decoder.DecoderLineHandler.handle_line.Goals as goal
 
-pub returns-in_ok-append_text-in-Ok-clause-judges : goal.returns-in_ok-append_text-in-Ok-clause-judges
-returns-in_ok-append_text-in-Ok-clause-judges g c =
-    let spells = c.in-Ok.ensures.spelled in
-    good_line g.row.W c.args.line.now _ _ c.in-Ok.field-0 c.read_into.new.beat spells
-    (c.in_ok-append_text-in-Ok.ensures c.in-Ok.field-0 spells)
-
-pub returns-in-Err-clause-judges : goal.returns-in-Err-clause-judges
-returns-in-Err-clause-judges g c = bad_line g.row.W c.args.line.now _ c.in-Err.fault (sym c.in-Err.ensures.fault)
+pub returns-in_ok-append_text-in-Some-clause-judges : goal.returns-in_ok-append_text-in-Some-clause-judges
+returns-in_ok-append_text-in-Some-clause-judges g c =
+    good_line g.row.W c.args.line.now _ _ c.in-Some.field-0 c.read_spelled.new.beat c.in-Some.ensures
+    (c.in_ok-append_text-in-Some.ensures c.in-Some.field-0 c.in-Some.ensures)

@@ -10,7 +10,7 @@ them.
 
 Traces whose beats break a rule of beats, or none: the examples of rules and of pending messages, and those of the worlds below with
 a line left out, said twice or changed, each with lines of loads that begin put between. Of each `TOOL explain`, also with
-`--coherent`, must write what it writes of the trace without these lines, with the numbers of its lines; of M2 and M3 the first lines.
+`--coherent`, must write what it writes of the trace without these lines, with the numbers of its lines; of M1 to M4 the first lines.
 
 Traces of worlds: the schedules of the examples and twenty of `TOOL random`. What `TOOL run --trace --commits` writes of each must
 be what this script makes of the outcomes that `TOOL run` writes; without stores, loads and marks it must be what `TOOL run --trace`
@@ -222,7 +222,7 @@ def reasons_slips(tool, name, trace, seed):
             if not verdict:
                 wanted[0] = f"{wanted[0].split()[0]} {text.count(chr(10)) - 1}"
                 wanted, told = wanted[:-1], told[:-1]
-            elif verdict[2] in ("M2", "M3"):
+            elif verdict[2] in ("M1", "M2", "M3", "M4"):
                 wanted, told = wanted[:3], told[:3]
             if wanted != told:
                 yield f"{name} {seed}: {' '.join(words)} says {told}, and of the beats alone {wanted}"

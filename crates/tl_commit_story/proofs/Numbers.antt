@@ -1,5 +1,5 @@
 -- The beats of a trace with commits, numbered as its lines are.
-use Rattle.std.proofs.Common.{◌≡◌, ◌∙◌, ◌+◌, ◌<◌, ℕ, Bool, true, false, List, [], ◌∷◌, refl, ap, arith, cond, length, suc, sym}
+use Rattle.std.proofs.Common.{◌≡◌, ◌∙◌, ◌+◌, ◌<◌, ℕ, Bool, [], ◌∷◌, refl, ap, arith, cond, length, suc, sym}
 use Rattle.std.proofs.Common.{ne_eqb}
 use Rattle.std.specs.Prelude.{◌==◌}
 use Rattle.tl_beat.specs.declared.beat.Beat.{Beat}

@@ -1,6 +1,6 @@
 //! Follows the events of a trace for the reasons of its first fault.
 
-ghost use Rattle.std.specs.Prelude.{◌≡◌, Bool, [], true, IfOk, IfSome, List};
+ghost use Rattle.std.specs.Prelude.{◌≡◌, [], true, IfOk, IfSome};
 ghost use Rattle.tl_beat.specs.statement.Width.{IsWidth};
 ghost use Rattle.tl_commit_story.specs.code.Followers.{FollowsEvent, KnowsFollower, TellsCopy, TellsGrounds};
 ghost use Rattle.tl_commit_story.specs.code.Following.{KnowsGrounds};
@@ -22,7 +22,7 @@ use tl_monitor::monitor::Monitor;
 use tl_params::level::Level;
 use tl_params::liberties::Liberties;
 
-/// Keeps of the events of a trace what the grounds for its first fault need.
+/// Keeps the facts of a trace's events that the grounds for its first fault need.
 #[derive(Drop)]
 pub enum Follower<const W: usize> {
     /// For a rule of a link.

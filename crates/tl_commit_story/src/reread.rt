@@ -1,6 +1,6 @@
 //! Reads the lines of a trace with commits again, and finds the reasons for the line at fault.
 
-ghost use Rattle.std.specs.Prelude.{◌≡◌, ◌+◌, ◌++◌, [], true, IfOk, None, OnOk};
+ghost use Rattle.std.specs.Prelude.{◌≡◌, [], true, IfOk, None, OnOk};
 ghost use Rattle.tl_beat.specs.statement.Width.{IsWidth};
 ghost use Rattle.tl_engine.specs.statement.Width.{bytes_of};
 ghost use Rattle.tl_commit_story.specs.code.Replaying.{Begins, HasReasons, Reads, ReadsLast};

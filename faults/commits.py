@@ -8,12 +8,17 @@ in words, and for M5 to M7 the last store to each byte, as they are found here i
 must be the one of its number. `TOOL chart` of each must draw the rows of the chart of its beats, and its stores and loads between
 them.
 
+Traces whose beats break a rule of beats, or none: the examples of rules and of pending messages, and those of the worlds below with
+a line left out, said twice or changed, each with lines of loads that begin put between. Of each `TOOL explain`, also with
+`--coherent`, must write what it writes of the trace without these lines, with the numbers of its lines; of M1 to M4 the first lines.
+
 Traces of worlds: the schedules of the examples and twenty of `TOOL random`. What `TOOL run --trace --commits` writes of each must
 be what this script makes of the outcomes that `TOOL run` writes; without stores, loads and marks it must be what `TOOL run --trace`
 writes; and `TOOL coherent` must find no fault in it. Ends with 'commits: N passed, M failed'."""
 import concurrent.futures
 import os
 import pathlib
+import random
 import re
 import subprocess
 import sys
@@ -21,7 +26,8 @@ import tempfile
 
 ROOT = pathlib.Path(__file__).resolve().parent.parent
 MODEL = ROOT / "bench/commits_trial.py"
-SCHEDULES = ROOT / "crates/tl_examples/data/schedules"
+DATA = ROOT / "crates/tl_examples/data"
+SCHEDULES = DATA / "schedules"
 # The options of `random` for each of twenty worlds: widths, profiles and numbers of caches.
 WORLDS = [
     ["--seed", str(seed), "--width", width, "--profile", profile, "--clients", clients, "--blocks", blocks]
@@ -162,6 +168,66 @@ def chart_slips(tool, trace, lines=None):
         yield f"{trace.name}: chart {lines} draws {says}, and ought to draw {ought}, then {follow}, {verdict}"
 
 
+def marked(header):
+    """A header of a trace of beats in the fourth form, with each level C marked; empty if there is none to mark, or no such form."""
+    word, version, *fields = header.split()
+    if word != "tltrace" or version not in "1234":
+        return ""
+    width = fields.pop(0) if version != "1" else "8"
+    liberties = {"3": {"1": "none", "2": "writer"}.get(fields[0]), "4": fields[0]}.get(version, "none")
+    levels = fields[1:] if version in "34" else fields
+    return " ".join(["tltrace 4", width, liberties or "", *(it.replace("C", "C+") for it in levels)]) if "C" in levels else ""
+
+
+def spoiled(lines, rng):
+    """The lines of beats with one of them left out, said twice or changed in a digit of its control fields, or cut off before it."""
+    at = rng.randrange(len(lines))
+    line, digit = lines[at], rng.choice([5, 7, 9, 12, 20])
+    changed = line[:digit] + rng.choice("0123456789abcdef") + line[digit + 1:] if len(line) > digit and line[digit] != " " else line
+    return rng.choice([lines[:at] + lines[at + 1:], lines[:at] + [line] + lines[at:], lines[:at] + [changed] + lines[at + 1:], lines[:at]])
+
+
+def with_begun(header, lines, rng):
+    """A trace with lines of loads that begin between its beats, and for each of its lines the number of the line there."""
+    caches = [link for link, level in enumerate(header.split()[4:]) if level == "C+"]
+    text, numbers = [header], {1: 1}
+    for number, line in enumerate(lines, 2):
+        while rng.random() < 0.4:
+            size = rng.randrange(4)
+            text.append(f"{rng.choice(caches):02x} I {size} {rng.randrange(64) * 8:08x}")
+        text.append(line)
+        numbers[number] = len(text)
+    return "".join(it + "\n" for it in text), numbers
+
+
+def reasons_slips(tool, name, trace, seed):
+    """What is wrong with the reasons for the verdict on a trace of beats with loads that begin between: they must be those of the
+    trace without, with the numbers of its lines."""
+    rng = random.Random(f"{name} {seed}")
+    header, *lines = trace.splitlines()
+    if not marked(header) or any(len(it) > 254 for it in lines):
+        return
+    header = marked(header)
+    with tempfile.TemporaryDirectory() as folder:
+        plain, begun = pathlib.Path(folder, "plain.trace"), pathlib.Path(folder, "begun.trace")
+        plain.write_text("".join(it + "\n" for it in [header.replace("+", ""), *lines]))
+        text, numbers = with_begun(header, lines, rng)
+        begun.write_text(text)
+        for words in ["explain"], ["explain", "--coherent"], ["explain", "--allow", "standard"]:
+            wanted, told = (of(tool, *words, str(it))[0].splitlines() for it in (plain, begun))
+            verdict = re.fullmatch(r"line (\d+) (\w+)", wanted[0])
+            if verdict and verdict[2].startswith("F"):
+                continue
+            wanted = [re.sub(r"(?<=\bline )\d+|^  \d+(?=: )", lambda it: re.sub(r"\d+", lambda n: str(numbers[int(n[0])]), it[0]), it) for it in wanted]
+            if not verdict:
+                wanted[0] = f"{wanted[0].split()[0]} {text.count(chr(10)) - 1}"
+                wanted, told = wanted[:-1], told[:-1]
+            elif verdict[2] in ("M1", "M2", "M3", "M4"):
+                wanted, told = wanted[:3], told[:3]
+            if wanted != told:
+                yield f"{name} {seed}: {' '.join(words)} says {told}, and of the beats alone {wanted}"
+
+
 def header_of(schedule):
     """The header of the trace of a schedule with stores and loads."""
     _, version, *fields = schedule.split("\n")[0].split()
@@ -235,6 +301,13 @@ def main():
         schedules = [(it.name, it.read_text()) for it in sorted(SCHEDULES.glob("*.schedule"))]
         schedules += [(f"random {' '.join(it)}", of(tool, "random", *it)[0]) for it in WORLDS]
         found += pool.map(lambda it: list(world_slips(tool, *it)), schedules)
+        beats = [(it.stem, it.read_text()) for folder in ("rules", "pending") for it in sorted((DATA / folder).glob("*.trace"))]
+        whole = [(name, of(tool, "run", "--trace", text=schedule)[0]) for name, schedule in schedules]
+        rng = random.Random(1)
+        for name, text in whole:
+            header, *lines = [it for it in text.splitlines() if not it.startswith("line ")] or [""]
+            beats += [(f"{name} {i}", "\n".join([header, *spoiled(lines, rng)])) for i in range(8 if len(lines) > 1 else 0)]
+        found += pool.map(lambda it: list(reasons_slips(tool, *it, 0)), [it for it in beats if " S " not in it[1] and " L " not in it[1]])
     for slip in sum(found, []):
         print(slip)
     failed = sum(map(bool, found))

@@ -1,4 +1,6 @@
 pub mod Followed
+pub mod Numbers
+pub mod Recorded
 pub mod Replayed
 pub mod Storied
 pub mod Told

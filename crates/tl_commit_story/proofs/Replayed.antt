@@ -5,9 +5,9 @@ use Rattle.tl_beat.specs.declared.beat.Link.{Link}
 use Rattle.tl_commits.specs.statement.Events.{Events}
 use Rattle.tl_events.specs.declared.commit.Event.{Event}
 use Rattle.tl_events.specs.statement.EventLine.{SpellsEvent}
-use Rattle.tl_commit_story.specs.code.Replaying.{AreReplayed, BeginsGrounds, GoesOn, HasReasons}
+use Rattle.tl_commit_story.specs.code.Replaying.{AreReplayed, BeginsFollowing, GoesOn, HasReasons}
 use Rattle.tl_commit_story.specs.code.Replaying.{KnowsState, Reads, ReadsLast, ReadsOn, TakesLine}
-use Rattle.tl_commit_story.specs.declared.grounds.Grounds.{Grounds}
+use Rattle.tl_commit_story.specs.declared.follower.Follower.{Follower}
 use Rattle.tl_commit_story.specs.declared.replay.Replay.{Replay}
 use Rattle.tl_commit_story.specs.declared.replay.State.{State}
 use Rattle.tl_commit_story.specs.declared.replay.State.TheVariants.{Waiting, Following, Lost}
@@ -27,7 +27,7 @@ module _ {w : ℕ} (old : Replay w) (number : ℕ) (line : List ℕ) (counts : n
   abbrev after : State w → Replay w
   after state = record old { state = state; count = number }
 
-  begun : (g : Grounds w) (lines : List (List ℕ)) → BeginsGrounds old g line → (lines ≡ []) × (old.count ≡ 0)
+  begun : (g : Follower w) (lines : List (List ℕ)) → BeginsFollowing old g line → (lines ≡ []) × (old.count ≡ 0)
       → AreReplayed (after (Following g)) g (lines ++ line ∷ [])
   begun g lines begins (none, first) = record {
     width = begins.width;
@@ -44,7 +44,7 @@ module _ {w : ℕ} (old : Replay w) (number : ℕ) (line : List ℕ) (counts : n
     known = begins.known;
   }
 
-  taken : (g new : Grounds w) (lines : List (List ℕ)) → TakesLine g new number line → AreReplayed old g lines
+  taken : (g new : Follower w) (lines : List (List ℕ)) → TakesLine g new number line → AreReplayed old g lines
       → AreReplayed (after (Following new)) new (lines ++ line ∷ [])
   taken g new lines takes k = record {
     width = k.width;
@@ -58,7 +58,7 @@ module _ {w : ℕ} (old : Replay w) (number : ℕ) (line : List ℕ) (counts : n
     events = (takes.link, takes.event) ∷ k.events;
     are_spelled = one-more takes.link takes.event k.events k.spelled line takes.spells k.are_spelled;
     counted = omega (arith, counts, k.counted);
-    known = takes.takes k.may _ k.events (omega (arith, counts, k.counted)) k.known;
+    known = takes.takes old.together k.may _ k.events (omega (arith, counts, k.counted)) k.known;
   }
 
   -- a line that isn't at fault
@@ -80,12 +80,13 @@ module _ {w : ℕ} (old : Replay w) (number : ℕ) (line : List ℕ) (counts : n
       (line-read mid.state reads.goes)
 
   -- the line at fault
-  pub line-told : (g : Grounds w) (reasons : Vec ℕ) (told : Bool) → old.state ≡ Following g
+  pub line-told : (g : Follower w) (reasons : Vec ℕ) (told : Bool) → old.state ≡ Following g
       → (told ≡ true → HasReasons g old.fault number line reasons.items)
       → ReadsLast old (record old { told = told; reasons = reasons }) line
   line-told g reasons told at has = λ lines known more is.
       let k : AreReplayed old g lines = subst (λ (s : State w). KnowsState old s lines) at known.1 in
       let why = has is in
+      let so = why.says old.together k.may _ k.events (omega (arith, counts, k.counted)) k.known in
       record {
         width = k.width;
         of_width = k.of_width;
@@ -103,7 +104,9 @@ module _ {w : ℕ} (old : Replay w) (number : ℕ) (line : List ℕ) (counts : n
         link = why.link;
         event = why.event;
         spells = why.spells;
-        says = why.says k.may _ k.events (omega (arith, counts, k.counted)) k.known;
+        grounds = so.0;
+        says = so.1;
+        are = so.2;
       }
 
 -- nothing is told

@@ -56,12 +56,12 @@ story-finishes h count was is tells (Some found) ends = λ lines before known co
 pub told-explains : {w : ℕ} (h : Story w) (together : Bool) (allow : Liberties) (old new : Option (List ℕ))
     (read text verdict reasons : List ℕ) (status : Status) → Consumes old new read
     → JudgedCommits together allow (lines_of read) text status → HasAll KnowsStory EndsStory h (lines_of read) status
-    → h.replay.told ≡ true → h.replay.allow ≡ allow → text ≡ verdict → is_breach h.replay.fault ≡ true
+    → h.replay.told ≡ true → h.replay.together ≡ together → h.replay.allow ≡ allow → text ≡ verdict → is_breach h.replay.fault ≡ true
     → verdict ≡ fault_text (h.replay.count + 1) h.replay.fault → reasons ≡ h.replay.reasons.items
     → Explains together allow old new verdict reasons Broken
-told-explains h together allow old new read text verdict reasons Clean consumed judged (said, known) told is same breach says why =
+told-explains h together allow old new read text verdict reasons Clean consumed judged (said, known) told both is same breach says why =
     let no : true ≡ false = sym told ∙ known.1.0 in absurd cc
-told-explains {w} h together allow old new read text verdict reasons Broken consumed judged ends told is same breach says why =
+told-explains {w} h together allow old new read text verdict reasons Broken consumed judged ends told both is same breach says why =
     (h.replay.fault, (λ _. go (ends told)), λ other. let no : true ≡ false = sym breach ∙ other in absurd cc)
   where
     go : HasTold h.replay (lines_of read) → IsExplained together allow old new verdict reasons h.replay.fault
@@ -86,7 +86,9 @@ told-explains {w} h together allow old new read text verdict reasons Broken cons
       event = it.event;
       spells = it.spells;
       says_line = says ∙ ap (λ (n : ℕ). fault_text n h.replay.fault) (omega (arith, it.counted));
+      grounds = it.grounds;
       says_why = why ∙ it.says;
+      are_grounds = rw (← both) it.are;
     }
 
 -- ---- both readings

@@ -8,7 +8,12 @@ use Rattle.tl_events.specs.declared.commit.Commit.TheVariants as commit
 use Rattle.tl_events.specs.statement.CommitLine.{IsCommit, value_digits}
 use Rattle.tl_commit_story.specs.code.Stored.{last_in, piece_in}
 use Rattle.tl_commit_story.specs.statement.Cached.{Stored}
-use Rattle.tl_commit_story.specs.statement.Grounds.{number_or, store_words, stored_words, stores_from}
+use Rattle.tl_beat.specs.declared.beat.Link.{Link}
+use Rattle.tl_commits.specs.statement.Events.{Events}
+use Rattle.tl_engine.specs.declared.fault.Fault.{Fault}
+use Rattle.tl_events.specs.declared.commit.Event.{Event}
+use Rattle.tl_commit_story.specs.statement.Words.{event_text, sentence_of}
+use Rattle.tl_commit_story.specs.statement.Grounds.{front_of, number_or, store_words, stored_words, stores_from}
 
 -- a commit that a line spells has at most 8 bytes
 pub small-piece : (x : Commit) → IsCommit x → (piece_in x).size ≤ 3
@@ -66,3 +71,11 @@ pub stored-after : (was mid stores : List ℕ) → mid ≡ was ++ codes "  the l
 stored-after was mid [] says some = absurd (omega arith)
 stored-after was mid (b ∷ stores) says some =
     rw says (append_assoc was (codes "  the last stores to these bytes:\n") (b ∷ stores))
+
+-- the sentence and the event, before the grounds
+pub front-told : {w : ℕ} (fault : Fault) (number : ℕ) (link : Link) (x : Event w) (e : Events w)
+    (was one two three is grounds : List ℕ) → number ≡ length e + 2 → was ≡ [] → one ≡ was ++ codes "  "
+    → two ≡ one ++ sentence_of fault → three ≡ two ++ event_text number link x → is ≡ three ++ grounds
+    → is ≡ front_of fault link x e ++ grounds
+front-told fault number link x e was one two three is grounds at none first second third last =
+    rw (last, third, second, first, none, at) refl

@@ -1,4 +1,5 @@
 pub mod Cached
 pub mod Explained
 pub mod Grounds
+pub mod Numbered
 pub mod Words

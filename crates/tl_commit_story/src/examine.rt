@@ -6,6 +6,7 @@ ghost use Rattle.tl_commit_lines.specs.statement.JudgedEvents.{CommitsSoFar, Jud
 ghost use Rattle.tl_engine.specs.statement.Unexplained.{IsUnjudged};
 ghost use Rattle.tl_commit_story.specs.statement.Explained.{ReachesEvents};
 
+use crate::asked::AskedBlocks;
 use std::alloc::{AllocError, Global};
 use std::io::Read;
 use tl_commit_lines::header::read_marked_for;
@@ -29,6 +30,8 @@ pub struct Found {
     pub width: Option<Width>,
     /// The next line with its fault, if that line has an LF and at most 256 bytes.
     pub fault: Option<(Fault, Spelling)>,
+    /// The block of the request that the event of that line answers, if it answers one.
+    pub block: Option<u32>,
 }
 
 impl Found {
@@ -38,6 +41,7 @@ impl Found {
             good: 0,
             width: None,
             fault: None,
+            block: None,
         }
     }
 
@@ -58,7 +62,22 @@ impl Found {
 #[derive(Drop)]
 pub struct EventExaminer<'a> {
     lines: EventLines,
+    asked: AskedBlocks,
     found: &'a mut Found,
+}
+
+impl EventExaminer<'_> {
+    /// Notes a line with its fault, if any.
+    fn note(&mut self, line: &[u8], fault: Option<Fault>) -> Result<(), AllocError>
+        ensures { self.new.lines ≡ self.old.lines }
+    {
+        match fault {
+            None => self.asked.take(self.found.width, line)?,
+            Some(_) => self.found.block = self.asked.answered(self.found.width, line),
+        }
+        self.found.note(line, fault);
+        Ok(())
+    }
 }
 
 impl LineHandler for EventExaminer<'_> {
@@ -77,7 +96,7 @@ impl LineHandler for EventExaminer<'_> {
 
     fn handle_line(&mut self, line: &[u8], out: &mut Vec<u8>) -> Result<Option<Fault>, AllocError> {
         let fault = self.lines.handle_line(line, out)?;
-        self.found.note(line, fault);
+        self.note(line, fault)?;
         Ok(fault)
     }
 
@@ -108,6 +127,7 @@ pub fn examine<R: Read>(
     let mut found = Found::new();
     let examiner = EventExaminer {
         lines: EventLines::new(alloc, together, allow),
+        asked: AskedBlocks::new(alloc),
         found: &mut found,
     };
     let status = in_memory(handle_input(alloc, examiner, reader, verdict))?;

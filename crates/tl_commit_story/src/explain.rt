@@ -10,12 +10,12 @@ ghost use Rattle.tl_engine.specs.statement.Fault.{fault_text};
 ghost use Rattle.tl_commit_lines.specs.code.EventWatching.{events_judged_for};
 ghost use Rattle.tl_commit_story.specs.code.Replaying.{KnowsStory};
 ghost use Rattle.tl_params.specs.declared.liberties.Liberties.{Liberties};
-ghost use Rattle.tl_commit_story.specs.statement.Explained.{Explains, GivesUpEvents, ReachesBoth};
+ghost use Rattle.tl_commit_story.specs.statement.Explained.{Explains, GivesUpEvents, IsPending, ReachesBoth};
 ghost use Rattle.tl_commit_story.specs.statement.Words.{is_breach};
 
-use crate::cached::Cached;
 use crate::examine::{Found, examine};
-use crate::places::block_of;
+use crate::pending::PendingEvents;
+use crate::places::subject_of_event;
 use crate::replay::{Replay, State};
 use crate::sentences::{is_breach, limits, other_words};
 use crate::story::Story;
@@ -41,6 +41,13 @@ fn is_same(one: &[u8], other: &[u8]) -> bool
     one == other
 }
 
+/// Whether both judge all links together, or neither.
+fn is_mode(one: bool, other: bool) -> bool
+    ensures { result ≡ true → one ≡ other }
+{
+    one == other
+}
+
 /// Whether the verdict is that the line after these has this fault.
 fn is_verdict(alloc: Global, count: u64, fault: Fault, verdict: &[u8]) -> Result<bool, AllocError>
     ensures { IfOk result (λ same. same ≡ true → verdict.now ≡ fault_text (count + 1) fault) }
@@ -60,6 +67,7 @@ fn start_of<const W: usize>(
     allow: Liberties,
     fault: Fault,
     line: &Spelling,
+    block: Option<u32>,
 ) -> Option<Story<W>>
     requires { IsWidth W }
     ensures knows { IfSome result (λ story. KnowsStory story [] []) }
@@ -68,15 +76,12 @@ fn start_of<const W: usize>(
     let Ok((link, event)) = read_event::<W>(line.line()) else {
         return None;
     };
-    let cached = Cached {
-        link,
-        block: block_of(&event),
-    };
     Some(Story {
         lines: EventLines::new(alloc, together, allow),
         replay: Replay {
             alloc,
-            cached,
+            together,
+            subject: subject_of_event(link, &event, block),
             allow,
             fault,
             count: 0,
@@ -90,6 +95,7 @@ fn start_of<const W: usize>(
 /// Appends the reasons that the second reading found, if its verdict, `text`, is the same.
 fn append_story<const W: usize>(
     alloc: Global,
+    together: bool,
     allow: Liberties,
     replay: &Replay<W>,
     text: &[u8],
@@ -97,13 +103,17 @@ fn append_story<const W: usize>(
     out: &mut Vec<u8>,
 ) -> Result<(), ExplainFault>
     requires { out.old.items ≡ [] }
-    ensures ok { OnOk result ((replay.now.told ≡ true) × (replay.now.allow ≡ allow) × (text.now ≡ verdict.now)
+    ensures ok { OnOk result ((replay.now.told ≡ true) × (replay.now.together ≡ together)
+        × (replay.now.allow ≡ allow) × (text.now ≡ verdict.now)
         × (is_breach replay.now.fault ≡ true)
         × (verdict.now ≡ fault_text (replay.now.count + 1) replay.now.fault)
         × (out.new.items ≡ replay.now.reasons.items)) }
     ensures fault { IfErr result (λ fault. fault ≢ ExplainFault.Tool ToolFault.Write) }
 {
     if !replay.told || !is_breach(replay.fault) {
+        return Err(ExplainFault::Changed);
+    }
+    if !is_mode(replay.together, together) {
         return Err(ExplainFault::Changed);
     }
     if replay.allow != allow {
@@ -119,7 +129,24 @@ fn append_story<const W: usize>(
     Ok(())
 }
 
-/// Explains the line of an event that breaks a rule.
+/// Appends the pending messages that the second reading found, if it read as many lines.
+fn append_pending<const W: usize>(
+    events: &mut PendingEvents<W>,
+    good: u64,
+    out: &mut Vec<u8>,
+) -> Result<(), ExplainFault>
+    requires { out.old.items ≡ [] }
+    ensures ok { OnOk result (IsPending out.new.items) }
+    ensures fault { IfErr result (λ fault. fault ≢ ExplainFault.Tool ToolFault.Write) }
+{
+    if !events.has_read(good) {
+        return Err(ExplainFault::Changed);
+    }
+    events.tell(out)?;
+    Ok(())
+}
+
+/// Explains the line of an event that breaks a rule, which answers a request of this block, if any.
 fn explain_event<const W: usize, R: Read>(
     alloc: Global,
     together: bool,
@@ -127,6 +154,7 @@ fn explain_event<const W: usize, R: Read>(
     reader: &mut R,
     fault: Fault,
     line: &Spelling,
+    block: Option<u32>,
     verdict: &[u8],
     out: &mut Vec<u8>,
 ) -> Result<(), ExplainFault>
@@ -136,7 +164,7 @@ fn explain_event<const W: usize, R: Read>(
         out.new.items Status.Broken) }
     ensures fault { IfErr result (λ fault. fault ≢ ExplainFault.Tool ToolFault.Write) }
 {
-    let Some(start) = start_of::<W>(alloc, together, allow, fault, line) else {
+    let Some(start) = start_of::<W>(alloc, together, allow, fault, line, block) else {
         return Err(ExplainFault::Changed);
     };
     let mut lines = Lines::new(start);
@@ -149,7 +177,7 @@ fn explain_event<const W: usize, R: Read>(
         }
     }
     let story = lines.into_handler();
-    let told = append_story(alloc, allow, &story.replay, &text, verdict, out);
+    let told = append_story(alloc, together, allow, &story.replay, &text, verdict, out);
     drop(story);
     told
 }
@@ -163,6 +191,7 @@ fn explain_breach<R: Read>(
     width: Width,
     fault: Fault,
     line: &Spelling,
+    block: Option<u32>,
     verdict: &[u8],
     out: &mut Vec<u8>,
 ) -> Result<(), ExplainFault>
@@ -173,13 +202,19 @@ fn explain_breach<R: Read>(
 {
     match width {
         Width::Four => {
-            explain_event::<4, R>(alloc, together, allow, reader, fault, line, verdict, out)
+            explain_event::<4, R>(
+                alloc, together, allow, reader, fault, line, block, verdict, out,
+            )
         }
         Width::Eight => {
-            explain_event::<8, R>(alloc, together, allow, reader, fault, line, verdict, out)
+            explain_event::<8, R>(
+                alloc, together, allow, reader, fault, line, block, verdict, out,
+            )
         }
         Width::Sixteen => {
-            explain_event::<16, R>(alloc, together, allow, reader, fault, line, verdict, out)
+            explain_event::<16, R>(
+                alloc, together, allow, reader, fault, line, block, verdict, out,
+            )
         }
     }
 }
@@ -222,7 +257,16 @@ fn explain_found<R: Read>(
     match (found.width, &found.fault) {
         (Some(width), Some((fault, line))) if is_breach(*fault) => {
             explain_breach(
-                alloc, together, allow, reader, width, *fault, line, verdict, out,
+                alloc,
+                together,
+                allow,
+                reader,
+                width,
+                *fault,
+                line,
+                found.block,
+                verdict,
+                out,
             )
         }
         (_, Some((fault, _))) => explain_other(alloc, found.good, *fault, verdict, out),
@@ -233,7 +277,59 @@ fn explain_found<R: Read>(
     }
 }
 
-/// Appends the reasons of a verdict. A trace at fault is read again.
+/// Lists the messages that are pending at the end of a trace of beats of this width without a fault.
+fn list_pending<const W: usize, R: Read>(
+    alloc: Global,
+    allow: Liberties,
+    reader: &mut R,
+    good: u64,
+    out: &mut Vec<u8>,
+) -> Result<(), ExplainFault>
+    requires width { IsWidth W }
+    requires empty { out.old.items ≡ [] }
+    ensures ok { OnOk result (IsPending out.new.items) }
+    ensures fault { IfErr result (λ fault. fault ≢ ExplainFault.Tool ToolFault.Write) }
+{
+    let mut lines = Lines::new(PendingEvents::<W>::new(alloc, allow));
+    let mut text = Vec::new(alloc);
+    match judge_input(alloc, &mut lines, reader, &mut text) {
+        Ok(_) => {}
+        Err(fault) => {
+            drop(lines);
+            return Err(ExplainFault::Tool(fault));
+        }
+    }
+    let mut events = lines.into_handler();
+    let told = append_pending(&mut events, good, out);
+    drop(events);
+    told
+}
+
+/// Lists the messages that are pending at the end of a trace without a fault, and appends the limits of the verdict.
+fn explain_clean<R: Read>(
+    alloc: Global,
+    together: bool,
+    allow: Liberties,
+    reader: &mut R,
+    found: &Found,
+    out: &mut Vec<u8>,
+) -> Result<(), ExplainFault>
+    requires { out.old.items ≡ [] }
+    ensures ok { OnOk result ((old new : Option (List ℕ)) (verdict : List ℕ) →
+        Explains together allow old new verdict out.new.items Status.Clean) }
+    ensures fault { IfErr result (λ fault. fault ≢ ExplainFault.Tool ToolFault.Write) }
+{
+    match found.width {
+        None => return Err(ExplainFault::Changed),
+        Some(Width::Four) => list_pending::<4, R>(alloc, allow, reader, found.good, out)?,
+        Some(Width::Eight) => list_pending::<8, R>(alloc, allow, reader, found.good, out)?,
+        Some(Width::Sixteen) => list_pending::<16, R>(alloc, allow, reader, found.good, out)?,
+    }
+    out.extend_from_slice(limits(together).as_bytes())?;
+    Ok(())
+}
+
+/// Appends the reasons of a verdict. The trace is read again.
 fn reasons<R: Read>(
     alloc: Global,
     together: bool,
@@ -250,10 +346,7 @@ fn reasons<R: Read>(
     ensures fault { IfErr result (λ fault. fault ≢ ExplainFault.Tool ToolFault.Write) }
 {
     match status {
-        Status::Clean => {
-            out.extend_from_slice(limits(together).as_bytes())?;
-            Ok(())
-        }
+        Status::Clean => explain_clean(alloc, together, allow, reader, found, out),
         Status::Broken => explain_found(alloc, together, allow, reader, found, verdict, out),
     }
 }
@@ -262,16 +355,17 @@ fn reasons<R: Read>(
 /// after it. The links have the liberties that the header names and those that are allowed. The two readers read the
 /// same file from its front. The second reads up to the line at fault, and its verdict is the same.
 ///
-/// For a broken rule the reasons are its sentence and the event at fault. For a rule of stores and loads there follows
-/// the permission that the link of the event holds of the block, with the event at which it last changed; the first
-/// beat of a GrantData, ProbeAckData or ReleaseData of the block that isn't complete; and the last store to each byte
-/// that the event is about. For a line that spells no event they are the sentence of its fault. After a trace without a
-/// fault come the limits of the verdict.
+/// For a broken rule the reasons are its sentence, the event at fault and the grounds. Those of a rule of beats are those of
+/// a trace without stores and loads, with the numbers of these lines. For a rule of stores and loads they are the
+/// permission that the link of the event holds of the block, with the event at which it last changed; the first beat of a
+/// GrantData, ProbeAckData or ReleaseData of the block that isn't complete; and the last store to each byte that the event
+/// is about. For a line that spells no event the reasons are the sentence of its fault. After a trace without a fault come
+/// its pending messages and the limits of the verdict.
 ///
 /// Nothing is written before both readings have reached their ends. After that the only fault is `Write`: the writer
 /// took only a front of the text. `Read` and `Memory` are faults of the first reading, before its verdict and before
-/// the second begins, or of the second. `Changed` comes only after the verdict: the readings differ, or a beat breaks a
-/// rule in a trace without a level C+.
+/// the second begins, or of the second. `Changed` comes only after the verdict: the readings differ, or the header names
+/// no link of level C+.
 pub fn explain_events<R: Read, S: Read, W: Write>(
     alloc: Global,
     together: bool,

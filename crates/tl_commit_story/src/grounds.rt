@@ -10,6 +10,7 @@ ghost use Rattle.tl_beat.specs.statement.Width.{IsWidth};
 ghost use Rattle.tl_burst.specs.statement.Part.{is_small};
 ghost use Rattle.tl_commits.specs.statement.Events.{Events, beats_of};
 ghost use Rattle.tl_events.specs.declared.commit.Event.TheVariants as event;
+ghost use Rattle.tl_events.specs.statement.EventLine.{SpellsEvent};
 ghost use Rattle.tl_explain.specs.statement.Sentences.{beat_line};
 ghost use Rattle.tl_monitor.specs.statement.Knows.{KnowsUnder, held_on_under};
 ghost use Rattle.tl_params.specs.declared.level.Level.{Level};
@@ -27,7 +28,7 @@ use crate::under_way::UnderWay;
 use crate::words::append_digits;
 use std::alloc::{AllocError, Global};
 use tl_beat::beat::{Beat, BeatD, Link};
-use tl_events::commit::Commit;
+use tl_events::commit::{Commit, Event};
 use tl_explain::bursts::is_small;
 use tl_explain::words::{append_beat_line, perm_name};
 use tl_memory::message::both;
@@ -64,7 +65,7 @@ fn is_asked(asked: Option<Request>, block: u32) -> bool
 }
 
 /// Pushes a beat to a monitor. Returns true if it took the beat.
-fn push<const W: usize>(
+pub fn push<const W: usize>(
     monitor: &mut Monitor<W>,
     link: Link,
     beat: &Beat<W>,
@@ -140,9 +141,8 @@ fn append_begun(label: &str, begun: &[u8], out: &mut Vec<u8>) -> Result<(), Allo
 impl<const W: usize> Grounds<W> {
     /// Nothing is known. The monitor has seen no beat.
     pub fn new(alloc: Global, cached: Cached, monitor: Monitor<W>) -> Grounds<W>
-        ensures knows { (levels : List Level) (may : Liberties) → KnowsUnder monitor.entry levels may [] false →
+        ensures { (levels : List Level) (may : Liberties) → KnowsUnder monitor.entry levels may [] false →
             KnowsGrounds result may levels [] }
-        ensures cached { result.cached ≡ cached }
     {
         Grounds {
             cached,
@@ -203,7 +203,7 @@ impl<const W: usize> Grounds<W> {
     }
 
     /// Takes the beat of the line with this number. Returns true if a monitor takes it.
-    pub fn take_beat(
+    fn take_beat(
         &mut self,
         number: u64,
         line: &[u8],
@@ -212,8 +212,7 @@ impl<const W: usize> Grounds<W> {
     ) -> Result<bool, AllocError>
         requires width { IsWidth W }
         requires spelled { Spells line.now link beat.now }
-        ensures cached { self.new.cached ≡ self.old.cached }
-        ensures takes { IfOk result (λ on. on ≡ true → TakesEvent self.old self.new number link (event.Beat beat.now)) }
+        ensures { IfOk result (λ on. on ≡ true → TakesEvent self.old self.new number link (event.Beat beat.now)) }
     {
         if !is_small(beat) {
             return Ok(false);
@@ -229,10 +228,9 @@ impl<const W: usize> Grounds<W> {
     }
 
     /// Takes the commit of the line with this number.
-    pub fn take_commit(&mut self, number: u64, link: Link, commit: Commit)
+    fn take_commit(&mut self, number: u64, link: Link, commit: Commit)
         requires { (piece_in commit).size ≤ 3 }
-        ensures cached { self.new.cached ≡ self.old.cached }
-        ensures takes { TakesEvent self.old self.new number link (event.Commit commit) }
+        ensures { TakesEvent self.old self.new number link (event.Commit commit) }
     {
         if let Commit::Store { piece, value } = commit {
             let store = StoreLine {
@@ -242,6 +240,27 @@ impl<const W: usize> Grounds<W> {
                 value,
             };
             self.stores.take(self.cached.block, store);
+        }
+    }
+
+    /// Takes the event of the line with this number. Returns true if a monitor takes it.
+    pub fn take(
+        &mut self,
+        number: u64,
+        line: &[u8],
+        link: Link,
+        event: &Event<W>,
+    ) -> Result<bool, AllocError>
+        requires width { IsWidth W }
+        requires spelled { SpellsEvent line.now link event.now }
+        ensures { IfOk result (λ on. on ≡ true → TakesEvent self.old self.new number link event.now) }
+    {
+        match event {
+            Event::Beat(beat) => self.take_beat(number, line, link, beat),
+            Event::Commit(commit) => {
+                self.take_commit(number, link, *commit);
+                Ok(true)
+            }
         }
     }
 

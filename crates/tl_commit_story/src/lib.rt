@@ -1,10 +1,15 @@
 //! Explains the verdict on a trace of beats, and of stores and loads of cores beside them.
 #![tactic(auto)]
 
+mod asked;
 mod cached;
 mod examine;
 pub mod explain;
+mod follower;
 mod grounds;
+mod link_record;
+mod numbered;
+mod pending;
 mod places;
 mod replay;
 mod reread;

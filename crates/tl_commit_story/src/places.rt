@@ -3,8 +3,10 @@
 ghost use Rattle.std.specs.Prelude.{◌≡◌, ◌+◌, ◌≤◌, ◌%◌, ◌^◌, IfSome};
 ghost use Rattle.tl_commit_story.specs.statement.Cached;
 
-use tl_beat::beat::Beat;
+use tl_beat::beat::{Beat, Link};
+use tl_engine::explain::subject_of;
 use tl_events::commit::{Commit, Event, Piece};
+use tl_explain::turns::Subject;
 use tl_rules::key::block_at;
 
 /// The number of bytes in a block.
@@ -21,6 +23,23 @@ pub fn block_of<const W: usize>(event: &Event<W>) -> u32
         Event::Commit(Commit::Store { piece, .. }) => block_at(piece.address),
         Event::Commit(Commit::Load { piece, .. }) => block_at(piece.address),
         Event::Commit(Commit::Begin { piece }) => block_at(piece.address),
+    }
+}
+
+/// The subject of a verdict on an event of a link. The block of a response is that of the request that it answers.
+pub fn subject_of_event<const W: usize>(
+    link: Link,
+    event: &Event<W>,
+    block: Option<u32>,
+) -> Subject {
+    match event {
+        Event::Beat(beat) => subject_of(link, beat, block),
+        Event::Commit(_) => Subject {
+            link,
+            block: block_of(event),
+            source: 0,
+            sink: 0,
+        },
     }
 }
 

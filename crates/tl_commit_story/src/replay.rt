@@ -1,9 +1,9 @@
 //! The state of a second reading of a trace with commits.
 
-use crate::cached::Cached;
-use crate::grounds::Grounds;
+use crate::follower::Follower;
 use std::alloc::Global;
 use tl_engine::fault::Fault;
+use tl_explain::turns::Subject;
 use tl_params::liberties::Liberties;
 
 /// How far the lines have been read again.
@@ -12,16 +12,19 @@ pub enum State<const W: usize> {
     /// No line has been read.
     Waiting,
     /// The header, and events after it.
-    Following(Grounds<W>),
+    Following(Follower<W>),
     /// A line that can't be taken: the lines differ from the first reading.
     Lost,
 }
 
-/// Follows a block in the cache of a link up to the line at fault, and finds the reasons for its fault.
+/// Follows the events of a trace up to the line at fault, and finds the reasons for its fault.
 #[derive(Drop)]
 pub struct Replay<const W: usize> {
     pub alloc: Global,
-    pub cached: Cached,
+    /// Whether all links are judged together.
+    pub together: bool,
+    /// The subject of the event at fault.
+    pub subject: Subject,
     /// The liberties of the links beyond those that the header names.
     pub allow: Liberties,
     /// The fault of the line.

@@ -1,24 +1,19 @@
 //! Reads the lines of a trace with commits again, and finds the reasons for the line at fault.
 
-ghost use Rattle.std.specs.Prelude.{◌≡◌, ◌+◌, ◌++◌, [], true, IfOk, None, OnOk};
+ghost use Rattle.std.specs.Prelude.{◌≡◌, [], true, IfOk, None, OnOk};
 ghost use Rattle.tl_beat.specs.statement.Width.{IsWidth};
 ghost use Rattle.tl_engine.specs.statement.Width.{bytes_of};
-ghost use Rattle.tl_commit_story.specs.code.Replaying.{Begins, HasGrounds, HasReasons, Reads, ReadsLast};
+ghost use Rattle.tl_commit_story.specs.code.Replaying.{Begins, HasReasons, Reads, ReadsLast};
 ghost use Rattle.tl_commit_story.specs.code.Replaying.{ReadsLine, ReadsOn, TakesLine};
 
-use crate::grounds::Grounds;
-use crate::places::{block_of, places_of};
+use crate::follower::Follower;
 use crate::replay::{Replay, State};
 use crate::sentences::append_rule;
 use crate::words::append_event;
 use std::alloc::{AllocError, Global};
-use tl_beat::beat::Link;
 use tl_commit_lines::header::read_marked_for;
-use tl_commit_lines::judge::levels_of;
 use tl_engine::fault::Fault;
-use tl_events::commit::Event;
 use tl_events::event::read_event;
-use tl_monitor::monitor::Monitor;
 use tl_params::width::Width;
 
 /// The number of bytes of a beat.
@@ -34,52 +29,23 @@ fn bytes(width: Width) -> usize
 
 /// Takes the event of the line with this number. Returns true if it could be taken.
 fn take_event<const W: usize>(
-    grounds: &mut Grounds<W>,
+    follower: &mut Follower<W>,
     number: u64,
     line: &[u8],
 ) -> Result<bool, AllocError>
     requires { IsWidth W }
-    ensures cached { grounds.new.cached ≡ grounds.old.cached }
-    ensures takes { IfOk result (λ on. on ≡ true → TakesLine grounds.old grounds.new number line.now) }
+    ensures { IfOk result (λ on. on ≡ true → TakesLine follower.old follower.new number line.now) }
 {
     match read_event::<W>(line) {
         Err(_) => Ok(false),
-        Ok((link, Event::Beat(beat))) => grounds.take_beat(number, line, link, &beat),
-        Ok((link, Event::Commit(commit))) => {
-            grounds.take_commit(number, link, commit);
-            Ok(true)
-        }
+        Ok((link, event)) => follower.take(number, line, link, &event),
     }
-}
-
-/// Appends the grounds for the fault of an event. Returns true if they are for it.
-fn append_grounds<const W: usize>(
-    alloc: Global,
-    grounds: &Grounds<W>,
-    fault: Fault,
-    link: Link,
-    event: &Event<W>,
-    out: &mut Vec<u8>,
-) -> Result<bool, AllocError>
-    ensures { IfOk result (λ told. told ≡ true → HasGrounds grounds.now fault link event.now out.old.items out.new.items) }
-{
-    let Fault::CommitRule(_) = fault else {
-        return Ok(true);
-    };
-    if link != grounds.cached.link || block_of(event) != grounds.cached.block {
-        return Ok(false);
-    }
-    let Some((first, count)) = places_of(grounds.giving.came, event) else {
-        return Ok(false);
-    };
-    grounds.tell(alloc, first, count, out)?;
-    Ok(true)
 }
 
 /// Appends the reasons for the fault of the line with this number. Returns true if they are for it.
 fn append_reasons<const W: usize>(
     alloc: Global,
-    grounds: &Grounds<W>,
+    follower: &Follower<W>,
     fault: Fault,
     number: u64,
     line: &[u8],
@@ -87,7 +53,7 @@ fn append_reasons<const W: usize>(
 ) -> Result<bool, AllocError>
     requires width { IsWidth W }
     requires empty { out.old.items ≡ [] }
-    ensures { IfOk result (λ told. told ≡ true → HasReasons grounds.now fault number line.now out.new.items) }
+    ensures { IfOk result (λ told. told ≡ true → HasReasons follower.now fault number line.now out.new.items) }
 {
     let Ok((link, event)) = read_event::<W>(line) else {
         return Ok(false);
@@ -95,7 +61,7 @@ fn append_reasons<const W: usize>(
     out.extend_from_slice(b"  ")?;
     append_rule(fault, out)?;
     append_event(number, line, link, &event, out)?;
-    append_grounds(alloc, grounds, fault, link, &event, out)
+    follower.tell(alloc, fault, link, &event, out)
 }
 
 impl<const W: usize> Replay<W> {
@@ -110,11 +76,17 @@ impl<const W: usize> Replay<W> {
         if bytes(header.width) != W {
             return Ok(State::Lost);
         }
-        let levels = levels_of(self.alloc, header.links.as_slice())?;
-        let monitor = Monitor::with_liberties(self.alloc, levels.as_slice(), header.may);
-        match monitor {
-            Ok(monitor) => Ok(State::Following(Grounds::new(self.alloc, self.cached, monitor))),
-            Err(_) => Err(AllocError),
+        let follower = Follower::new(
+            self.alloc,
+            self.together,
+            self.fault,
+            self.subject,
+            header.links.as_slice(),
+            header.may,
+        )?;
+        match follower {
+            None => Ok(State::Lost),
+            Some(follower) => Ok(State::Following(follower)),
         }
     }
 
@@ -125,8 +97,8 @@ impl<const W: usize> Replay<W> {
     {
         match &mut self.state {
             State::Lost => Ok(()),
-            State::Following(grounds) => {
-                if take_event(grounds, number, line)? {
+            State::Following(follower) => {
+                if take_event(follower, number, line)? {
                     return Ok(());
                 }
                 self.state = State::Lost;
@@ -156,11 +128,11 @@ impl<const W: usize> Replay<W> {
         ensures { OnOk result (ReadsLast self.old self.new line.now) }
     {
         let number = self.count.checked_add(1).ok_or(AllocError)?;
-        let State::Following(grounds) = &self.state else {
+        let State::Following(follower) = &self.state else {
             return Ok(());
         };
         let mut reasons = Vec::new(self.alloc);
-        self.told = append_reasons(self.alloc, grounds, self.fault, number, line, &mut reasons)?;
+        self.told = append_reasons(self.alloc, follower, self.fault, number, line, &mut reasons)?;
         self.reasons = reasons;
         Ok(())
     }

@@ -16,7 +16,7 @@ use tl_params::liberties::{Liberties, Liberty};
 
 /// Appends the line that names these liberties; nothing if there are none. After an error only a front of it may be
 /// appended.
-fn append_line(liberties: &[Liberty], out: &mut Vec<u8>) -> Result<(), AllocError>
+pub fn append_line(liberties: &[Liberty], out: &mut Vec<u8>) -> Result<(), AllocError>
     ensures { OnOk result (out.new.items ≡ out.old.items ++ allowed_line liberties.now) }
 {
     if liberties.is_empty() {

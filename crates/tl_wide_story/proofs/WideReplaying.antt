@@ -12,15 +12,14 @@ use Rattle.tl_engine.specs.declared.fault.Fault.{Fault}
 use Rattle.tl_engine.specs.declared.fault.Fault.TheVariants as fault
 use Rattle.tl_engine.specs.declared.status.Status.{Status}
 use Rattle.tl_engine.specs.declared.status.Status.TheVariants.{Broken, Clean}
-use Rattle.tl_engine.proofs.Explaining.{same_link}
-use Rattle.tl_engine.specs.statement.Explained.{is_of_order}
 use Rattle.tl_engine.specs.statement.Fault.{fault_text}
 use Rattle.tl_engine.specs.statement.Lines.{lines_of}
+use Rattle.tl_evidence.proofs.Guilt.{convicted_on}
+use Rattle.tl_evidence.specs.code.Guilty as guilty
 use Rattle.tl_explain.specs.code.Recorded.{IsRecordUnder}
 use Rattle.tl_explain.specs.declared.recorder.Recorder.{Recorder}
 use Rattle.tl_explain.specs.statement.Evidence.{next_line}
 use Rattle.tl_explain.specs.declared.turns.Subject.{Subject}
-use Rattle.tl_explain.specs.statement.Reasons.{IsEvidenceUnder, IsSubject}
 use Rattle.tl_params.specs.declared.level.Level.{Level}
 use Rattle.tl_params.specs.declared.liberties.Liberties.{Liberties}
 use Rattle.tl_params.specs.declared.rule.Rule.{Rule}
@@ -41,14 +40,14 @@ use Rattle.tl_wide_lines.specs.code.FirstFault.{beats_taken, behind, with_parts}
 use Rattle.tl_wide_lines.specs.code.WideDecoding.{is_wide_width}
 use Rattle.tl_wide_story.specs.code.WideReplaying.{AreRecorded, Concludes, CountsLine}
 use Rattle.tl_wide_story.specs.code.WideReplaying.{EndsReplay, GoesOnWide, GoesOrEnds}
-use Rattle.tl_wide_story.specs.code.WideReplaying.{HasReason, HasTold, IsFresh, IsGuilty, IsKept, IsNoted, KnowsReplay}
+use Rattle.tl_wide_story.specs.code.WideReplaying.{HasTold, IsFresh, IsGuilty, IsKept, IsNoted, KnowsReplay}
 use Rattle.tl_wide_story.specs.code.WideReplaying.{PassedBeat, PassesBeat, PassesParts, ReadsBeat, Records, TakesHeader}
 use Rattle.tl_wide_story.specs.code.WideReplaying.{TakesLine, TellsLine, sentence_of}
 use Rattle.tl_wide_story.specs.declared.reread.Passed.{Passed}
 use Rattle.tl_wide_story.specs.declared.reread.Passed.TheVariants.{Strange, Taken, Told}
 use Rattle.tl_wide_story.specs.declared.replay.WideReplay.{WideReplay}
 use Rattle.tl_wide_story.specs.declared.story.WideStory.{WideStory}
-use Rattle.tl_wide_story.specs.statement.WideExplained.{ExplainsWide, ExplainsWideFault, IsConvicted}
+use Rattle.tl_wide_story.specs.statement.WideExplained.{ExplainsWide, ExplainsWideFault}
 use Rattle.tl_wide_lines.specs.statement.JudgedTrace.{BeginWith}
 use Rattle.tl_wide_story.specs.statement.WideExplained.{wide_front_text}
 use Rattle.tl_wide_lines.specs.statement.WideHeader.{NamesWide}
@@ -189,24 +188,10 @@ ok_of (Err e) good has = absurd cc
 guilty_rule : (f : Fault) (rule other : Rule) → f ≡ fault.Rule rule → f ≡ fault.Rule other → rule ≡ other
 guilty_rule f rule other is as_well = let same : fault.Rule rule ≡ fault.Rule other = sym is ∙ as_well in cc
 
--- a part for which there is a reason breaks the rule of order
-pub guilty_by_order : {w p : ℕ} (r : WideReplay w) (rule : Rule) (link : Link) (x : Beat p) → r.fault ≡ fault.Rule rule
-    → not (is_of_order rule) ≡ false → IsSubject r.recorder.subject link x → HasReason r rule x → IsGuilty r link x
-guilty_by_order {w} {p} r rule link x is order of reasoned = λ other as_well.
-    let on : r.recorder.subject.link ≡ link = same_link r.recorder.subject link x of in
-    rw (← guilty_rule r.fault rule other is as_well) (
-      on,
-      λ t recorded.
-          let (reason, evidence, convicts) = reasoned t link recorded of in
-          record {
-            by_order = λ yes. (
-              reason,
-              subst (λ (k : Link). IsEvidenceUnder r.may k.0 x reason t) on evidence,
-              convicts,
-            );
-            by_itself = λ no. let both : false ≡ true = sym order ∙ ap not no in absurd cc;
-          },
-    )
+-- a part that breaks the rule of the fault is guilty
+pub guilty_part : {w p : ℕ} (r : WideReplay w) (rule : Rule) (link : Link) (x : Beat p) → r.fault ≡ fault.Rule rule
+    → guilty.IsGuilty r.may r.level r.recorder rule link x → IsGuilty r link x
+guilty_part r rule link x is breaks = λ other as_well. rw (← guilty_rule r.fault rule other is as_well) breaks
 
 -- ---- lines
 
@@ -287,15 +272,6 @@ sixteen_bytes w wide four eight = go (width-is w wide)
     go (inr (inr (inl is))) = rw is refl
     go (inr (inr (inr (inl is)))) = rw is refl
     go (inr (inr (inr (inr is)))) = rw is refl
-
--- the same of the level of the link
-convicted_on : {p : ℕ} (has may : Liberties) (level : Option Level) (levels : List Level) (on link : Link) (rule : Rule)
-    (x : Beat p) (t : Trace p) → has ≡ may → level ≡ slice_get levels on.0 → on ≡ link
-    → IsConvicted has level link rule x t → IsConvicted may (slice_get levels link.0) link rule x t
-convicted_on has may level levels on link rule x t same of_link here convicted =
-    subst (λ (l : Liberties). IsConvicted l (slice_get levels link.0) link rule x t) same
-    (subst (λ (v : Option Level). IsConvicted has v link rule x t)
-    (of_link ∙ ap (λ (k : Link). slice_get levels k.0) here) convicted)
 
 module _ {w : ℕ} (old new : WideReplay w) (line : List ℕ) where
   pub header_read : (old.count == 0) ≡ true → new.told ≡ old.told → TakesHeader old new line → GoesOnWide old new line

@@ -1,49 +1,48 @@
 -- What is known while the lines of a trace with commits are read again, up to the line at fault.
-use Rattle.std.specs.Prelude.{◌≡◌, ◌+◌, ◌++◌, ◌∷◌, ℕ, true, false, [], List, length, Option, Some, None, ⊤}
+use Rattle.std.specs.Prelude.{◌≡◌, ◌+◌, ◌++◌, ◌∷◌, ℕ, Bool, true, false, [], List, length, Option, Some, None, ⊤}
 use Rattle.tl_beat.specs.declared.beat.Link.{Link}
 use Rattle.tl_commits.specs.statement.Events.{Events}
 use Rattle.tl_engine.specs.declared.fault.Fault.{Fault}
 use Rattle.tl_engine.specs.statement.Width.{bytes_of}
 use Rattle.tl_events.specs.declared.commit.Event.{Event}
 use Rattle.tl_events.specs.statement.EventLine.{SpellsEvent}
-use Rattle.tl_params.specs.declared.level.Level.{Level}
 use Rattle.tl_params.specs.declared.liberties.Liberties.{Liberties}
 use Rattle.tl_params.specs.declared.width.Width.{Width}
 use Rattle.tl_commit_lines.specs.code.EventWatching.{KnowsEventLines}
 use Rattle.tl_commit_lines.specs.declared.header.MarkedLevel.{MarkedLevel}
-use Rattle.tl_commit_lines.specs.statement.MarkedHeader.{NamesMarked, levels_of}
-use Rattle.tl_commit_story.specs.code.Following.{KnowsGrounds, TakesEvent}
-use Rattle.tl_commit_story.specs.declared.grounds.Grounds.{Grounds}
+use Rattle.tl_commit_lines.specs.statement.MarkedHeader.{NamesMarked}
+use Rattle.tl_commit_story.specs.code.Followers.{FollowsEvent, KnowsFollower}
+use Rattle.tl_commit_story.specs.declared.follower.Follower.{Follower}
 use Rattle.tl_commit_story.specs.declared.replay.Replay.{Replay}
 use Rattle.tl_commit_story.specs.declared.replay.State.{State}
 use Rattle.tl_commit_story.specs.declared.replay.State.TheVariants.{Waiting, Following, Lost}
 use Rattle.tl_commit_story.specs.declared.story.Story.{Story}
 use Rattle.tl_commit_story.specs.statement.Explained.{AreSpelled}
-use Rattle.tl_commit_story.specs.statement.Grounds.{grounds_of, reasons_of}
+use Rattle.tl_commit_story.specs.statement.Grounds.{AreGrounds, front_of}
 
 -- ---- one line
 
 -- the line is a header of beats of this width, and nothing is known behind it
-pub record BeginsGrounds {w : ℕ} (r : Replay w) (g : Grounds w) (line : List ℕ) : Type 0 where
+pub record BeginsFollowing {w : ℕ} (r : Replay w) (f : Follower w) (line : List ℕ) : Type 0 where
   pub width : Width
   pub may : Liberties
   pub links : List MarkedLevel
   pub of_width : bytes_of width ≡ w
   pub named : NamesMarked r.allow line width may links
-  pub known : KnowsGrounds g may (levels_of links) []
+  pub known : KnowsFollower r.together f may links []
 
 -- what the first line begins
 abbrev pub Begins : {w : ℕ} → Replay w → State w → List ℕ → Type 0
 Begins r Waiting line = ⊥
-Begins r (Following g) line = BeginsGrounds r g line
+Begins r (Following f) line = BeginsFollowing r f line
 Begins r Lost line = ⊤
 
 -- the line of this number spells an event, which was taken
-pub record TakesLine {w : ℕ} (old new : Grounds w) (number : ℕ) (line : List ℕ) : Type 0 where
+pub record TakesLine {w : ℕ} (old new : Follower w) (number : ℕ) (line : List ℕ) : Type 0 where
   pub link : Link
   pub event : Event w
   pub spells : SpellsEvent line link event
-  pub takes : TakesEvent old new number link event
+  pub takes : FollowsEvent old new number link event
 
 -- what came of the state at the line of this number
 abbrev pub GoesOn : {w : ℕ} → Replay w → State w → State w → ℕ → List ℕ → Type 0
@@ -57,24 +56,20 @@ pub record Reads {w : ℕ} (old new : Replay w) (number : ℕ) (line : List ℕ)
   pub same : new ≡ record old { state = new.state }
   pub goes : GoesOn old old.state new.state number line
 
--- the text has the grounds for the fault of an event, behind what it had
-abbrev pub HasGrounds : {w : ℕ} → Grounds w → Fault → Link → Event w → List ℕ → List ℕ → Type 0
-HasGrounds {w} g found link x was is =
-    (may : Liberties) (levels : List Level) (e : Events w) → KnowsGrounds g may levels e
-    → is ≡ was ++ grounds_of found may levels link x e
-
 -- the line of this number spells an event, and the text has the reasons for its fault
-pub record HasReasons {w : ℕ} (g : Grounds w) (found : Fault) (number : ℕ) (line text : List ℕ) : Type 0 where
+pub record HasReasons {w : ℕ} (f : Follower w) (found : Fault) (number : ℕ) (line text : List ℕ) : Type 0 where
   pub link : Link
   pub event : Event w
   pub spells : SpellsEvent line link event
-  pub says : (may : Liberties) (levels : List Level) (e : Events w) → number ≡ length e + 2
-      → KnowsGrounds g may levels e → text ≡ reasons_of found may levels link event e
+  pub says : (together : Bool) (may : Liberties) (links : List MarkedLevel) (e : Events w) → number ≡ length e + 2
+      → KnowsFollower together f may links e
+      → (grounds : List ℕ) × (text ≡ front_of found link event e ++ grounds)
+      × AreGrounds together found may links link event e grounds
 
 -- ---- all lines
 
 -- the lines are a header and those of events, of which all is kept that may be told
-pub record AreReplayed {w : ℕ} (r : Replay w) (g : Grounds w) (lines : List (List ℕ)) : Type 0 where
+pub record AreReplayed {w : ℕ} (r : Replay w) (f : Follower w) (lines : List (List ℕ)) : Type 0 where
   pub width : Width
   pub of_width : bytes_of width ≡ w
   pub may : Liberties
@@ -86,11 +81,11 @@ pub record AreReplayed {w : ℕ} (r : Replay w) (g : Grounds w) (lines : List (L
   pub events : Events w
   pub are_spelled : AreSpelled events spelled
   pub counted : r.count ≡ length events + 1
-  pub known : KnowsGrounds g may (levels_of links) events
+  pub known : KnowsFollower r.together f may links events
 
 abbrev pub KnowsState : {w : ℕ} → Replay w → State w → List (List ℕ) → Type 0
 KnowsState r Waiting lines = (lines ≡ []) × (r.count ≡ 0)
-KnowsState r (Following g) lines = AreReplayed r g lines
+KnowsState r (Following f) lines = AreReplayed r f lines
 KnowsState r Lost lines = ⊤
 
 -- these lines have been read, before the one at fault
@@ -115,7 +110,9 @@ pub record HasTold {w : ℕ} (r : Replay w) (lines : List (List ℕ)) : Type 0 w
   pub link : Link
   pub event : Event w
   pub spells : SpellsEvent line link event
-  pub says : r.reasons.items ≡ reasons_of r.fault may (levels_of links) link event events
+  pub grounds : List ℕ
+  pub says : r.reasons.items ≡ front_of r.fault link event events ++ grounds
+  pub are : AreGrounds r.together r.fault may links link event events grounds
 
 -- what is known once reading has stopped
 abbrev pub EndsReplay : {w : ℕ} → Replay w → List (List ℕ) → Type 0

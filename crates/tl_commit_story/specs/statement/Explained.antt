@@ -16,12 +16,14 @@ use Rattle.tl_engine.specs.statement.Unexplained.{GivesUpReading, ReachesBy}
 use Rattle.tl_engine.specs.statement.Width.{bytes_of}
 use Rattle.tl_events.specs.declared.commit.Event.{Event}
 use Rattle.tl_events.specs.statement.EventLine.{SpellsEvent}
+use Rattle.tl_explain.specs.declared.ledger.Pending.{Pending}
+use Rattle.tl_explain.specs.statement.Pending.{TellsPending, says_recorded}
 use Rattle.tl_params.specs.declared.liberties.Liberties.{Liberties}
 use Rattle.tl_params.specs.declared.width.Width.{Width}
 use Rattle.tl_commit_lines.specs.declared.header.MarkedLevel.{MarkedLevel}
 use Rattle.tl_commit_lines.specs.statement.JudgedEvents.{CommitsSoFar, JudgedCommits}
-use Rattle.tl_commit_lines.specs.statement.MarkedHeader.{NamesMarked, levels_of}
-use Rattle.tl_commit_story.specs.statement.Grounds.{reasons_of}
+use Rattle.tl_commit_lines.specs.statement.MarkedHeader.{NamesMarked}
+use Rattle.tl_commit_story.specs.statement.Grounds.{AreGrounds, front_of}
 use Rattle.tl_commit_story.specs.statement.Words.{is_breach, limits, other_words}
 
 -- ---- the line at fault
@@ -33,9 +35,9 @@ AreSpelled (x ∷ e) lines =
     (before : List (List ℕ)) × (line : List ℕ) × (lines ≡ before ++ line ∷ []) × SpellsEvent line x.0 x.1
     × AreSpelled e before
 
--- An event of the input that was read breaks the rule of this fault, and these are the reasons. The verdict on all its
--- lines is that its line is at fault for it. The lines before it are a header and those of events. The links have the
--- liberties that the header names and those that are allowed.
+-- An event of the input that was read breaks the rule of this fault, and these are the reasons: the sentence of the rule,
+-- the event, and the grounds. The verdict on all its lines is that its line is at fault for it. The lines before it are a
+-- header and those of events. The links have the liberties that the header names and those that are allowed.
 pub record IsExplained (together : Bool) (allow : Liberties) (old new : Option (List ℕ)) (verdict reasons : List ℕ)
     (found : Fault) : Type 0 where
   pub read : List ℕ
@@ -58,11 +60,18 @@ pub record IsExplained (together : Bool) (allow : Liberties) (old new : Option (
   pub event : Event bytes
   pub spells : SpellsEvent line link event
   pub says_line : verdict ≡ fault_text (length events + 2) found
-  pub says_why : reasons ≡ reasons_of found may (levels_of links) link event events
+  pub grounds : List ℕ
+  pub says_why : reasons ≡ front_of found link event events ++ grounds
+  pub are_grounds : AreGrounds together found may links link event events grounds
 
--- The reasons explain a verdict: for a breach of a rule by the events before it, for another fault by its words.
+-- the text lists messages as pending: how many they are, the oldest with the beats that opened them, and how many more
+abbrev pub IsPending : List ℕ → Type 0
+IsPending text = (w : ℕ) × (pending : List Pending) × TellsPending (says_recorded w) pending [] text
+
+-- The reasons explain a verdict: for a breach of a rule by the events before it, for another fault by its words, and of a
+-- trace without a fault they are its pending messages and the limits of the verdict.
 abbrev pub Explains : Bool → Liberties → Option (List ℕ) → Option (List ℕ) → List ℕ → List ℕ → Status → Type 0
-Explains together allow old new verdict reasons Clean = reasons ≡ limits together
+Explains together allow old new verdict reasons Clean = (pending : List ℕ) × IsPending pending × (reasons ≡ pending ++ limits together)
 Explains together allow old new verdict reasons Broken =
     (found : Fault) × (is_breach found ≡ true → IsExplained together allow old new verdict reasons found)
     × (is_breach found ≡ false → (n : ℕ) × (verdict ≡ fault_text n found) × (reasons ≡ other_words found))

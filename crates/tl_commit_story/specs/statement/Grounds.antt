@@ -1,20 +1,32 @@
--- The grounds for a breach of a rule of stores and loads: the permission held, the data under way, the last stores.
-use Rattle.std.specs.Prelude.{◌==◌, ◌+◌, ◌*◌, ◌++◌, ℕ, zero, suc, List, [], ◌∷◌, codes, Option, Some, None, if◌then◌else◌}
+-- The grounds for a breach of a rule: of one of stores and loads the permission held, the data under way, the last
+-- stores; of one of beats those of a trace of beats, with the numbers of these lines.
+use Rattle.std.specs.Prelude.{◌≡◌, ◌==◌, ◌+◌, ◌*◌, ◌++◌, ℕ, zero, suc, Bool, true, false, List, [], ◌∷◌, codes}
+use Rattle.std.specs.Prelude.{Option, Some, None, if◌then◌else◌, slice_get}
+use Rattle.tl_allowed.specs.statement.Allowed.{allowed_under}
+use Rattle.tl_beat.specs.declared.beat.Beat.{Beat}
 use Rattle.tl_beat.specs.declared.beat.Link.{Link}
 use Rattle.tl_beat.specs.declared.channel.Channel.TheVariants as channel
 use Rattle.tl_beat.specs.statement.Digits.{digits}
-use Rattle.tl_commits.specs.statement.Events.{Events}
+use Rattle.tl_commit_lines.specs.declared.header.MarkedLevel.{MarkedLevel}
+use Rattle.tl_commit_lines.specs.statement.MarkedHeader.{levels_of}
+use Rattle.tl_commits.specs.statement.Events.{Events, beats_of}
 use Rattle.tl_engine.specs.declared.fault.Fault.{Fault}
-use Rattle.tl_engine.specs.declared.fault.Fault.TheVariants.{CommitRule}
+use Rattle.tl_engine.specs.declared.fault.Fault.TheVariants.{Rule as Breaks, CommitRule}
 use Rattle.tl_events.specs.declared.commit.Commit.TheVariants as commit
 use Rattle.tl_events.specs.declared.commit.Event.{Event}
+use Rattle.tl_events.specs.declared.commit.Event.TheVariants as event
+use Rattle.tl_evidence.specs.statement.Convicted.{IsConvicted}
 use Rattle.tl_explain.specs.statement.Sentences.{perm_name}
+use Rattle.tl_links.specs.statement.Allowed.{allowed_line}
 use Rattle.tl_params.specs.declared.level.Level.{Level}
+use Rattle.tl_params.specs.declared.level.Level.TheVariants.{UL, UH, C}
 use Rattle.tl_params.specs.declared.liberties.Liberties.{Liberties}
 use Rattle.tl_params.specs.declared.perm.Perm.{Perm}
+use Rattle.tl_params.specs.declared.rule.Rule.{Rule}
 use Rattle.tl_commit_story.specs.declared.cached.Cached.{Cached}
 use Rattle.tl_commit_story.specs.statement.Cached.{Stored, begun_by, block_of, came, cited, held_since, holding}
 use Rattle.tl_commit_story.specs.statement.Cached.{last_store, places_of}
+use Rattle.tl_commit_story.specs.statement.Numbered.{numbered}
 use Rattle.tl_commit_story.specs.statement.Words.{commit_text, sentence_of}
 
 -- ---- the permission held
@@ -75,14 +87,49 @@ grounds_at may levels c places e =
 abbrev pub cached_by : {w : ℕ} → Link → Event w → Cached
 cached_by link x = record { link = link; block = block_of x }
 
--- the grounds for the fault of an event; none for a rule of beats
-abbrev pub grounds_of : {w : ℕ} → Fault → Liberties → List Level → Link → Event w → Events w → List ℕ
-grounds_of (CommitRule rule) may levels link x e =
+-- the grounds for the breach of a rule of stores and loads by an event of a link
+abbrev pub copy_grounds : {w : ℕ} → Liberties → List Level → Link → Event w → Events w → List ℕ
+copy_grounds may levels link x e =
     grounds_at may levels (cached_by link x) (places_of (came channel.C (cached_by link x) e) x) e
-grounds_of _ may levels link x e = []
 
--- The reasons for the fault of an event that breaks a rule after the events of e: the sentence of the rule, the event,
--- and the grounds.
-abbrev pub reasons_of : {w : ℕ} → Fault → Liberties → List Level → Link → Event w → Events w → List ℕ
-reasons_of fault may levels link x e =
-    codes "  " ++ (sentence_of fault ++ (cited link x e ++ grounds_of fault may levels link x e))
+-- ---- rules of a link
+
+-- the words for a commit of a link without a cache
+abbrev pub no_cache_words : Option Level → List ℕ
+no_cache_words None = codes "  the header names no such link\n"
+no_cache_words (Some UL) =
+    codes "  the link is of level UL; stores and loads are those of caches, on links of level C\n"
+no_cache_words (Some UH) =
+    codes "  the link is of level UH; stores and loads are those of caches, on links of level C\n"
+no_cache_words (Some C) = []
+
+-- the line that names the liberties of which each alone would allow a beat, if each link is judged by itself
+abbrev pub allowance : {w : ℕ} → Bool → List Level → Liberties → Link → Beat w → Events w → List ℕ
+allowance true levels may link x e = []
+allowance false levels may link x e = allowed_line (allowed_under may levels (link, x) (beats_of e))
+
+-- A beat breaks the rule of its link: by itself, or by a reason whose claim is true of the beats before it, each on the
+-- line that is cited. Its grounds end with the liberties that would allow it. Those of a commit are that its link has no
+-- cache.
+abbrev pub AreLinkGrounds : {w : ℕ} → Bool → Rule → Liberties → List Level → Link → Event w → Events w → List ℕ
+    → Type 0
+AreLinkGrounds together rule may levels link (event.Beat x) e grounds =
+    IsConvicted may (slice_get levels link.0) link rule x (numbered e)
+    × ((evidence : List ℕ) × (grounds ≡ evidence ++ allowance together levels may link x e))
+AreLinkGrounds together rule may levels link (event.Commit x) e grounds =
+    grounds ≡ no_cache_words (slice_get levels link.0)
+
+-- ---- all rules
+
+-- these are the grounds for the fault of an event after those of e
+abbrev pub AreGrounds : {w : ℕ} → Bool → Fault → Liberties → List MarkedLevel → Link → Event w → Events w → List ℕ
+    → Type 0
+AreGrounds together (Breaks rule) may links link x e grounds =
+    AreLinkGrounds together rule may (levels_of links) link x e grounds
+AreGrounds together (CommitRule rule) may links link x e grounds =
+    grounds ≡ copy_grounds may (levels_of links) link x e
+AreGrounds together _ may links link x e grounds = grounds ≡ []
+
+-- The reasons begin with the sentence of the rule that the event breaks, and the event.
+abbrev pub front_of : {w : ℕ} → Fault → Link → Event w → Events w → List ℕ
+front_of fault link x e = codes "  " ++ (sentence_of fault ++ cited link x e)

@@ -4,10 +4,9 @@ use Rattle.tl_beat.specs.declared.beat.Beat.{Beat}
 use Rattle.tl_beat.specs.declared.beat.Link.{Link}
 use Rattle.tl_engine.specs.declared.fault.Fault.{Fault}
 use Rattle.tl_engine.specs.declared.fault.Fault.TheVariants.{Rule as Breaks, MemoryRule as BreaksTogether}
+use Rattle.tl_evidence.specs.code.Guilty as guilty
 use Rattle.tl_explain.specs.code.Recorded.{IsRecordUnder}
-use Rattle.tl_explain.specs.declared.reason.Reason.{Reason}
 use Rattle.tl_explain.specs.statement.Evidence.{next_line}
-use Rattle.tl_explain.specs.statement.Reasons.{IsEvidenceUnder, convicted_under, IsSubject}
 use Rattle.tl_explain.specs.statement.Sentences.{memory_rule_line, rule_line}
 use Rattle.tl_params.specs.declared.level.Level.{Level}
 use Rattle.tl_params.specs.declared.liberties.Liberties.{Liberties}
@@ -27,7 +26,7 @@ use Rattle.tl_wide_story.specs.declared.reread.Passed.{Passed}
 use Rattle.tl_wide_story.specs.declared.reread.Passed.TheVariants.{Taken, Told, Strange}
 use Rattle.tl_wide_story.specs.declared.replay.WideReplay.{WideReplay}
 use Rattle.tl_wide_lines.specs.statement.JudgedTrace.{BeginWith}
-use Rattle.tl_wide_story.specs.statement.WideExplained.{HasGuilty, IsConvicted, wide_front_text}
+use Rattle.tl_wide_story.specs.statement.WideExplained.{HasGuilty, wide_front_text}
 use Rattle.tl_wide_lines.specs.statement.WideHeader.{NamesWide}
 
 -- ---- parts
@@ -52,15 +51,7 @@ pub record Records {w p : ℕ} (old new : WideReplay w) (link : Link) (xs : List
 
 -- the beat breaks the rule at fault, if it is one of a link, behind those that are recorded
 abbrev pub IsGuilty : {w p : ℕ} → WideReplay w → Link → Beat p → Type 0
-IsGuilty {w} {p} r link x = (rule : Rule) → r.fault ≡ Breaks rule → (r.recorder.subject.link ≡ link)
-    × ((t : Trace p) → IsRecordUnder r.may r.recorder t → IsConvicted r.may r.level link rule x t)
-
--- there is a reason for which the beat breaks the rule
-abbrev pub HasReason : {w p : ℕ} → WideReplay w → Rule → Beat p → Type 0
-HasReason {w} {p} r rule x = (t : Trace p) (link : Link) → IsRecordUnder r.may r.recorder t
-    → IsSubject r.recorder.subject link x
-    → (reason : Reason) × IsEvidenceUnder r.may r.recorder.subject.link.0 x reason t
-    × (convicted_under r.may x reason ≡ Some rule)
+IsGuilty r link x = (rule : Rule) → r.fault ≡ Breaks rule → guilty.IsGuilty r.may r.level r.recorder rule link x
 
 -- what came of these parts of a wide beat
 abbrev pub PassesParts : {w p : ℕ} → WideReplay w → WideReplay w → Link → List (Beat p) → Passed → Type 0

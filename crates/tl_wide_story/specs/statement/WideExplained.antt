@@ -11,13 +11,11 @@ use Rattle.tl_engine.specs.declared.fault.Fault.TheVariants.{Rule as Breaks, Mem
 use Rattle.tl_engine.specs.declared.status.Status.{Status}
 use Rattle.tl_engine.specs.declared.status.Status.TheVariants.{Clean, Broken}
 use Rattle.tl_engine.specs.declared.status.ToolFault.TheVariants.{Write}
-use Rattle.tl_engine.specs.statement.Explained.{broken_alone, is_of_order}
 use Rattle.tl_engine.specs.statement.Fault.{fault_text}
 use Rattle.tl_engine.specs.statement.Lines.{lines_of}
 use Rattle.tl_engine.specs.statement.Parts.{AppendsShort}
 use Rattle.tl_engine.specs.statement.Unexplained.{GivesUpReading, ReachesBy}
-use Rattle.tl_explain.specs.declared.reason.Reason.{Reason}
-use Rattle.tl_explain.specs.statement.Reasons.{IsEvidenceUnder, convicted_under}
+use Rattle.tl_evidence.specs.statement.Convicted.{IsConvicted}
 use Rattle.tl_explain.specs.statement.Sentences.{memory_rule_line, rule_line}
 use Rattle.tl_params.specs.declared.level.Level.{Level}
 use Rattle.tl_params.specs.declared.liberties.Liberties.{Liberties}
@@ -45,15 +43,6 @@ abbrev pub wide_front_text : {w : ℕ} → List ℕ → ℕ → Link → WideBea
 wide_front_text sentence n link x = codes "  " ++ sentence ++ wide_beat_line n link x
 
 -- ---- why a part of a wide beat breaks a rule
-
--- A beat of a link of this level, which has these liberties, breaks the rule after t: a rule of legality by itself, and
--- a rule of order by a reason. The claim of the reason is true of t, and the rule follows from the reason, the liberties
--- and the beat alone.
-pub record IsConvicted {p : ℕ} (may : Liberties) (level : Option Level) (link : Link) (rule : Rule) (x : Beat p)
-    (t : Trace p) : Type 0 where
-  pub by_order : is_of_order rule ≡ true
-      → (reason : Reason) × IsEvidenceUnder may link.0 x reason t × (convicted_under may x reason ≡ Some rule)
-  pub by_itself : is_of_order rule ≡ false → broken_alone may level x ≡ Some rule
 
 -- A part of the wide beat breaks the rule, after the beats that the trace before it became and the parts before this
 -- one.

@@ -20,5 +20,5 @@ returns-clause-ok g c =
     (λ found.
     told-explains c.into_handler-story.result c.args.together c.args.allow _ _ h.0 c.judge_input.new.out.items
     c.args.verdict.now _ c.in-Ok.field-0 h.1 judged (rw c.into_handler-story.ensures h.4) found.0 found.1
-    (rw c.deref.ensures.value at found.2) found.3 found.4 found.5)
+    found.2 (rw c.deref.ensures.value at found.3) found.4 found.5 found.6)
     c.append_story-told.ensures.ok

@@ -1,8 +1,8 @@
 use Rattle.tl_commit_story.proofs.Followed.{fresh}
 use Rattle.tl_commit_story.proofs.grounds.Grounds.new.Goals as goal
 
-pub returns-clause-knows : goal.returns-clause-knows
-returns-clause-knows g c = λ levels may known.
+pub returns : goal.returns
+returns g c = λ levels may known.
     fresh (record {
       cached = c.args.cached;
       monitor = c.args.monitor;

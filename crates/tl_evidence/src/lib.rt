@@ -1,0 +1,4 @@
+//! Why a beat breaks a rule of its link, by a record of the beats before it.
+#![tactic(auto)]
+
+pub mod conviction;

@@ -504,8 +504,8 @@ ROWS = [
     ("echo 'tltrace 4 8 none C+' | tltool coherent", 0, "coherent 0\n", ""),
     ("echo 'tltrace 4 8 none C+' | tltool monitor", 0, "clean 0\n", ""),
     # why an event is at fault
-    ("tltool explain rules/M6.trace", 0, "clean 5\n  clean means ..", ""),
-    ("tltool explain --coherent rules/M6_right.trace", 0, "coherent 5\n  coherent means ..", ""),
+    ("tltool explain rules/M6.trace", 0, "clean 5\n  nothing is pending at the end\n  clean means ..", ""),
+    ("tltool explain --coherent rules/M6_right.trace", 0, "coherent 5\n  nothing is pending at the end\n  coherent means ..", ""),
     *((f"tltool explain --coherent rules/{name}.trace | sed 2d", 0, told, "") for name, told in STORIES.items()),
     *((f"(tltool explain {name} | head -1; tltool explain --coherent rules/{name}.trace | sed -n 's/^  //;2p') | uniq | wc -l", 0, "1\n", "") for name in ("M5", "M6", "M7")),
     ("sed '5s/05/07 /' rules/M6.trace >long.trace; tltool explain --coherent long.trace", 1, "line 5 F1\n  F1: more than 256 bytes, or ..", ""),

@@ -30,7 +30,9 @@ pub(crate) fn explain_verdict<R: Read>(
 ) -> u8 {
     let mut output = io::writer(rt);
     let outcome = run_any(rt.alloc(), coherent, allow, input, &mut output);
-    let _ = rt.eprintln("tltool: explain writes the verdict alone of a wide trace with stores and loads");
+    let _ = rt.eprintln(
+        "tltool: explain writes the verdict alone of a wide trace with stores and loads",
+    );
     told(rt, outcome)
 }
 

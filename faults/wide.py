@@ -25,6 +25,8 @@ import tempfile
 CLIENTS = ["C:2,C:2,C:2,UH:1", "C:1,C:1", "C:8,C:1,UL:2", "C:2,UH:2,UL:2", "UL:1,UH:8", "C:3"]
 EVENTS = 120
 BLOCK = 64
+# The letters of stores and loads, which faults/wide_commits.py has between the beats.
+COMMITS = "SLI"
 # The opcodes that carry data, by channel.
 DATA = {"A": "0123", "B": "0123", "C": "157", "D": "15", "E": ""}
 PUT_FULL, PUT_PARTIAL = "0", "1"
@@ -109,6 +111,8 @@ def lanes_of(width, size, address):
 
 def parts_of(beat, width, address):
     """The beats of 16 bytes, or of `width` if that is less, that a wide beat becomes."""
+    if beat.channel in COMMITS:
+        return [beat]
     part = min(width, 16)
     reached = sorted({lane // part for lane in lanes_of(width, beat.size, address)})
     masked = beat.channel in "AB"
@@ -150,7 +154,7 @@ def narrowed(beats, width):
         if beat.channel == "D":
             address = asked.get(key, 0)
         named = beat.copy()
-        if beat.channel in "ABC":
+        if beat.channel in "ABC" + COMMITS:
             named.address = BLOCK * blocks.number(beat.address // BLOCK) + beat.address % BLOCK
         if beat.channel in "ABCD":
             named.source = mine.number(beat.source)
@@ -172,6 +176,9 @@ def joined(beats, narrow, width):
     wide, halves, asked = [], {}, {}
     for beat in beats:
         key = (beat.link, beat.channel)
+        if beat.channel in COMMITS:
+            wide.append(beat)
+            continue
         if beat.channel == "A":
             asked[beat.link, beat.source] = beat.address
         place = asked.get((beat.link, beat.source), 0) if beat.channel == "D" else beat.address
@@ -211,7 +218,7 @@ def renamed(beats, rng):
         address = BLOCK * other(blocks, beat.address // BLOCK, 58) + beat.address % BLOCK
         source = beat.source and other(ids.setdefault(beat.link, {}), beat.source, 16)
         sink = beat.sink and other(ids.setdefault("sinks", {}), beat.sink, 16)
-        yield beat.copy(address=address if beat.channel in "ABC" else 0, source=source, sink=sink)
+        yield beat.copy(address=address if beat.channel in "ABC" + COMMITS else 0, source=source, sink=sink)
 
 
 def spoiled(beats, width, rng):
@@ -607,4 +614,5 @@ def main():
     return 1 if failed else 0
 
 
-sys.exit(main())
+if __name__ == "__main__":
+    sys.exit(main())

@@ -26,7 +26,7 @@ use Rattle.tl_wide_lines.specs.statement.WideHeader.{SpellsFifth, fifth_front}
 use Rattle.tl_commit_lines.proofs.MarkedHeaders.{none_for}
 use Rattle.tl_commit_lines.specs.declared.header.MarkedLevel.{MarkedLevel}
 use Rattle.tl_commit_lines.specs.statement.JudgedEvents.{JudgedCommits}
-use Rattle.tl_commit_lines.specs.statement.MarkedHeader.{SpellsMarked, links_text, mark_text, some_marked}
+use Rattle.tl_commit_lines.specs.statement.MarkedHeader.{SpellsLinks, SpellsMarked, links_text, mark_text, some_marked}
 
 pub as-before : (together : Bool) (allow : Liberties) (line : List ℕ) (lines : List (List ℕ)) (text : List ℕ)
     (status : Status)
@@ -39,7 +39,7 @@ as-before together allow line lines text status none (inl (width, may, links, na
 -- ---- a plus is in the headers of traces with commits alone
 
 -- there is a plus among the bytes
-abbrev has_plus : List ℕ → Bool
+abbrev pub has_plus : List ℕ → Bool
 has_plus bytes = list_any (λ c. c == 43) bytes
 
 without-both : (a b : List ℕ) → has_plus a ≡ false → has_plus b ≡ false → has_plus (a ++ b) ≡ false
@@ -133,7 +133,7 @@ named-without : (word : List ℕ) (l : Liberties) (levels : List Level) → Spel
 named-without word l levels spells =
     without-both word (levels_text levels ++ codes "\n") (word-without word l spells) (tail-without levels)
 
-links-without : (line : List ℕ) (width : Width) (may : Liberties) (levels : List Level)
+pub links-without : (line : List ℕ) (width : Width) (may : Liberties) (levels : List Level)
     → NamesLinks line width may levels → has_plus line ≡ false
 links-without line width may levels (inr h) = rw h.is_line
     (without-both (fourth_front width) (h.word ++ (levels_text levels ++ codes "\n")) (fourth-without width)
@@ -143,7 +143,7 @@ links-without line width may levels (inl (p, h, same)) = rw h.is_line
     (without-both (trace_word ++ version_text h.version) (levels_text levels)
     (without-both trace_word (version_text h.version) refl (version-without h.version)) (levels-without levels)) refl)
 
-fifth-header-without : (line : List ℕ) (width : WideWidth) (may : Liberties) (levels : List Level)
+pub fifth-header-without : (line : List ℕ) (width : WideWidth) (may : Liberties) (levels : List Level)
     → SpellsFifth line width may levels → has_plus line ≡ false
 fifth-header-without line width may levels (rest, is, h) = rw (is, h.are_bytes)
     (without-both (fifth_front width) (h.word ++ (levels_text levels ++ codes "\n")) (fifth-without width)
@@ -162,12 +162,16 @@ marked-with (x ∷ links) some =
     go true is rest = refl
     go false is rest = rest is
 
+-- so have its bytes behind any front
+pub links-with : (front rest : List ℕ) (may : Liberties) (links : List MarkedLevel) → SpellsLinks rest may links
+    → has_plus (front ++ rest) ≡ true
+links-with front rest may links h =
+    with-last front rest (rw h.are_bytes (with-last h.word (links_text links ++ codes "\n")
+    (with-first (links_text links) (codes "\n") (marked-with links h.marked))))
+
 header-with : (line : List ℕ) (width : Width) (may : Liberties) (links : List MarkedLevel)
     → SpellsMarked line width may links → has_plus line ≡ true
-header-with line width may links h = rw h.is_line
-    (with-last (fourth_front width) (h.word ++ (links_text links ++ codes "\n"))
-    (with-last h.word (links_text links ++ codes "\n")
-    (with-first (links_text links) (codes "\n") (marked-with links h.marked))))
+header-with line width may links (rest, is, h) = rw is (links-with (fourth_front width) rest may links h)
 
 -- so it is no other header
 pub links-apart : (line : List ℕ) (width other : Width) (may own : Liberties) (levels : List Level)

@@ -26,7 +26,7 @@ use Rattle.tl_params.specs.statement.Liberties.{united}
 use Rattle.tl_commit_lines.specs.code.HeadReading.{links_at, marked, marked_at, unmarked, with_mark}
 use Rattle.tl_commit_lines.specs.declared.header.CommitHeader.{CommitHeader}
 use Rattle.tl_commit_lines.specs.declared.header.MarkedLevel.{MarkedLevel}
-use Rattle.tl_commit_lines.specs.statement.MarkedHeader.{AreMarkable, IsMarkedHeader, NamesMarked, SpellsMarked, links_text, mark_text}
+use Rattle.tl_commit_lines.specs.statement.MarkedHeader.{AreMarkable, IsMarkedHeader, NamesMarked, SpellsLinks, SpellsMarked, links_text, mark_text}
 use Rattle.tl_commit_lines.specs.statement.MarkedHeader.{some_marked}
 
 -- ---- a level and its mark
@@ -167,38 +167,42 @@ lacks_comma : (links : List MarkedLevel) → IsCount (length links) → LacksCom
 lacks_comma [] many rest e = absurd (omega (arith, many.0))
 lacks_comma (x ∷ links) many rest e = let both : false ≡ true = ap begins_comma e in absurd cc
 
-pub header_spelled : (line rest left word : List ℕ) (width : Width) (may : Liberties) (links : List MarkedLevel)
-    → front_at line ≡ Some (width, rest) → SpellsLiberties word may → rest ≡ word ++ left
-    → links_at 16 left ≡ Some links → some_marked links ≡ true → SpellsMarked line width may links
-header_spelled line rest left word width may links front spells text read some =
+pub links_spelled : (bytes left word : List ℕ) (may : Liberties) (links : List MarkedLevel) → SpellsLiberties word may
+    → bytes ≡ word ++ left → links_at 16 left ≡ Some links → some_marked links ≡ true → SpellsLinks bytes may links
+links_spelled bytes left word may links spells text read some =
     let (are, few) = links_taken 16 left links read in
     let (ends, markable) = are in
     record {
       word = word;
       spells = spells;
-      is_line = front_taken line rest width front ∙ ap (λ (x : List ℕ). fourth_front width ++ x)
-          (text ∙ ap (λ (x : List ℕ). word ++ x) ends);
+      are_bytes = text ∙ ap (λ (x : List ℕ). word ++ x) ends;
       so_many = some-many links some few;
       markable = markable;
       marked = some;
     }
 
-module _ (line : List ℕ) (width : Width) (may : Liberties) (links : List MarkedLevel)
-    (h : SpellsMarked line width may links) where
-  front_is : front_at line ≡ Some (width, h.word ++ tail links)
-  front_is = ap front_at h.is_line ∙ front_again width (h.word ++ tail links)
+pub no_comma : {bytes : List ℕ} {may : Liberties} (links : List MarkedLevel) → SpellsLinks bytes may links
+    → LacksComma (tail links)
+no_comma links h = lacks_comma links h.so_many
 
-  pub marked_unread : front_at line ≢ None
-  marked_unread none = let some = front_is in cc
+pub links_are : {bytes : List ℕ} {may : Liberties} (links : List MarkedLevel) → SpellsLinks bytes may links
+    → (left : List ℕ) → left ≡ tail links → links_at 16 left ≡ Some links
+links_are links h left is = ap (links_at 16) is ∙ links_again 16 links h.so_many.1 h.markable
 
-  pub marked_behind : (x : Width × List ℕ) → front_at line ≡ Some x → (x.0 ≡ width) × (x.1 ≡ h.word ++ tail links)
-  marked_behind x is = some_pair x (width, h.word ++ tail links) (sym is ∙ front_is)
+-- what is read behind the front of a header
+pub marked_behind : (line : List ℕ) (width : Width) (may : Liberties) (links : List MarkedLevel)
+    → SpellsMarked line width may links → (x : Width × List ℕ) → front_at line ≡ Some x
+    → (x.0 ≡ width) × SpellsLinks x.1 may links
+marked_behind line width may links (rest, is_line, h) x is =
+    let front : front_at line ≡ Some (width, rest) = ap front_at is_line ∙ front_again width rest in
+    let (wide, ends) = some_pair x (width, rest) (sym is ∙ front) in
+    (wide, rw ends h)
 
-  pub no_comma : LacksComma (tail links)
-  no_comma = lacks_comma links h.so_many
-
-  pub links_are : (left : List ℕ) → left ≡ tail links → links_at 16 left ≡ Some links
-  links_are left is = ap (links_at 16) is ∙ links_again 16 links h.so_many.1 h.markable
+marked_unread : (line : List ℕ) (width : Width) (may : Liberties) (links : List MarkedLevel)
+    → SpellsMarked line width may links → front_at line ≢ None
+marked_unread line width may links (rest, is_line, h) none =
+    let some : front_at line ≡ Some (width, rest) = ap front_at is_line ∙ front_again width rest in
+    absurd cc
 
 -- links that are there are read, as these
 pub not_read : (links : List MarkedLevel) (left : List ℕ) → links_at 16 left ≡ None → links_at 16 left ≡ Some links → ⊥
@@ -208,6 +212,62 @@ pub same_links : (found links : List MarkedLevel) (left : List ℕ) → links_at
     → links_at 16 left ≡ Some links → found ≡ links
 same_links found links left is also = some-is (sym is ∙ also)
 
+-- ---- bytes are those of liberties and links, or of none
+
+abbrev pub LinksOrNone : List ℕ → Type 0
+LinksOrNone bytes =
+    ((may : Liberties) × (links : List MarkedLevel) × SpellsLinks bytes may links)
+    ⊎ ((may : Liberties) (links : List MarkedLevel) → ¬ SpellsLinks bytes may links)
+
+module _ (bytes : List ℕ) where
+  at_links : (left word : List ℕ) (may : Liberties) → SpellsLiberties word may → bytes ≡ word ++ left
+      → liberties_at bytes ≡ Some (may, left) → (o : Option (List MarkedLevel)) → links_at 16 left ≡ o
+      → LinksOrNone bytes
+  at_links left word may spells text named o is = go o is
+    where
+      unlike : (other : Liberties) (links : List MarkedLevel) → SpellsLinks bytes other links
+          → links_at 16 left ≡ Some links
+      unlike other links h =
+          let read = liberties_again h.word (tail links) other h.spells (no_comma links h) in
+          let (m, ends) = some_pair (may, left) (other, tail links) (sym named ∙ ap liberties_at h.are_bytes ∙ read) in
+          links_are links h left ends
+
+      none_read : (other : Liberties) (links : List MarkedLevel) → links_at 16 left ≡ None
+          → ¬ SpellsLinks bytes other links
+      none_read other links none h = let some = unlike other links h in absurd cc
+
+      not_marked : (found links : List MarkedLevel) (other : Liberties) → links_at 16 left ≡ Some found
+          → some_marked found ≡ false → ¬ SpellsLinks bytes other links
+      not_marked found links other is none h =
+          let same : Some found ≡ Some links = sym is ∙ unlike other links h in
+          let links_same : found ≡ links = cc in
+          let some = h.marked in
+          let both : false ≡ true = sym none ∙ ap some_marked links_same ∙ some in
+          absurd cc
+
+      go : (o : Option (List MarkedLevel)) → links_at 16 left ≡ o → LinksOrNone bytes
+      go None is = inr (λ other links. none_read other links is)
+      go (Some links) is = with_some (some_marked links) refl
+        where
+          with_some : (b : Bool) → some_marked links ≡ b → LinksOrNone bytes
+          with_some true some = inl (may, links, links_spelled bytes left word may links spells text is some)
+          with_some false none = inr (λ other others. not_marked links others other is none)
+
+  at_liberties : (o : Option (Liberties × List ℕ)) → liberties_at bytes ≡ o → LinksOrNone bytes
+  at_liberties None is = inr (λ other links. no other links)
+    where
+      no : (other : Liberties) (links : List MarkedLevel) → ¬ SpellsLinks bytes other links
+      no other links h =
+          let read = liberties_again h.word (tail links) other h.spells (no_comma links h) in
+          let some = ap liberties_at h.are_bytes ∙ read in
+          absurd cc
+  at_liberties (Some (may, left)) is =
+      let (word, spells, text) = liberties_taken bytes left may is in
+      at_links left word may spells text is (links_at 16 left) refl
+
+pub links_or_none : (bytes : List ℕ) → LinksOrNone bytes
+links_or_none bytes = at_liberties bytes (liberties_at bytes) refl
+
 -- ---- a line is a header of a trace with commits, or none
 
 abbrev MarkedOrNone : List ℕ → Type 0
@@ -215,58 +275,18 @@ MarkedOrNone line =
     ((width : Width) × (may : Liberties) × (links : List MarkedLevel) × SpellsMarked line width may links)
     ⊎ ((width : Width) (may : Liberties) (links : List MarkedLevel) → ¬ SpellsMarked line width may links)
 
-module _ (line : List ℕ) where
-  at_links : (width : Width) (rest left word : List ℕ) (may : Liberties) → front_at line ≡ Some (width, rest)
-      → SpellsLiberties word may → rest ≡ word ++ left → liberties_at rest ≡ Some (may, left)
-      → (o : Option (List MarkedLevel)) → links_at 16 left ≡ o → MarkedOrNone line
-  at_links width rest left word may front spells text named o is = go o is
-    where
-      unlike : (wide : Width) (other : Liberties) (links : List MarkedLevel) → SpellsMarked line wide other links
-          → links_at 16 left ≡ Some links
-      unlike wide other links h =
-          let behind = (marked_behind line wide other links h (width, rest) front).1 in
-          let read = liberties_again h.word (tail links) other h.spells (no_comma line wide other links h) in
-          let (m, ends) = some_pair (may, left) (other, tail links) (sym named ∙ ap liberties_at behind ∙ read) in
-          links_are line wide other links h left ends
+marked_or_none : (line : List ℕ) → MarkedOrNone line
+marked_or_none line = go (front_at line) refl
+  where
+    behind : (wide : Width) (rest : List ℕ) → front_at line ≡ Some (wide, rest) → LinksOrNone rest → MarkedOrNone line
+    behind wide rest is (inl (may, links, named)) =
+        inl (wide, may, links, (rest, front_taken line rest wide is, named))
+    behind wide rest is (inr none) =
+        inr (λ width may links h. none may links (marked_behind line width may links h (wide, rest) is).1)
 
-      none_read : (wide : Width) (other : Liberties) (links : List MarkedLevel) → links_at 16 left ≡ None
-          → ¬ SpellsMarked line wide other links
-      none_read wide other links none h = let some = unlike wide other links h in absurd cc
-
-      not_marked : (found links : List MarkedLevel) (wide : Width) (other : Liberties)
-          → links_at 16 left ≡ Some found → some_marked found ≡ false → ¬ SpellsMarked line wide other links
-      not_marked found links wide other is none h =
-          let same : Some found ≡ Some links = sym is ∙ unlike wide other links h in
-          let links_same : found ≡ links = cc in
-          let some = h.marked in
-          let both : false ≡ true = sym none ∙ ap some_marked links_same ∙ some in
-          absurd cc
-
-      go : (o : Option (List MarkedLevel)) → links_at 16 left ≡ o → MarkedOrNone line
-      go None is = inr (λ wide other links. none_read wide other links is)
-      go (Some links) is = with_some (some_marked links) refl
-        where
-          with_some : (b : Bool) → some_marked links ≡ b → MarkedOrNone line
-          with_some true some = inl (width, may, links, header_spelled line rest left word width may links front spells text is some)
-          with_some false none = inr (λ wide other others. not_marked links others wide other is none)
-
-  at_liberties : (width : Width) (rest : List ℕ) → front_at line ≡ Some (width, rest)
-      → (o : Option (Liberties × List ℕ)) → liberties_at rest ≡ o → MarkedOrNone line
-  at_liberties width rest front None is = inr (λ wide other links. no wide other links)
-    where
-      no : (wide : Width) (other : Liberties) (links : List MarkedLevel) → ¬ SpellsMarked line wide other links
-      no wide other links h =
-          let behind = (marked_behind line wide other links h (width, rest) front).1 in
-          let read = liberties_again h.word (tail links) other h.spells (no_comma line wide other links h) in
-          let some = ap liberties_at behind ∙ read in
-          absurd cc
-  at_liberties width rest front (Some (may, left)) is =
-      let (word, spells, text) = liberties_taken rest left may is in
-      at_links width rest left word may front spells text is (links_at 16 left) refl
-
-  at_front : (o : Option (Width × List ℕ)) → front_at line ≡ o → MarkedOrNone line
-  at_front None is = inr (λ wide other links h. absurd (marked_unread line wide other links h is))
-  at_front (Some (width, rest)) is = at_liberties width rest is (liberties_at rest) refl
+    go : (o : Option (Width × List ℕ)) → front_at line ≡ o → MarkedOrNone line
+    go None is = inr (λ width may links h. absurd (marked_unread line width may links h is))
+    go (Some (wide, rest)) is = behind wide rest is (links_or_none rest)
 
 -- with what is allowed besides
 abbrev pub NamedOrNone : Liberties → List ℕ → Type 0
@@ -275,7 +295,7 @@ NamedOrNone allow line =
     ⊎ ((width : Width) (may : Liberties) (links : List MarkedLevel) → ¬ NamesMarked allow line width may links)
 
 pub named_or_none : (allow : Liberties) (line : List ℕ) → NamedOrNone allow line
-named_or_none allow line = go (at_front line (front_at line) refl)
+named_or_none allow line = go (marked_or_none line)
   where
     go : MarkedOrNone line → NamedOrNone allow line
     go (inl (width, own, links, h)) = inl (width, united own allow, links, (own, h, refl))
@@ -311,29 +331,37 @@ links-short (x ∷ links) =
       links-short links,
     )
 
-marked_open : (line : List ℕ) → IsOpen line → (width : Width) (may : Liberties) (links : List MarkedLevel)
-    → ¬ SpellsMarked line width may links
-marked_open line (inl ends) width may links h =
-    let text : line ≡ (fourth_front width ++ (h.word ++ links_text links)) ++ 10 ∷ [] =
-    h.is_line ∙ ap (λ (x : List ℕ). fourth_front width ++ x) (sym (append_assoc h.word (links_text links) (10 ∷ [])))
-    ∙ sym (append_assoc (fourth_front width) (h.word ++ links_text links) (10 ∷ [])) in
+-- whatever short text is in front
+pub links_open : (line front rest : List ℕ) → IsOpen line → length front ≤ 13 → line ≡ front ++ rest → (may : Liberties)
+    (links : List MarkedLevel) → ¬ SpellsLinks rest may links
+links_open line front rest (inl ends) few is may links h =
+    let text : line ≡ (front ++ (h.word ++ links_text links)) ++ 10 ∷ [] =
+    is ∙ ap (λ (x : List ℕ). front ++ x) (h.are_bytes ∙ sym (append_assoc h.word (links_text links) (10 ∷ [])))
+    ∙ sym (append_assoc front (h.word ++ links_text links) (10 ∷ [])) in
     let lf : ends_with_byte 10 line ≡ true =
-    rw text (ends_with_byte-line (fourth_front width ++ (h.word ++ links_text links))) in
+    rw text (ends_with_byte-line (front ++ (h.word ++ links_text links))) in
     absurd cc
-marked_open line (inr long) width may links h =
-    let size = ap (λ (x : List ℕ). length x) h.is_line in
+links_open line front rest (inr long) few is may links h =
+    let size = ap (λ (x : List ℕ). length x) is in
+    let more = ap (λ (x : List ℕ). length x) h.are_bytes in
     omega (
       arith,
       long,
       size,
-      front-short width,
+      more,
+      few,
       word-short h.word may h.spells,
       links-short links,
       h.so_many.1,
-      length-append (fourth_front width) (h.word ++ tail links),
+      length-append front rest,
       length-append h.word (tail links),
       length-append (links_text links) (10 ∷ []),
     )
+
+marked_open : (line : List ℕ) → IsOpen line → (width : Width) (may : Liberties) (links : List MarkedLevel)
+    → ¬ SpellsMarked line width may links
+marked_open line is width may links (rest, is_line, h) =
+    links_open line (fourth_front width) rest is (front-short width) is_line may links h
 
 -- so a line that is open names none
 pub open_marked : (allow : Liberties) (line : List ℕ) → IsOpen line → (width : Width) (may : Liberties)

@@ -7,7 +7,8 @@ ghost use Rattle.tl_params.specs.declared.width.Width.{Width};
 ghost use Rattle.tl_commit_lines.specs.code.HeadReading.{ReadsMarked, links_at, marked_at};
 ghost use Rattle.tl_commit_lines.specs.code.HeadReading as code;
 ghost use Rattle.tl_commit_lines.specs.declared.header.MarkedLevel.{MarkedLevel};
-ghost use Rattle.tl_commit_lines.specs.statement.MarkedHeader.{IsMarkedHeader, SpellsMarked, some_marked};
+ghost use Rattle.tl_commit_lines.specs.statement.MarkedHeader.{AreMarked, IsMarkedHeader, SpellsLinks, SpellsMarked};
+ghost use Rattle.tl_commit_lines.specs.statement.MarkedHeader.{some_marked};
 
 use arrayvec::ArrayVec;
 use tl_command::liberties::front_liberties;
@@ -86,6 +87,22 @@ fn some_marked(links: &[MarkedLevel]) -> bool
     links.iter().any(|link| link.complete)
 }
 
+/// The liberties and the links at the end of a header of a trace with commits: `LIBERTIES LEVELS..`, of which at least one
+/// level is `C+`, and an LF.
+pub fn read_marked_links(bytes: &[u8]) -> Option<(Liberties, ArrayVec<MarkedLevel, MOST_CLIENTS>)>
+    // What is read is spelled by the bytes, and whatever they spell is read.
+    ensures spelled { IfSome result (λ named. SpellsLinks bytes.now named.0 named.1.items) }
+    ensures every_spelling { (may : Liberties) (links : List MarkedLevel) → SpellsLinks bytes.now may links →
+        AreMarked result may links }
+{
+    let (may, rest) = front_liberties(bytes)?;
+    let links = links(rest)?;
+    if !some_marked(links.as_slice()) {
+        return None;
+    }
+    Some((may, links))
+}
+
 /// Reads the first line of a trace with commits, with its LF: `tltrace 4 W LIBERTIES LEVELS..`, of which at least one
 /// level is `C+`. A line of another form is no such header.
 pub fn read_marked(line: &[u8]) -> Option<CommitHeader>
@@ -95,11 +112,7 @@ pub fn read_marked(line: &[u8]) -> Option<CommitHeader>
         SpellsMarked line.now width may links → IsMarkedHeader result width may links }
 {
     let (width, rest) = front(line)?;
-    let (may, rest) = front_liberties(rest)?;
-    let links = links(rest)?;
-    if !some_marked(links.as_slice()) {
-        return None;
-    }
+    let (may, links) = read_marked_links(rest)?;
     Some(CommitHeader { width, may, links })
 }
 

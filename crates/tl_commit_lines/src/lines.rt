@@ -1,6 +1,6 @@
 //! Judges a recorded trace with or without commits, each link by itself or all together.
 
-ghost use Rattle.std.specs.Prelude.{◌≡◌, ℕ, Bool, List, [], IfOk, None, true, ⊤};
+ghost use Rattle.std.specs.Prelude.{◌≡◌, ℕ, Bool, List, [], IfOk, None, is_some, true, ⊤};
 ghost use Rattle.tl_engine.specs.code.Judging.{Judges};
 ghost use Rattle.tl_wide_lines.specs.code.WideWatching.{waits};
 ghost use Rattle.tl_commit_lines.specs.code.EventWatching.{BeginsMarked, KnowsEventLines, WatchesLine};
@@ -89,6 +89,21 @@ impl EventLines {
         }
     }
 
+    /// Whether no header of a trace without commits has been read.
+    #[inline(always)]
+    pub fn waits(&self) -> bool
+        ensures { result ≡ waits self.now.plain }
+    {
+        self.plain.waits()
+    }
+
+    /// Whether the header of a trace with commits has been read.
+    pub fn has_commits(&self) -> bool
+        ensures { result ≡ is_some self.now.events }
+    {
+        self.events.is_some()
+    }
+
     /// Judges the first line.
     #[cold]
     #[inline(never)]
@@ -139,7 +154,7 @@ impl LineHandler for EventLines {
 
     #[inline(always)]
     fn handle_line(&mut self, line: &[u8], out: &mut Vec<u8>) -> Result<Option<Fault>, AllocError> {
-        if self.plain.waits() {
+        if self.waits() {
             return self.judge_event(line, out);
         }
         self.plain.handle_line(line, out)

@@ -6,7 +6,7 @@ use Rattle.tl_engine.specs.declared.status.Status.{Status}
 use Rattle.tl_engine.specs.statement.Lines.{lines_of}
 use Rattle.tl_engine.specs.statement.Told.{text_told}
 use Rattle.tl_params.specs.statement.Liberties.{no_liberties}
-use Rattle.tl_commit_lines.specs.statement.JudgedEvents.{JudgedCommits}
+use Rattle.tl_wide_event_lines.specs.statement.JudgedWideEvents.{JudgedAny}
 
 -- the name, a separator and the text of the input are written after the writer's earlier contents
 abbrev pub Tells : Command → List ℕ → List ℕ → Option (List ℕ) → Option (List ℕ) → Option (List ℕ) → Option (List ℕ)
@@ -20,4 +20,4 @@ abbrev pub TellsTrace : Bool → List ℕ → List ℕ → Option (List ℕ) →
     → Status → Type 0
 TellsTrace together name separator had left held holds status =
     (read text : List ℕ) × Consumes had left read × Appends held holds ((name ++ separator) ++ text)
-    × JudgedCommits together no_liberties (lines_of read) text status
+    × JudgedAny together no_liberties (lines_of read) text status

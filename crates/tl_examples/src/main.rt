@@ -9,7 +9,6 @@ use std::alloc::Global;
 use std::io::{Read, Write};
 use std::process::ExitCode;
 use std::{fs, io};
-use tl_commit_lines::run::run_events;
 use tl_engine::command::{Command, RunForm};
 use tl_engine::explain::explain_input;
 use tl_engine::explain_fault::ExplainFault;
@@ -18,6 +17,7 @@ use tl_engine::output::write_all;
 use tl_engine::status::{Status, ToolFault};
 use tl_engine::tool::run_tool;
 use tl_params::liberties::Liberties;
+use tl_wide_event_lines::run::run_any;
 
 /// The traces, by their names in data/.
 const TRACES: [&str; 45] = [
@@ -210,7 +210,7 @@ const LIBERTIES: [&str; 24] = [
 ];
 
 /// The traces of wide beats, and after each the trace that it becomes, narrowed by hand.
-const WIDE: [&str; 9] = [
+const WIDE: [&str; 13] = [
     "wide/two_caches.trace",
     "wide/narrowed/two_caches.trace",
     "wide/wrong_report.trace",
@@ -220,6 +220,10 @@ const WIDE: [&str; 9] = [
     "wide/lane_of_no_part.trace",
     "wide/narrowed/lane_of_no_part.trace",
     "wide/narrow_line.trace",
+    "wide/store_given_back.trace",
+    "wide/narrowed/store_given_back.trace",
+    "wide/store_lost.trace",
+    "wide/narrowed/store_lost.trace",
 ];
 
 /// The traces with stores and loads.
@@ -295,7 +299,7 @@ fn tell_all(rt: &HostRuntime, command: Command, names: &[&str], separator: &[u8]
     true
 }
 
-/// Writes the name of a trace of any version, a separator, and its verdict. The errors are those of `run_events`.
+/// Writes the name of a trace of any version, a separator, and its verdict. The errors are those of `run_any`.
 fn judge<R: Read, W: Write>(
     alloc: Global,
     together: bool,
@@ -309,7 +313,7 @@ fn judge<R: Read, W: Write>(
 {
     write_all(output, name.as_bytes())?;
     write_all(output, separator)?;
-    run_events(alloc, together, Liberties::none(), input, output)
+    run_any(alloc, together, Liberties::none(), input, output)
 }
 
 /// Judges each of the traces with these names. Answers whether all could be read and judged.

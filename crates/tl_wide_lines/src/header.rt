@@ -22,7 +22,7 @@ pub struct WideHeader {
 }
 
 /// The width of a beat at the front of a header of the fifth version, and the rest of the line.
-fn front(line: &[u8]) -> Option<(WideWidth, &[u8])>
+pub fn front(line: &[u8]) -> Option<(WideWidth, &[u8])>
     ensures { Gives result (wide_front_at line.now) }
 {
     if let Some(rest) = line.strip_prefix(b"tltrace 5 4 ") {
@@ -44,7 +44,7 @@ fn front(line: &[u8]) -> Option<(WideWidth, &[u8])>
 }
 
 /// The width of a part of a wide beat.
-fn part_of(width: WideWidth) -> Width {
+pub fn part_of(width: WideWidth) -> Width {
     match width {
         WideWidth::Four => Width::Four,
         WideWidth::Eight => Width::Eight,

@@ -2,7 +2,6 @@
 use Rattle.std.specs.Prelude.{◌≡◌, ◌⊎◌, ◌++◌, ℕ, Bool, false, true, List, Option, Result, Ok, Err, IfErr, IfOk, OnErr, OnOk}
 use Rattle.std.specs.Io.KnownBytes.{Appends}
 use Rattle.tl_chart.specs.declared.window.Window.{Window}
-use Rattle.tl_commit_lines.specs.statement.JudgedEvents.{CommitsSoFar, JudgedCommits}
 use Rattle.tl_commit_story.specs.statement.Explained.{GivesUpEvents, ReachesBoth as ReachesBothEvents}
 use Rattle.tl_command.specs.declared.command.Command.{Command}
 use Rattle.tl_command.specs.declared.command.Command.TheVariants.{Coherent, Decode, Explain, Monitor, Run}
@@ -34,6 +33,7 @@ use Rattle.tl_report.specs.declared.findings.Finding.{Finding}
 use Rattle.tl_report.specs.statement.Said.{GivesUpSearching, Searches, all_text, status_of}
 use Rattle.tl_wide.specs.declared.width.WideWidth.{WideWidth}
 use Rattle.tl_wide.specs.statement.Width.{wide_bytes_of}
+use Rattle.tl_wide_event_lines.specs.statement.JudgedWideEvents.{AnySoFar, JudgedAny}
 use Rattle.tl_wide_lines.specs.statement.WideDecoded.{DecodedSoFar, DecodedWide}
 use Rattle.tl_wide_story.specs.statement.WideExplained.{GivesUpWide, ReachesBoth}
 
@@ -41,17 +41,17 @@ use Rattle.tl_wide_story.specs.statement.WideExplained.{GivesUpWide, ReachesBoth
 -- `coherent` and `explain` also read headers that name liberties, and take further ones; the first two also read
 -- headers of wide beats, and of traces with commits.
 abbrev pub program_told : Command → Liberties → List (List ℕ) → List ℕ → Status → Type 0
-program_told Monitor allow = JudgedCommits false allow
+program_told Monitor allow = JudgedAny false allow
 program_told (Decode width) allow = text_told (Decode width)
-program_told Coherent allow = JudgedCommits true allow
+program_told Coherent allow = JudgedAny true allow
 program_told (Explain together) allow = JudgedLinks together allow
 program_told (Run trace) allow = text_told (Run trace)
 
 -- the text of these lines without a fault, before the end of the input
 abbrev pub program_so_far : Command → Liberties → List (List ℕ) → List ℕ → Type 0
-program_so_far Monitor allow = CommitsSoFar false allow
+program_so_far Monitor allow = AnySoFar false allow
 program_so_far (Decode width) allow = text_so_far (Decode width)
-program_so_far Coherent allow = CommitsSoFar true allow
+program_so_far Coherent allow = AnySoFar true allow
 program_so_far (Explain together) allow = LinksSoFar together allow
 program_so_far (Run trace) allow = text_so_far (Run trace)
 

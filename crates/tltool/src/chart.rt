@@ -3,6 +3,7 @@
 ghost use Rattle.tltool.specs.Ended.{EndsCharted, EndsChartedEvents};
 
 use crate::front::front_of;
+use crate::wide_commits::{is_wide_commits, refuse_chart};
 use crate::{told, unopened};
 use std::io::{Read, Write};
 use std::{fs, io};
@@ -56,6 +57,9 @@ fn chart_whole<R: Read + Drop>(
 ) -> u8 {
     let mut output = io::writer(rt);
     let front = front_of(&mut input);
+    if is_wide_commits(front.as_slice()) {
+        return refuse_chart(rt);
+    }
     let mut whole = front.as_slice().chain(input);
     if is_of_events(front.as_slice()) {
         chart_events_over(rt, allow, window, &mut whole, &mut output)

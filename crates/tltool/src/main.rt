@@ -14,6 +14,7 @@ mod front;
 mod report;
 mod times;
 mod wide;
+mod wide_commits;
 
 use chart::chart;
 use commits::{explain_commits_over, is_commits_file};
@@ -28,7 +29,6 @@ use times::explain_timed;
 use tl_command::random::Options;
 use tl_command::search::Aim;
 use tl_command::task::Task;
-use tl_commit_lines::run::run_events;
 use tl_engine::command::Command;
 use tl_engine::explain::explain_input;
 use tl_engine::explain_fault::ExplainFault;
@@ -41,8 +41,10 @@ use tl_links::run::run_links;
 use tl_params::liberties::Liberties;
 use tl_random::schedule::write_schedule;
 use tl_report::find::find_all;
+use tl_wide_event_lines::run::run_any;
 use tl_words::words::{WordsFault, invocation, usage_status};
 use wide::{explain_wide_over, is_wide_file};
+use wide_commits::{explain_verdict, is_wide_commits_file};
 
 /// The exit status of a run. Its fault is printed on standard error.
 pub(crate) fn told(rt: &HostRuntime, outcome: Result<Status, ToolFault>) -> u8
@@ -88,8 +90,8 @@ fn run_over<R: Read, W: Write>(
         (W.contents output.new) result }
 {
     match command {
-        Command::Monitor => told(rt, run_events(rt.alloc(), false, allow, input, output)),
-        Command::Coherent => told(rt, run_events(rt.alloc(), true, allow, input, output)),
+        Command::Monitor => told(rt, run_any(rt.alloc(), false, allow, input, output)),
+        Command::Coherent => told(rt, run_any(rt.alloc(), true, allow, input, output)),
         Command::Explain { coherent } => {
             told(rt, run_links(rt.alloc(), coherent, allow, input, output))
         }
@@ -220,6 +222,9 @@ pub(crate) fn explain<W: Write>(
     if is_read_once(&first) {
         let _ = write_once(name, &mut rt.stderr());
         return exit_of(&Err(ToolFault::Read));
+    }
+    if is_wide_commits_file(rt, name) {
+        return explain_verdict(rt, coherent, allow, &mut first);
     }
     let Ok(mut second) = fs::open(rt, name) else {
         return unopened(rt, name);

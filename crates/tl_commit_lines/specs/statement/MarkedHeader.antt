@@ -2,6 +2,7 @@
 use Rattle.std.specs.Prelude.{◌≡◌, ◌++◌, ℕ, Bool, true, false, List, [], ◌∷◌, length, map, codes, ⊤}
 use Rattle.std.specs.Prelude.{Option, Some, None}
 use Rattle.std.specs.List.{list_any}
+use Rattle.arrayvec.specs.ArrayVec.{ArrayVec}
 use Rattle.tl_command.specs.statement.LibertyWords.{SpellsLiberties}
 use Rattle.tl_engine.specs.statement.LinksHeader.{fourth_front}
 use Rattle.tl_params.specs.declared.level.Level.{Level}
@@ -33,14 +34,24 @@ AreMarkable (x ∷ links) = (x.complete ≡ true → x.level ≡ C) × AreMarkab
 abbrev pub some_marked : List MarkedLevel → Bool
 some_marked links = list_any (λ x. x.complete) links
 
--- The line is a header of the fourth version. Its word names these liberties, and at least one level has the mark.
-pub record SpellsMarked (line : List ℕ) (width : Width) (may : Liberties) (links : List MarkedLevel) : Type 0 where
+-- The bytes are the word that names these liberties, these links and an LF. At least one level has the mark.
+pub record SpellsLinks (bytes : List ℕ) (may : Liberties) (links : List MarkedLevel) : Type 0 where
   pub word : List ℕ
   pub spells : SpellsLiberties word may
-  pub is_line : line ≡ fourth_front width ++ (word ++ (links_text links ++ codes "\n"))
+  pub are_bytes : bytes ≡ word ++ (links_text links ++ codes "\n")
   pub so_many : IsCount (length links)
   pub markable : AreMarkable links
   pub marked : some_marked links ≡ true
+
+-- these liberties and links were read
+abbrev pub AreMarked : Option (Liberties × ArrayVec MarkedLevel) → Liberties → List MarkedLevel → Type 0
+AreMarked None may links = ⊥
+AreMarked (Some named) may links = (named.0 ≡ may) × (named.1.items ≡ links)
+
+-- the line is a header of the fourth version, with these liberties and links
+abbrev pub SpellsMarked : List ℕ → Width → Liberties → List MarkedLevel → Type 0
+SpellsMarked line width may links =
+    (rest : List ℕ) × (line ≡ fourth_front width ++ rest) × SpellsLinks rest may links
 
 -- the line is such a header, and its links have the liberties that it names and those that are allowed
 abbrev pub NamesMarked : Liberties → List ℕ → Width → Liberties → List MarkedLevel → Type 0

@@ -1,50 +1,23 @@
-use Rattle.std.proofs.Common.{rules, ◌≡◌, true}
-use Rattle.tl_commit_lines.proofs.MarkedHeaders.{header_spelled, links_are, marked_behind, no_comma, not_read, same_links, tail}
-use Rattle.tl_commit_lines.specs.statement.MarkedHeader.{some_marked}
+use Rattle.tl_engine.proofs.LinksHeaders.{front_taken}
+use Rattle.tl_commit_lines.proofs.MarkedHeaders.{marked_behind}
 use Rattle.tl_commit_lines.proofs.header.read_marked.Goals as goal
 
 pub returns-in_err-may-clause-every_spelling : goal.returns-in_err-may-clause-every_spelling
 returns-in_err-may-clause-every_spelling c = λ width may links h.
-    let (w, text) = marked_behind c.args.line.now width may links h (c.in_ok-width.width, c.in_ok-width.rest.now)
+    let (w, named) = marked_behind c.args.line.now width may links h (c.in_ok-width.width, c.in_ok-width.rest.now)
     c.in_ok-width.ensures in
-    absurd (c.in_err-may.ensures.every_spelling may h.word (tail links) h.spells
-    (no_comma c.args.line.now width may links h) text)
-
-pub returns-in_err-links-clause-every_spelling : goal.returns-in_err-links-clause-every_spelling
-returns-in_err-links-clause-every_spelling c = λ width may links h.
-    let (w, text) = marked_behind c.args.line.now width may links h (c.in_ok-width.width, c.in_ok-width.rest.now)
-    c.in_ok-width.ensures in
-    let (m, ends) = c.in_ok-may.ensures.every_spelling may h.word (tail links) h.spells
-    (no_comma c.args.line.now width may links h) text in
-    absurd (not_read links c.in_ok-may.rest.now c.in_err-links.ensures
-    (links_are c.args.line.now width may links h c.in_ok-may.rest.now ends))
-
-pub returns-then-not-some_marked-clause-every_spelling : goal.returns-then-not-some_marked-clause-every_spelling
-returns-then-not-some_marked-clause-every_spelling c = λ width may links h.
-    let (w, text) = marked_behind c.args.line.now width may links h (c.in_ok-width.width, c.in_ok-width.rest.now)
-    c.in_ok-width.ensures in
-    let (m, ends) = c.in_ok-may.ensures.every_spelling may h.word (tail links) h.spells
-    (no_comma c.args.line.now width may links h) text in
-    let same = same_links c.in_ok-links.links.items links c.in_ok-may.rest.now c.in_ok-links.ensures
-    (links_are c.args.line.now width may links h c.in_ok-may.rest.now ends) in
-    let some : some_marked c.in_ok-links.links.items ≡ true = rw same h.marked in
-    search (rules, some)
+    absurd (c.in_err-may.ensures.every_spelling may links named)
 
 pub returns-clause-spelled : goal.returns-clause-spelled
-returns-clause-spelled c =
-    let (word, spells, text) = c.in_ok-may.ensures.spelled in
-    let some : some_marked c.in_ok-links.links.items ≡ true = search rules in
-    header_spelled c.args.line.now c.in_ok-width.rest.now c.in_ok-may.rest.now word c.in_ok-width.width c.in_ok-may.may
-    c.in_ok-links.links.items c.in_ok-width.ensures spells text c.in_ok-links.ensures some
+returns-clause-spelled c = (
+  c.in_ok-width.rest.now,
+  front_taken c.args.line.now c.in_ok-width.rest.now c.in_ok-width.width c.in_ok-width.ensures,
+  c.in_ok-may.ensures.spelled,
+)
 
 pub returns-clause-every_spelling : goal.returns-clause-every_spelling
 returns-clause-every_spelling c = λ width may links h.
-    let (w, text) = marked_behind c.args.line.now width may links h (c.in_ok-width.width, c.in_ok-width.rest.now)
+    let (w, named) = marked_behind c.args.line.now width may links h (c.in_ok-width.width, c.in_ok-width.rest.now)
     c.in_ok-width.ensures in
-    let (m, ends) = c.in_ok-may.ensures.every_spelling may h.word (tail links) h.spells
-    (no_comma c.args.line.now width may links h) text in (
-      w,
-      m,
-      same_links c.in_ok-links.links.items links c.in_ok-may.rest.now c.in_ok-links.ensures
-          (links_are c.args.line.now width may links h c.in_ok-may.rest.now ends),
-    )
+    let (m, l) = c.in_ok-may.ensures.every_spelling may links named in
+    (w, m, l)

@@ -1,0 +1,27 @@
+use Rattle.tl_engine.proofs.GivenUp.{given_up_told}
+use Rattle.tl_engine.specs.code.Judging.{KnowsFor}
+use Rattle.tl_wide_event_lines.proofs.TraceJudged.{any-have-text, any-so-far, made-for}
+use Rattle.tl_wide_event_lines.specs.code.EventWatching.{KnowsAnyLines, any_judged_for}
+use Rattle.tl_wide_event_lines.specs.statement.JudgedWideEvents.{AnySoFar, JudgedAny}
+use Rattle.tl_wide_event_lines.proofs.run.run_any.Goals as goal
+
+pub handle_input-requires-clause-total : goal.handle_input-requires-clause-total
+handle_input-requires-clause-total g c = any-have-text
+
+pub returns-clause-ok : goal.returns-clause-ok
+returns-clause-ok g c =
+    let same = made-for c.new.result c.args.together c.args.allow c.new.ensures.purpose in
+    rw (same.0, same.1) at c.handle_input.ensures.ok
+
+pub returns-clause-err : goal.returns-clause-err
+returns-clause-err g c =
+    let same = made-for c.new.result c.args.together c.args.allow c.new.ensures.purpose in
+    rw (same.0, same.1) at c.handle_input.ensures.err
+
+pub returns-clause-fault : goal.returns-clause-fault
+returns-clause-fault g c =
+    let same = made-for c.new.result c.args.together c.args.allow c.new.ensures.purpose in
+    given_up_told (KnowsFor any_judged_for (c.args.together, c.args.allow) KnowsAnyLines)
+    (JudgedAny c.args.together c.args.allow) (AnySoFar c.args.together c.args.allow)
+    (any-so-far c.args.together c.args.allow)
+    _ _ _ _ _ (rw (same.0, same.1) at (rw c.new.ensures.purpose at c.handle_input.ensures.fault))

@@ -1,0 +1,2 @@
+pub mod EventJudging
+pub mod EventWatching

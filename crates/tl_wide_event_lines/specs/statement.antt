@@ -1,0 +1,3 @@
+pub mod EventFaults
+pub mod JudgedWideEvents
+pub mod WideMarkedHeader

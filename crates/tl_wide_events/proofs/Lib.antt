@@ -1,0 +1,6 @@
+mod CommitFaults
+mod CommitNames
+pub mod EventLines
+mod HalvedLines
+mod NarrowedCommits
+mod Worked

@@ -1,0 +1,4 @@
+pub mod Narrowed
+pub mod Narrowing
+pub mod WideCommitLine
+pub mod WideEventLine

@@ -224,7 +224,7 @@ pub(crate) fn explain<W: Write>(
         return exit_of(&Err(ToolFault::Read));
     }
     if is_wide_commits_file(rt, name) {
-        return explain_verdict(rt, coherent, allow, &mut first);
+        return explain_verdict(rt, coherent, allow, &mut first, output);
     }
     let Ok(mut second) = fs::open(rt, name) else {
         return unopened(rt, name);

@@ -2,8 +2,8 @@
 
 use crate::front::front_of;
 use crate::told;
-use std::io::Read;
-use std::{fs, io};
+use std::fs;
+use std::io::{Read, Write};
 use tl_params::liberties::Liberties;
 use tl_wide_event_lines::header::read_wide_marked;
 use tl_wide_event_lines::run::run_any;
@@ -22,14 +22,14 @@ pub(crate) fn is_wide_commits_file(rt: &HostRuntime, name: &str) -> bool {
 }
 
 /// Writes the verdict on such a trace, and says on standard error that it is all. Returns the exit status.
-pub(crate) fn explain_verdict<R: Read>(
+pub(crate) fn explain_verdict<R: Read, W: Write>(
     rt: &HostRuntime,
     coherent: bool,
     allow: Liberties,
     input: &mut R,
+    output: &mut W,
 ) -> u8 {
-    let mut output = io::writer(rt);
-    let outcome = run_any(rt.alloc(), coherent, allow, input, &mut output);
+    let outcome = run_any(rt.alloc(), coherent, allow, input, output);
     let _ = rt.eprintln(
         "tltool: explain writes the verdict alone of a wide trace with stores and loads",
     );

@@ -1,4 +1,4 @@
-//! Laws: a commit names its block alone, and the beats of a wide trace without commits name what they name in `tl_wide`.
+//! Laws: a commit names its block alone, and the beats of a wide trace without commits have the names that `tl_wide` gives them.
 
 ghost use Rattle.std.specs.Prelude.{◌≡◌, ◌∷◌, ℕ, List, Some, map};
 ghost use Rattle.tl_beat.specs.declared.beat.Link.{Link};

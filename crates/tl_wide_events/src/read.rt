@@ -61,7 +61,7 @@ fn read_halves(line: &[u8]) -> Option<(Link, WideCommit)>
 }
 
 /// The first fault of a line that spells no commit with an address of 64 bits: that of a commit's line, or a wrong
-/// address where it spells a commit with one of 32 bits.
+/// address if it spells a commit with one of 32 bits.
 fn fault_of(line: &[u8]) -> LineFault
     ensures { IsFaultUnless (wide_commit_fault line.now) result }
 {

@@ -3,23 +3,23 @@ use Rattle.tltool.proofs.run_over.Goals as goal
 
 pub returns-in-Monitor : goal.returns-in-Monitor
 returns-in-Monitor g c = rw c.in-Monitor.is (
-  c.run_events.result,
+  c.run_any.result,
   c.told.ensures,
   (
-    c.run_events.ensures.ok,
-    c.run_events.ensures.err,
-    c.run_events.ensures.fault,
+    c.run_any.ensures.ok,
+    c.run_any.ensures.err,
+    c.run_any.ensures.fault,
   ),
 )
 
 pub returns-in-Coherent : goal.returns-in-Coherent
 returns-in-Coherent g c = rw c.in-Coherent.is (
-  c.run_events-in-Coherent.result,
+  c.run_any-in-Coherent.result,
   c.told-in-Coherent.ensures,
   (
-    c.run_events-in-Coherent.ensures.ok,
-    c.run_events-in-Coherent.ensures.err,
-    c.run_events-in-Coherent.ensures.fault,
+    c.run_any-in-Coherent.ensures.ok,
+    c.run_any-in-Coherent.ensures.err,
+    c.run_any-in-Coherent.ensures.fault,
   ),
 )
 

@@ -206,7 +206,7 @@ NO_COMMITS = (("00 S 0 00000000", "F1"), ("00 I 0 00000000 05", "F1"), ("00 L 0 
     ("00 s 0 00000000 05", "F2"), ("00 S 4 00000000 05", "F3"), ("00 S 1 00000001 0505", "F3"), ("00 S 1 00000000 05", "F3"),
     ("00 S 0 0000000 05", "F3"), ("00 L 3 00000000 00000000000000G5", "F3"), ("00 A 0 00000000 05", "F1"))
 NO_MARKS = ("tltrace 4 8 none UH+", "tltrace 4 8 none C++", "tltrace 4 8 none C +", "tltrace 4 8 none +C", "tltrace 2 8 C+", "tltrace 3 8 1 C+",
-    "tltrace 5 8 none C+", "tltrace 4 32 none C+", "tltrace 4 8 C+")
+    "tltrace 5 24 none C+", "tltrace 4 32 none C+", "tltrace 4 8 C+")
 # What each liberty allows: the last beat of a trace breaks the rule without it, and none with it.
 UNDER = of_liberties(True)
 # The nearest trace whose last beat breaks this rule with it too.
@@ -331,7 +331,7 @@ ROWS = [
     ("seq 10 10 110 >link.times; tltool explain --times link.times wrong_report.trace | sed -n '3,4s/.* \\(corrupt\\|of\\)/\\1/p'", 0, "corrupt=0\nof line 12 (time 110):\n", ""),
     ("seq 10 10 120 | sed '11s/0$/x/;12s/$/ /' >link.times; tltool explain --times link.times wrong_report.trace | grep -c time", 0, "2\n", ""),
     ("(seq 10 10 110; printf 120) >link.times; tltool explain --times link.times wrong_report.trace | grep -c 'time 1[12]0'", 0, "2\n", ""),
-    ("seq 10 10 120 >link.times; tltool explain --times link.times wide/wrong_report.trace | sed -n 's/.*corrupt=0//p;s/.*the Probe/the Probe/p'", 0, " (time 50)\nthe Probe, of line 5 (time 40):\n (time 40)\n", ""),
+    ("seq 10 10 120 >link.times; tltool explain --times link.times wide/wrong_report.trace | sed -n 's/.*corrupt=0//p;s/.*the Probe,/the Probe,/p'", 0, " (time 50)\nthe Probe, of line 5 (time 40):\n (time 40)\n", ""),
     ("seq 10 10 120 >link.times; tltool explain --coherent --times link.times rules/M6.trace | grep -c 'time [235]0)$\\|time 40)$'", 0, "3\n", ""),
     ("seq 10 10 120 >link.times; sed '3s/ 00000000/ line 2/' two_caches.trace >fault.trace; tltool explain --times link.times fault.trace | grep time", 1, "", ""),
     ("seq 10 10 120 >link.times; tltool explain --times link.times two_caches.trace", 0, f"clean 29\n  nothing is pending at the end\n{CLEAN_MEANS}", ""),

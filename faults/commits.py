@@ -24,6 +24,8 @@ import subprocess
 import sys
 import tempfile
 
+# Traces with more lines aren't explained: each load that begins and never ends is followed to the end of a trace.
+LONG = 1000
 ROOT = pathlib.Path(__file__).resolve().parent.parent
 MODEL = ROOT / "bench/commits_trial.py"
 DATA = ROOT / "crates/tl_examples/data"
@@ -216,7 +218,8 @@ def reasons_slips(tool, name, trace, seed):
         for words in ["explain"], ["explain", "--coherent"], ["explain", "--allow", "standard"]:
             wanted, told = (of(tool, *words, str(it))[0].splitlines() for it in (plain, begun))
             verdict = re.fullmatch(r"line (\d+) (\w+)", wanted[0])
-            if verdict and verdict[2].startswith("F"):
+            # its stores aren't in the trace, so a beat may break a rule of stores that it doesn't break in the other
+            if verdict and verdict[2].startswith("F") or re.fullmatch(r"line \d+ M[567]", told[0]):
                 continue
             wanted = [re.sub(r"(?<=\bline )\d+|^  \d+(?=: )", lambda it: re.sub(r"\d+", lambda n: str(numbers[int(n[0])]), it[0]), it) for it in wanted]
             if not verdict:
@@ -307,7 +310,8 @@ def main():
         for name, text in whole:
             header, *lines = [it for it in text.splitlines() if not it.startswith("line ")] or [""]
             beats += [(f"{name} {i}", "\n".join([header, *spoiled(lines, rng)])) for i in range(8 if len(lines) > 1 else 0)]
-        found += pool.map(lambda it: list(reasons_slips(tool, *it, 0)), [it for it in beats if " S " not in it[1] and " L " not in it[1]])
+        beats = [it for it in beats if " S " not in it[1] and " L " not in it[1] and it[1].count("\n") < LONG]
+        found += pool.map(lambda it: list(reasons_slips(tool, *it, 0)), beats)
     for slip in sum(found, []):
         print(slip)
     failed = sum(map(bool, found))

@@ -221,6 +221,16 @@ def renamed(beats, rng):
         yield beat.copy(address=address if beat.channel in "ABC" + COMMITS else 0, source=source, sink=sink)
 
 
+def rearrange(items, place, kind):
+    """Drops or doubles the item at a place, or turns it and the next around, if that is the kind."""
+    if kind == "drop":
+        del items[place]
+    elif kind == "twice":
+        items.insert(place, items[place])
+    elif kind == "turn" and place + 1 < len(items):
+        items[place:place + 2] = reversed(items[place:place + 2])
+
+
 def spoiled(beats, width, rng):
     """The same with one beat left out, twice, exchanged with the next, or with another field."""
     beats, place = list(beats), rng.randrange(len(beats))
@@ -230,13 +240,8 @@ def spoiled(beats, width, rng):
         # most likely a lane that the message hasn't
         place = rng.choice(small)
     beat = beats[place]
-    if kind == "drop":
-        del beats[place]
-    elif kind == "twice":
-        beats.insert(place, beat)
-    elif kind == "turn" and place + 1 < len(beats):
-        beats[place:place + 2] = reversed(beats[place:place + 2])
-    elif kind == "size":
+    rearrange(beats, place, kind)
+    if kind == "size":
         beats[place] = beat.copy(size=(beat.size + rng.choice([-1, 1, 2])) % 16)
     elif kind == "source":
         beats[place] = beat.copy(source=rng.choice([0, rng.randrange(2**16), rng.choice(beats).source]))
@@ -249,11 +254,11 @@ def spoiled(beats, width, rng):
         beats[place] = beat.copy(data=[it ^ (lane == i) for i, it in enumerate(beat.data)])
     elif kind == "sink":
         beats[place] = beat.copy(sink=rng.choice([0, rng.randrange(2**16)]))
-    elif kind == "param" and beat.channel != "E":
+    elif kind == "param" and beat.channel in "ABCD":
         beats[place] = beat.copy(param=str(rng.randrange(4)))
     elif kind == "denied" and beat.channel == "D":
         beats[place] = beat.copy(denied="10"[int(beat.denied)])
-    elif kind == "corrupt" and beat.channel != "E":
+    elif kind == "corrupt" and beat.channel in "ABCD":
         beats[place] = beat.copy(corrupt="10"[int(beat.corrupt)])
     elif kind == "link":
         beats[place] = beat.copy(link=rng.choice(beats).link)

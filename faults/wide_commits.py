@@ -57,13 +57,8 @@ def spoiled(events, width, rng):
         return wide.spoiled(events, width, rng)
     place = rng.choice(commits)
     commit, kind = events[place], rng.choice(["drop", "twice", "turn", "data", "address", "link", "letter"])
-    if kind == "drop":
-        del events[place]
-    elif kind == "twice":
-        events.insert(place, commit)
-    elif kind == "turn" and place + 1 < len(events):
-        events[place:place + 2] = reversed(events[place:place + 2])
-    elif kind == "data" and commit.opcode:
+    wide.rearrange(events, place, kind)
+    if kind == "data" and commit.opcode:
         digit = rng.randrange(len(commit.opcode))
         events[place] = commit.copy(opcode=commit.opcode[:digit] + rng.choice("0123456789abcdef") + commit.opcode[digit + 1:])
     elif kind == "address":

@@ -97,7 +97,8 @@ fn append_pieces(pieces: &[Piece], out: &mut Vec<u8>) -> Result<(), AllocError>
 }
 
 /// Appends an explanation with the time of each line that it cites. The reader has a number a line: the times of the
-/// lines of the trace after its header. Lines of times up to the first that has no LF, or more than 256 bytes, are read.
+/// lines of the trace after its header. Lines of times up to the first that has no LF, or more than 256 bytes, are read. After
+/// an error a part of the text may be appended. `Write` is no error of it.
 pub fn append_timed<R: Read>(
     alloc: Global,
     explanation: &[u8],

@@ -3,6 +3,7 @@
 ghost use Rattle.std.specs.Prelude.{◌≤◌};
 ghost use Rattle.tl_beat.specs.statement.Width.{IsWidth};
 
+use crate::expect::same_in;
 use std::process::Abort;
 use std::test::Fail;
 use tl_beat::opcode::OpA;
@@ -52,10 +53,11 @@ fn sends<const W: usize>(
         client: 0,
         operation: Op::Access(Message::A(message)),
     };
-    assert_eq!(rt;
-        read_event(line.as_bytes()),
-        Ok(Line::Event(event)),
-        "{line}"
+    same_in(
+        rt,
+        &read_event(line.as_bytes()),
+        &Ok(Line::Event(event)),
+        &line,
     );
 }
 

@@ -1,5 +1,6 @@
 //! Lines of beats whose bytes no file has, and lines that are appended.
 
+use crate::expect::{holds, same};
 use std::test::Fail;
 use tl_beat::beat::{Beat, Link};
 use tl_beat::fault::LineFault;
@@ -9,10 +10,10 @@ use tl_beat::write::write_line;
 #[test]
 fn lane_seven_comes_first(rt: HostRuntime) -> Result<(), Fail> {
     let (link, beat): (Link, Beat<8>) = read_line(b"0f D 1 0 3 02 00 0 0033001100000000 0\n")?;
-    assert_eq!(rt; link, Link(15));
+    same(&rt, &link, &Link(15));
     match beat {
-        Beat::D(beat) => assert_eq!(rt; beat.lanes, Some([0, 0, 0, 0, 0x11, 0, 0x33, 0])),
-        _ => assert!(rt; false),
+        Beat::D(beat) => same(&rt, &beat.lanes, &Some([0, 0, 0, 0, 0x11, 0, 0x33, 0])),
+        _ => holds(&rt, false),
     }
     Ok(())
 }
@@ -21,12 +22,12 @@ fn lane_seven_comes_first(rt: HostRuntime) -> Result<(), Fail> {
 fn a_line_is_at_most_256_bytes_long(rt: HostRuntime) {
     let long = [b'\n'; 257];
     let read: Result<(Link, Beat<8>), LineFault> = read_line(&long);
-    assert_eq!(rt; read.err(), Some(LineFault::F1));
+    same(&rt, &read.err(), &Some(LineFault::F1));
     // A wrong letter comes before the number of fields, within that length.
     let mut near = [b' '; 256];
     near[255] = b'\n';
     let read: Result<(Link, Beat<8>), LineFault> = read_line(&near);
-    assert_eq!(rt; read.err(), Some(LineFault::F2));
+    same(&rt, &read.err(), &Some(LineFault::F2));
 }
 
 /// After other bytes, up to a megabyte.
@@ -36,10 +37,10 @@ fn lines_are_appended(rt: HostRuntime) -> Result<(), Fail> {
     let mut out = Vec::new(rt.alloc());
     out.push(b'x')?;
     write_line(link, &beat, &mut out)?;
-    assert_eq!(rt; out.as_slice(), b"x01 E 03\n".as_slice());
+    same(&rt, &out.as_slice(), &b"x01 E 03\n".as_slice());
     for _ in 0..131_071 {
         write_line(link, &beat, &mut out)?;
     }
-    assert_eq!(rt; out.len(), 1_048_577);
+    same(&rt, &out.len(), &1_048_577);
     Ok(())
 }

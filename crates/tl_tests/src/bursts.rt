@@ -4,6 +4,7 @@ ghost use Rattle.std.specs.Prelude.{◌≤◌};
 ghost use Rattle.tl_beat.specs.statement.Width.{IsWidth};
 ghost use Rattle.tl_burst.specs.statement.Part.{IsTakeable};
 
+use crate::expect::{holds_in, same, same_in};
 use std::process::Abort;
 use tl_beat::beat::{Beat, BeatA, BeatE};
 use tl_beat::opcode::{OpA, OpB, OpC, OpD};
@@ -38,18 +39,19 @@ fn is_parted<const W: usize>(rt: &impl Abort, size: u8, parts: &[Part])
     let mut assembler = Assembler::<W>::new();
     let beat = request(true, size, 0);
     for part in parts {
-        assert_eq!(rt; assembler.peek(&beat), Ok(*part), "{size}");
+        same_in(rt, &assembler.peek(&beat), &Ok(*part), &size);
         let taken = assembler.take(&beat);
         if matches!(part, Part::Last | Part::Only) {
-            assert!(rt; matches!(taken, Ok(Some(_))), "{size}");
+            holds_in(rt, matches!(taken, Ok(Some(_))), &size);
         } else {
-            assert_eq!(rt; taken, Ok(None), "{size}");
+            same_in(rt, &taken, &Ok(None), &size);
         }
     }
-    assert_eq!(rt;
-        assembler.peek(&beat).ok(),
-        parts.first().copied(),
-        "{size}"
+    same_in(
+        rt,
+        &assembler.peek(&beat).ok(),
+        &parts.first().copied(),
+        &size,
     );
 }
 
@@ -69,7 +71,7 @@ fn is_only<const W: usize>(rt: &impl Abort, beat: &Beat<W>)
     requires takeable { IsTakeable beat.now }
 {
     let assembler = Assembler::<W>::new();
-    assert_eq!(rt; assembler.peek(beat), Ok(Part::Only));
+    same(rt, &assembler.peek(beat), &Ok(Part::Only));
 }
 
 #[test]
@@ -89,13 +91,13 @@ fn goes_on_after_a_refusal<const W: usize>(rt: &impl Abort, beats: u8)
     let other = request(true, 6, 1);
     for i in 0..beats {
         let part = if i == 0 { Part::First } else { Part::Middle };
-        assert_eq!(rt; assembler.peek(&beat), Ok(part));
-        assert_eq!(rt; assembler.take(&beat), Ok(None));
+        same(rt, &assembler.peek(&beat), &Ok(part));
+        same(rt, &assembler.take(&beat), &Ok(None));
     }
-    assert_eq!(rt; assembler.peek(&other), Err(Broken::S1));
-    assert_eq!(rt; assembler.take(&other), Err(Broken::S1));
-    assert_eq!(rt; assembler.peek(&beat), Ok(Part::Middle));
-    assert_eq!(rt; assembler.take(&beat), Ok(None));
+    same(rt, &assembler.peek(&other), &Err(Broken::S1));
+    same(rt, &assembler.take(&other), &Err(Broken::S1));
+    same(rt, &assembler.peek(&beat), &Ok(Part::Middle));
+    same(rt, &assembler.take(&beat), &Ok(None));
 }
 
 #[test]
@@ -137,9 +139,9 @@ fn comes_again<const W: usize>(rt: &impl Abort, message: &Message<W>)
     for i in 0..count {
         let answer = assembler.take(&beat_at(message, i));
         if i + 1 == count {
-            assert_eq!(rt; answer, Ok(Some(*message)));
+            same(rt, &answer, &Ok(Some(*message)));
         } else {
-            assert_eq!(rt; answer, Ok(None));
+            same(rt, &answer, &Ok(None));
         }
     }
 }

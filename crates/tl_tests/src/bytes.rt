@@ -1,5 +1,6 @@
 //! The values that the bytes of a block may have after Grants, reports and Puts.
 
+use crate::expect::{holds, same, same_in};
 use std::alloc::{AllocError, Global};
 use std::process::Abort;
 use std::test::Fail;
@@ -52,7 +53,7 @@ fn may_be(rt: &impl Abort, block: &BlockBytes, place: u8, possible: [bool; 3]) {
         block.may_be(place, 7),
         block.may_be(place, 9),
     ];
-    assert_eq!(rt; found, possible, "{place}");
+    same_in(rt, &found, &possible, &place);
 }
 
 #[test]
@@ -98,15 +99,15 @@ fn of_two_puts_one_after_the_other_the_second_came_last(rt: HostRuntime) -> Resu
 fn a_put_beside_a_copy(rt: HostRuntime) -> Result<(), Fail> {
     let mut block = BlockBytes::told(rt.alloc(), &each(9), 1)?;
     let windows = opened(3).after(false, 4);
-    assert_eq!(rt; block.standing(&windows, false), Standing::Anywhere);
+    same(&rt, &block.standing(&windows, false), &Standing::Anywhere);
     put(rt.alloc(), &mut block, 7, windows, 5)?;
     may_be(&rt, &block, 0, [false, true, true]);
     block = BlockBytes::told(rt.alloc(), &each(5), 7)?;
-    assert_eq!(rt; block.standing(&windows, false), Standing::Told);
+    same(&rt, &block.standing(&windows, false), &Standing::Told);
     put(rt.alloc(), &mut block, 7, windows, 8)?;
     may_be(&rt, &block, 0, [true, false, false]);
     let again = windows.after(true, 9);
-    assert_eq!(rt; block.standing(&again, false), Standing::Anywhere);
+    same(&rt, &block.standing(&again, false), &Standing::Anywhere);
     put(rt.alloc(), &mut block, 7, again, 9)?;
     may_be(&rt, &block, 0, [true, true, false]);
     Ok(())
@@ -119,7 +120,7 @@ fn may_bring(rt: &impl Abort, read: &ReadBytes, place: u8, possible: [bool; 3]) 
         read.may_bring(place, 7),
         read.may_bring(place, 9),
     ];
-    assert_eq!(rt; found, possible, "{place}");
+    same_in(rt, &found, &possible, &place);
 }
 
 #[test]
@@ -146,11 +147,11 @@ fn a_read_beside_a_put(rt: HostRuntime) -> Result<(), Fail> {
 #[test]
 fn a_grant_beside_a_put(rt: HostRuntime) -> Result<(), Fail> {
     let block = BlockBytes::told(rt.alloc(), &each(9), 1)?;
-    assert!(rt; block.may_grant(0, 9, &[eight(7)]));
-    assert!(rt; block.may_grant(0, 7, &[eight(7)]));
-    assert!(rt; !block.may_grant(0, 5, &[eight(7)]));
-    assert!(rt; !block.may_grant(8, 7, &[eight(7)]));
-    assert!(rt; !block.may_grant(0, 7, &[]));
+    holds(&rt, block.may_grant(0, 9, &[eight(7)]));
+    holds(&rt, block.may_grant(0, 7, &[eight(7)]));
+    holds(&rt, !block.may_grant(0, 5, &[eight(7)]));
+    holds(&rt, !block.may_grant(8, 7, &[eight(7)]));
+    holds(&rt, !block.may_grant(0, 7, &[]));
     Ok(())
 }
 

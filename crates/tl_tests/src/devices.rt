@@ -1,5 +1,6 @@
 //! Readers and writers of one byte a call that fail, and lines that are refused at once.
 
+use crate::expect::{holds, holds_in, same, same_in};
 use std::fmt::Write as _;
 use std::test::Fail;
 use tl_engine::command::{Command, RunForm, Width};
@@ -66,9 +67,9 @@ fn a_fault_of_the_reader(rt: HostRuntime) -> Result<(), Fail> {
         let mut reader = Slow::new(input, true);
         let mut output = Vec::new(rt.alloc());
         let outcome = run_tool(rt.alloc(), command, &mut reader, &mut output);
-        assert!(rt; outcome == Err(ToolFault::Read), "{command:?}");
-        assert_eq!(rt; exit_of(&outcome), 3, "{command:?}");
-        assert_eq!(rt; output.as_slice(), text, "{command:?}");
+        holds_in(&rt, outcome == Err(ToolFault::Read), &command);
+        same_in(&rt, &exit_of(&outcome), &3, &command);
+        same_in(&rt, &output.as_slice(), &text, &command);
     }
     Ok(())
 }
@@ -86,8 +87,8 @@ fn a_fault_of_the_writer(rt: HostRuntime) {
             let mut reader = input;
             let mut writer = Narrow::new(rt.alloc(), taken.len(), fails);
             let outcome = run_tool(rt.alloc(), command, &mut reader, &mut writer);
-            assert!(rt; outcome == Err(ToolFault::Write), "{command:?}");
-            assert_eq!(rt; writer.taken.as_slice(), taken, "{command:?}");
+            holds_in(&rt, outcome == Err(ToolFault::Write), &command);
+            same_in(&rt, &writer.taken.as_slice(), &taken, &command);
         }
     }
 }
@@ -124,8 +125,8 @@ fn asks_for_nothing_after_the_fault(rt: HostRuntime) {
         let mut reader = Slow::new(input, true);
         let mut output = Vec::new(rt.alloc());
         let outcome = run_tool(rt.alloc(), command, &mut reader, &mut output);
-        assert!(rt; outcome == Ok(Status::Broken), "{command:?}");
-        assert_eq!(rt; output.as_slice(), text, "{command:?}");
+        holds_in(&rt, outcome == Ok(Status::Broken), &command);
+        same_in(&rt, &output.as_slice(), &text, &command);
     }
 }
 
@@ -135,7 +136,10 @@ fn want_of_memory_is_no_verdict(rt: HostRuntime) {
     let mut reader = b"tltrace 1 C\n00 A 6 0 6 00 00000000 ff - 0\n00 E 00\n".as_slice();
     let mut writer = Narrow::new(rt.alloc(), 0, false);
     let outcome = run_tool(rt.alloc(), Command::Monitor, &mut reader, &mut writer);
-    assert!(rt; outcome == Err(ToolFault::Write) || outcome == Err(ToolFault::Memory));
+    holds(
+        &rt,
+        outcome == Err(ToolFault::Write) || outcome == Err(ToolFault::Memory),
+    );
 }
 
 #[test]
@@ -148,15 +152,17 @@ fn faults_as_text(rt: HostRuntime) -> Result<(), Fail> {
         ToolFault::Read,
         ToolFault::Write
     )?;
-    assert_eq!(rt;
-        text.as_str(),
-        "tltool: no memory|tltool: read failed|tltool: write failed"
+    same(
+        &rt,
+        &text.as_str(),
+        &"tltool: no memory|tltool: read failed|tltool: write failed",
     );
     let mut output = Vec::new(rt.alloc());
-    assert!(rt; write_open_fault("beats.txt", &mut output) == Ok(()));
-    assert_eq!(rt;
-        output.as_slice(),
-        b"tltool: cannot open beats.txt\n".as_slice()
+    holds(&rt, write_open_fault("beats.txt", &mut output) == Ok(()));
+    same(
+        &rt,
+        &output.as_slice(),
+        &b"tltool: cannot open beats.txt\n".as_slice(),
     );
     Ok(())
 }

@@ -3,6 +3,7 @@
 ghost use Rattle.tl_beat.specs.statement.Width.{IsWidth};
 
 use crate::accesses::FULL;
+use crate::expect::{holds_in, same, same_in};
 use std::process::Abort;
 use std::test::Fail;
 use tl_beat::beat::Link;
@@ -14,10 +15,11 @@ use tl_schedule::line::{EventFault, Line, read_event};
 
 fn asks(rt: &impl Abort, line: &str, client: u8, operation: Op<8>) {
     let event = Event::Ask { client, operation };
-    assert_eq!(rt;
-        read_event(line.as_bytes()),
-        Ok(Line::Event(event)),
-        "{line}"
+    same_in(
+        rt,
+        &read_event(line.as_bytes()),
+        &Ok(Line::Event(event)),
+        &line,
     );
 }
 
@@ -83,21 +85,22 @@ fn deliveries_and_draining(rt: HostRuntime) {
             link: Link(link),
             channel,
         };
-        assert_eq!(rt;
-            read_event(line.as_bytes()),
-            Ok(Line::Event(event)),
-            "{line}"
+        same_in(
+            &rt,
+            &read_event(line.as_bytes()),
+            &Ok(Line::Event(event)),
+            &line,
         );
     }
-    assert_eq!(rt; read_event::<4>(b"drain\n"), Ok(Line::Drain));
-    assert_eq!(rt; read_event::<8>(b"drain\n"), Ok(Line::Drain));
-    assert_eq!(rt; read_event::<16>(b"drain\n"), Ok(Line::Drain));
+    same(&rt, &read_event::<4>(b"drain\n"), &Ok(Line::Drain));
+    same(&rt, &read_event::<8>(b"drain\n"), &Ok(Line::Drain));
+    same(&rt, &read_event::<16>(b"drain\n"), &Ok(Line::Drain));
 }
 
 fn is_at_fault<const W: usize>(rt: &impl Abort, line: &[u8], fault: EventFault)
     requires { IsWidth W }
 {
-    assert_eq!(rt; read_event::<W>(line), Err(fault), "{line:?}");
+    same_in(rt, &read_event::<W>(line), &Err(fault), &line);
 }
 
 /// The bytes before and after an event in the lines close to its own.
@@ -120,7 +123,7 @@ fn has_none_beside_it<const W: usize>(
     requires { IsWidth W }
 {
     let good = format!(in rt.alloc(); "{line}\n")?;
-    assert!(rt; read_event::<W>(good.as_bytes()).is_ok(), "{line}");
+    holds_in(rt, read_event::<W>(good.as_bytes()).is_ok(), &line);
     is_at_fault::<W>(rt, line.as_bytes(), EventFault::F1);
     for (before, behind) in AROUND {
         let beside = format!(in rt.alloc(); "{before}{line}{behind}")?;

@@ -1,5 +1,6 @@
 //! The values of headers of schedules.
 
+use crate::expect::{holds, same_in};
 use std::test::Fail;
 use tl_params::header::Version;
 use tl_params::level::Level;
@@ -98,15 +99,15 @@ fn headers_of_each_version(rt: HostRuntime) -> Result<(), Fail> {
     for (line, version, blocks, trackers, count, last) in HEADERS {
         let schedule = read_schedule(line.as_bytes()).ok_or(line)?;
         let clients = schedule.config.clients.as_slice();
-        assert_eq!(rt; schedule.version, version, "{line}");
-        assert_eq!(rt; schedule.config.profile, version.profile(), "{line}");
-        assert_eq!(rt; schedule.config.blocks, blocks, "{line}");
-        assert_eq!(rt; schedule.config.trackers, trackers, "{line}");
-        assert_eq!(rt; clients.len(), count, "{line}");
+        same_in(&rt, &schedule.version, &version, &line);
+        same_in(&rt, &schedule.config.profile, &version.profile(), &line);
+        same_in(&rt, &schedule.config.blocks, &blocks, &line);
+        same_in(&rt, &schedule.config.trackers, &trackers, &line);
+        same_in(&rt, &clients.len(), &count, &line);
         let client = clients.last().map(|c| (c.level, c.sources));
-        assert_eq!(rt; client, Some(last), "{line}");
+        same_in(&rt, &client, &Some(last), &line);
     }
     // One end too many.
-    assert!(rt; read_schedule(b"tlsched 1 1 1 C:1\n\n").is_none());
+    holds(&rt, read_schedule(b"tlsched 1 1 1 C:1\n\n").is_none());
     Ok(())
 }

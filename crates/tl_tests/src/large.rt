@@ -3,6 +3,7 @@
 ghost use Rattle.std.specs.Prelude.{◌<◌};
 
 use crate::devices::{DECODE, GET, GET_TEXT};
+use crate::expect::{holds, same};
 use std::alloc::{AllocError, Global};
 use std::cell::Cell;
 use std::io::{self, Read, Write};
@@ -43,13 +44,13 @@ fn decodes_many_lines(rt: HostRuntime) -> Result<(), Fail> {
         let mut reader = input.as_slice();
         let mut output = Vec::new(rt.alloc());
         let outcome = run_tool(rt.alloc(), DECODE, &mut reader, &mut output);
-        assert!(rt; outcome == Ok(status));
-        assert!(rt; output.as_slice() == text.as_slice());
+        holds(&rt, outcome == Ok(status));
+        holds(&rt, output.as_slice() == text.as_slice());
         let mut slow = Slow::new(input.as_slice(), false);
         let mut narrow = Narrow::new(rt.alloc(), usize::MAX, false);
         let outcome = run_tool(rt.alloc(), DECODE, &mut slow, &mut narrow);
-        assert!(rt; outcome == Ok(status));
-        assert!(rt; narrow.taken.as_slice() == text.as_slice());
+        holds(&rt, outcome == Ok(status));
+        holds(&rt, narrow.taken.as_slice() == text.as_slice());
     }
     Ok(())
 }
@@ -81,13 +82,13 @@ fn judged(
 #[test]
 fn judges_many_beats(rt: HostRuntime) -> Result<(), Fail> {
     let text = judged(rt.alloc(), "tltrace 1 UL", 1, 1000, "")?;
-    assert_eq!(rt; text.as_slice(), b"clean 2000\n".as_slice());
+    same(&rt, &text.as_slice(), &b"clean 2000\n".as_slice());
     let header = "tltrace 1 UL UH C UL UH C UL UH C UL UH C UL UH C UL";
     let text = judged(rt.alloc(), header, 16, 5000, "")?;
-    assert_eq!(rt; text.as_slice(), b"clean 10000\n".as_slice());
+    same(&rt, &text.as_slice(), &b"clean 10000\n".as_slice());
     let answer = "0f D 1 0 3 00 00 0 0011223344556677 0\n";
     let text = judged(rt.alloc(), header, 16, 5000, answer)?;
-    assert_eq!(rt; text.as_slice(), b"line 10002 H2\n".as_slice());
+    same(&rt, &text.as_slice(), &b"line 10002 H2\n".as_slice());
     Ok(())
 }
 
@@ -152,7 +153,7 @@ fn played(rt: &impl Abort, alloc: Global, form: RunForm) -> Result<Vec<u8>, Fail
     let mut reader = schedule.as_slice();
     let mut at_once = Vec::new(alloc);
     let _ = run_tool(alloc, Command::Run { form }, &mut reader, &mut at_once)?;
-    assert!(rt; at_once.as_slice() == text.as_slice());
+    holds(rt, at_once.as_slice() == text.as_slice());
     Ok(text)
 }
 
@@ -170,24 +171,25 @@ fn lines_that_end(text: &[u8], end: &[u8]) -> usize {
 fn plays_a_large_schedule(rt: HostRuntime) -> Result<(), Fail> {
     let text = played(&rt, rt.alloc(), RunForm::Outcomes)?;
     let text = text.as_slice();
-    assert!(rt; text.ends_with(b"\ndrained 1088\nline 260 F8\n"));
-    assert_eq!(rt;
-        lines_that_end(text, b""),
-        128 + 410 + 1 + 128 + 1088 + 1 + 2
+    holds(&rt, text.ends_with(b"\ndrained 1088\nline 260 F8\n"));
+    same(
+        &rt,
+        &lines_that_end(text, b""),
+        &(128 + 410 + 1 + 128 + 1088 + 1 + 2),
     );
-    assert_eq!(rt; lines_that_end(text, b"drained 410"), 1);
+    same(&rt, &lines_that_end(text, b"drained 410"), &1);
     for source in [b"started 00", b"started 03", b"started 07"] {
-        assert_eq!(rt; lines_that_end(text, source), 32);
+        same(&rt, &lines_that_end(text, source), &32);
     }
-    assert_eq!(rt; lines_that_end(text, b" ack"), 64);
-    assert_eq!(rt; lines_that_end(text, b" granted T"), 48);
+    same(&rt, &lines_that_end(text, b" ack"), &64);
+    same(&rt, &lines_that_end(text, b" granted T"), &48);
     // Half of a block, whose other half was put.
     let mut data = [b'0'; 128];
     for i in 32..64usize {
         data[2 * i] = b'a';
         data[2 * i + 1] = b'5';
     }
-    assert_eq!(rt; lines_that_end(text, &data), 8);
+    same(&rt, &lines_that_end(text, &data), &8);
     Ok(())
 }
 
@@ -195,13 +197,13 @@ fn plays_a_large_schedule(rt: HostRuntime) -> Result<(), Fail> {
 #[test]
 fn traces_a_large_schedule(rt: HostRuntime) -> Result<(), Fail> {
     let text = played(&rt, rt.alloc(), RunForm::Trace)?;
-    assert!(rt; text.ends_with(b"\nline 260 F8\n"));
+    holds(&rt, text.ends_with(b"\nline 260 F8\n"));
     let end = text.len().saturating_sub(12);
     let mut reader = &text.as_slice()[..end];
     let mut output = Vec::new(rt.alloc());
     let outcome = run_tool(rt.alloc(), Command::Monitor, &mut reader, &mut output);
-    assert!(rt; outcome == Ok(Status::Clean));
-    assert_eq!(rt; output.as_slice(), b"clean 1498\n".as_slice());
+    holds(&rt, outcome == Ok(Status::Clean));
+    same(&rt, &output.as_slice(), &b"clean 1498\n".as_slice());
     Ok(())
 }
 
@@ -255,6 +257,6 @@ fn writes_each_text_before_the_next_read(rt: HostRuntime) {
     };
     let mut writer = Counting { written: &written };
     let outcome = run_tool(rt.alloc(), DECODE, &mut reader, &mut writer);
-    assert!(rt; outcome == Ok(Status::Clean));
-    assert_eq!(rt; written.get(), GET_TEXT.len() * 1000);
+    holds(&rt, outcome == Ok(Status::Clean));
+    same(&rt, &written.get(), &(GET_TEXT.len() * 1000));
 }

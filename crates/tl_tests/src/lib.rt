@@ -17,6 +17,8 @@ mod devices;
 #[cfg(test)]
 mod events;
 #[cfg(test)]
+mod expect;
+#[cfg(test)]
 mod headers;
 #[cfg(test)]
 mod large;

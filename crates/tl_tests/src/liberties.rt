@@ -1,5 +1,6 @@
 //! Links with liberties: sets of them, and a monitor under each.
 
+use crate::expect::same;
 use std::test::Fail;
 use tl_beat::beat::{Beat, Link};
 use tl_beat::read::read_line;
@@ -62,21 +63,23 @@ fn sets_of_liberties(rt: HostRuntime) {
         "uncorrupt",
     ];
     for (liberty, name) in Liberty::ALL.iter().zip(names.iter()) {
-        assert_eq!(rt; liberty.name(), *name);
+        same(&rt, &liberty.name(), name);
         let own = Liberties::none().with(*liberty);
         for other in Liberty::ALL.iter() {
-            assert_eq!(rt; own.allows(*other), other == liberty);
+            same(&rt, &own.allows(*other), &(other == liberty));
         }
-        assert_eq!(rt;
-            Liberties::standard().allows(*liberty),
-            *liberty != Liberty::Uncorrupt
+        same(
+            &rt,
+            &Liberties::standard().allows(*liberty),
+            &(*liberty != Liberty::Uncorrupt),
         );
-        assert_eq!(rt; Liberties::none().union(own), own);
+        same(&rt, &Liberties::none().union(own), &own);
     }
-    assert_eq!(rt; Liberties::of(Profile::One), Liberties::none());
-    assert_eq!(rt;
-        Liberties::of(Profile::Two),
-        Liberties::none().with(Liberty::Writer)
+    same(&rt, &Liberties::of(Profile::One), &Liberties::none());
+    same(
+        &rt,
+        &Liberties::of(Profile::Two),
+        &Liberties::none().with(Liberty::Writer),
     );
 }
 
@@ -102,13 +105,15 @@ fn each_liberty_allows_its_trace(rt: HostRuntime) -> Result<(), Fail> {
         }
         let own = Liberties::none().with(liberty);
         let fault = Err(TraceFault::At(lines.len() - 1, rule));
-        assert_eq!(rt;
-            check_trace_under(rt.alloc(), &[Level::C], Liberties::none(), trace.as_slice()),
-            fault
+        same(
+            &rt,
+            &check_trace_under(rt.alloc(), &[Level::C], Liberties::none(), trace.as_slice()),
+            &fault,
         );
-        assert_eq!(rt;
-            check_trace_under(rt.alloc(), &[Level::C], own, trace.as_slice()),
-            Ok(())
+        same(
+            &rt,
+            &check_trace_under(rt.alloc(), &[Level::C], own, trace.as_slice()),
+            &Ok(()),
         );
     }
     Ok(())
@@ -125,20 +130,21 @@ fn a_client_that_gives_up_a_block_without_a_message(rt: HostRuntime) -> Result<(
         let mut monitor = Monitor::<8>::with_liberties(rt.alloc(), &[Level::C], liberties)?;
         for line in HELD {
             let (link, beat) = read_line(line.as_bytes())?;
-            assert_eq!(rt; monitor.push(link, &beat), Ok(()));
+            same(&rt, &monitor.push(link, &beat), &Ok(()));
         }
-        assert_eq!(rt; monitor.held_under(link, 0), Perm::Trunk);
+        same(&rt, &monitor.held_under(link, 0), &Perm::Trunk);
         let broken = if drops { None } else { Some(Rule::H5) };
-        assert_eq!(rt; monitor.broken_under(link, &acquire), broken);
+        same(&rt, &monitor.broken_under(link, &acquire), &broken);
         if drops {
-            assert_eq!(rt; monitor.try_push(link, &acquire), Ok(()));
-            assert_eq!(rt; monitor.held_under(link, 0), Perm::None);
+            same(&rt, &monitor.try_push(link, &acquire), &Ok(()));
+            same(&rt, &monitor.held_under(link, 0), &Perm::None);
         } else {
-            assert_eq!(rt;
-                monitor.try_push(link, &acquire),
-                Err(MonitorFault::Broken(Rule::H5))
+            same(
+                &rt,
+                &monitor.try_push(link, &acquire),
+                &Err(MonitorFault::Broken(Rule::H5)),
             );
-            assert_eq!(rt; monitor.held_under(link, 0), Perm::Trunk);
+            same(&rt, &monitor.held_under(link, 0), &Perm::Trunk);
         }
     }
     Ok(())

@@ -2,6 +2,7 @@
 
 ghost use Rattle.tl_beat.specs.statement.Width.{IsWidth};
 
+use crate::expect::{holds, same};
 use std::process::Abort;
 use std::test::Fail;
 use tl_beat::beat::{Beat, BeatA, BeatE, Link};
@@ -89,15 +90,17 @@ fn pushed(monitor: &mut Monitor<8>, line: &str) -> Result<Result<(), MonitorFaul
 fn numbers_of_levels_out_of_their_limits(rt: HostRuntime) {
     let trace = [(Link(1), Beat::<8>::E(BeatE { sink: 0 }))];
     for levels in [[].as_slice(), [Level::C; 17].as_slice()] {
-        assert_eq!(rt;
-            check_trace(rt.alloc(), levels, Profile::One, &trace),
-            Err(TraceFault::Levels)
+        same(
+            &rt,
+            &check_trace(rt.alloc(), levels, Profile::One, &trace),
+            &Err(TraceFault::Levels),
         );
-        assert!(rt;
+        holds(
+            &rt,
             matches!(
                 Monitor::<8>::new(rt.alloc(), levels, Profile::One),
                 Err(MonitorFault::Levels)
-            )
+            ),
         );
     }
 }
@@ -112,15 +115,17 @@ fn begins_with_each_number<const W: usize>(rt: &(impl Abort + AllocGlobal)) -> R
         let levels = &levels[..usize::from(count)];
         let mut monitor = Monitor::<W>::new(rt.alloc(), levels, Profile::One)?;
         let last = Link(count - 1);
-        assert_eq!(rt; monitor.entries(last), 0);
-        assert_eq!(rt;
-            monitor.push(last, &beat),
-            Err(MonitorFault::Broken(Rule::H8))
+        same(rt, &monitor.entries(last), &0);
+        same(
+            rt,
+            &monitor.push(last, &beat),
+            &Err(MonitorFault::Broken(Rule::H8)),
         );
         let mut monitor = Monitor::<W>::new(rt.alloc(), levels, Profile::Two)?;
-        assert_eq!(rt;
-            monitor.push(Link(count), &beat),
-            Err(MonitorFault::Broken(Rule::L1))
+        same(
+            rt,
+            &monitor.push(Link(count), &beat),
+            &Err(MonitorFault::Broken(Rule::L1)),
         );
     }
     Ok(())
@@ -137,15 +142,20 @@ fn monitors_of_each_number_of_levels(rt: HostRuntime) -> Result<(), Fail> {
 fn a_monitor_closes(rt: HostRuntime) -> Result<(), Fail> {
     let mut monitor = Monitor::<8>::new(rt.alloc(), &[Level::C], Profile::One)?;
     for line in SHARED {
-        assert_eq!(rt; pushed(&mut monitor, line)?, Ok(()));
+        same(&rt, &pushed(&mut monitor, line)?, &Ok(()));
     }
-    assert_eq!(rt; pushed(&mut monitor, SHARED[0])?, Ok(()));
+    same(&rt, &pushed(&mut monitor, SHARED[0])?, &Ok(()));
     let other = "00 A 6 0 6 01 00000000 ff - 0\n";
-    assert_eq!(rt;
-        pushed(&mut monitor, other)?,
-        Err(MonitorFault::Broken(Rule::H4))
+    same(
+        &rt,
+        &pushed(&mut monitor, other)?,
+        &Err(MonitorFault::Broken(Rule::H4)),
     );
-    assert_eq!(rt; pushed(&mut monitor, SHARED[1])?, Err(MonitorFault::Closed));
+    same(
+        &rt,
+        &pushed(&mut monitor, SHARED[1])?,
+        &Err(MonitorFault::Closed),
+    );
     Ok(())
 }
 
@@ -154,9 +164,9 @@ fn entries_after_each_beat(rt: HostRuntime) -> Result<(), Fail> {
     let mut monitor = Monitor::<8>::new(rt.alloc(), &[Level::C], Profile::One)?;
     let expected = [2, 4, 4, 4, 4, 4, 4, 4, 3, 1, 2, 0];
     for (line, count) in LENT.iter().zip(expected.iter()) {
-        assert_eq!(rt; pushed(&mut monitor, line)?, Ok(()));
-        assert_eq!(rt; monitor.entries(Link(0)), *count);
-        assert_eq!(rt; monitor.entries(Link(1)), 0);
+        same(&rt, &pushed(&mut monitor, line)?, &Ok(()));
+        same(&rt, &monitor.entries(Link(0)), count);
+        same(&rt, &monitor.entries(Link(1)), &0);
     }
     Ok(())
 }
@@ -166,10 +176,10 @@ fn pushes_again(rt: &impl Abort, monitor: &mut Monitor<8>, beat: &Beat<8>) {
     let before = monitor.entries(Link(0));
     match monitor.push(Link(0), beat) {
         Err(MonitorFault::Memory) => {
-            assert_eq!(rt; monitor.entries(Link(0)), before);
-            assert_eq!(rt; monitor.push(Link(0), beat), Ok(()));
+            same(rt, &monitor.entries(Link(0)), &before);
+            same(rt, &monitor.push(Link(0), beat), &Ok(()));
         }
-        answer => assert_eq!(rt; answer, Ok(())),
+        answer => same(rt, &answer, &Ok(())),
     }
 }
 
@@ -200,7 +210,11 @@ fn memory_that_is_refused_once(rt: HostRuntime) -> Result<(), Fail> {
     }
     for block in 0..=255u8 {
         pushes_again(&rt, &mut monitor, &acquire_of(block));
-        assert_eq!(rt; monitor.entries(Link(0)), 2 * (usize::from(block) + 1));
+        same(
+            &rt,
+            &monitor.entries(Link(0)),
+            &(2 * (usize::from(block) + 1)),
+        );
     }
     Ok(())
 }
@@ -213,19 +227,21 @@ fn many_beats_and_a_fault_at_the_end(rt: HostRuntime) -> Result<(), Fail> {
     for _ in 0..4000u16 {
         for line in ANSWERED {
             trace.push(read_line(line.as_bytes())?)?;
-            assert_eq!(rt; pushed(&mut monitor, line)?, Ok(()));
+            same(&rt, &pushed(&mut monitor, line)?, &Ok(()));
         }
     }
-    assert_eq!(rt; monitor.entries(Link(0)), 0);
+    same(&rt, &monitor.entries(Link(0)), &0);
     let levels = [Level::UL];
-    assert_eq!(rt;
-        check_trace(rt.alloc(), &levels, Profile::One, trace.as_slice()),
-        Ok(())
+    same(
+        &rt,
+        &check_trace(rt.alloc(), &levels, Profile::One, trace.as_slice()),
+        &Ok(()),
     );
     trace.push(read_line(ANSWERED[1].as_bytes())?)?;
-    assert_eq!(rt;
-        check_trace(rt.alloc(), &levels, Profile::One, trace.as_slice()),
-        Err(TraceFault::At(8000, Rule::H2))
+    same(
+        &rt,
+        &check_trace(rt.alloc(), &levels, Profile::One, trace.as_slice()),
+        &Err(TraceFault::At(8000, Rule::H2)),
     );
     Ok(())
 }
@@ -240,20 +256,23 @@ fn many_beats_of_all_links_and_a_fault_at_the_end(rt: HostRuntime) -> Result<(),
             trace.push(read_line(line.as_bytes())?)?;
         }
     }
-    assert_eq!(rt;
-        check_together(rt.alloc(), &levels, Profile::One, trace.as_slice()),
-        Ok(())
+    same(
+        &rt,
+        &check_together(rt.alloc(), &levels, Profile::One, trace.as_slice()),
+        &Ok(()),
     );
     for line in GRANTED_TO_BOTH {
         trace.push(read_line(line.as_bytes())?)?;
     }
-    assert_eq!(rt;
-        check_together(rt.alloc(), &levels, Profile::One, trace.as_slice()),
-        Err(together::TraceFault::At(5003, Breach::OfMemory(MemoryRule::M1)))
+    same(
+        &rt,
+        &check_together(rt.alloc(), &levels, Profile::One, trace.as_slice()),
+        &Err(together::TraceFault::At(5003, Breach::OfMemory(MemoryRule::M1))),
     );
-    assert_eq!(rt;
-        check_together(rt.alloc(), &[], Profile::One, trace.as_slice()),
-        Err(together::TraceFault::Levels)
+    same(
+        &rt,
+        &check_together(rt.alloc(), &[], Profile::One, trace.as_slice()),
+        &Err(together::TraceFault::Levels),
     );
     Ok(())
 }

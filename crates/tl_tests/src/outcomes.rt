@@ -2,6 +2,7 @@
 
 ghost use Rattle.tl_beat.specs.statement.Width.{IsWidth};
 
+use crate::expect::{holds_in, same, same_in};
 use std::process::Abort;
 use std::test::Fail;
 use tl_beat::beat::{Beat, BeatE, Link};
@@ -42,10 +43,10 @@ fn answers<const W: usize>(
     let mut out = Vec::new(rt.alloc());
     let outcome: Outcome<W> = Outcome::Replied { reply };
     append_outcome(&load(size), &outcome, &mut out)?;
-    assert_eq!(rt; out.as_slice(), line.as_bytes(), "{line}");
+    same_in(rt, &out.as_slice(), &line.as_bytes(), &line);
     let mut trace = Vec::new(rt.alloc());
     append_trace(&load(size), &outcome, &mut trace)?;
-    assert!(rt; trace.is_empty(), "{line}");
+    holds_in(rt, trace.is_empty(), &line);
     Ok(())
 }
 
@@ -65,10 +66,10 @@ fn ends<const W: usize>(
     let mut out = Vec::new(rt.alloc());
     append_outcome(&delivery(), &outcome, &mut out)?;
     let line = format!(in rt.alloc(); "{OPENED}{text}\n")?;
-    assert_eq!(rt; out.as_slice(), line.as_bytes(), "{text}");
+    same_in(rt, &out.as_slice(), &line.as_bytes(), &text);
     let mut trace = Vec::new(rt.alloc());
     append_trace(&delivery(), &outcome, &mut trace)?;
-    assert_eq!(rt; trace.as_slice(), b"01 E 03\n".as_slice(), "{text}");
+    same_in(rt, &trace.as_slice(), &b"01 E 03\n".as_slice(), &text);
     Ok(())
 }
 
@@ -87,10 +88,10 @@ fn stays<const W: usize>(
     };
     let mut out = Vec::new(rt.alloc());
     append_outcome(&delivery(), &outcome, &mut out)?;
-    assert_eq!(rt; out.as_slice(), line.as_bytes(), "{line}");
+    same_in(rt, &out.as_slice(), &line.as_bytes(), &line);
     let mut trace = Vec::new(rt.alloc());
     append_trace(&delivery(), &outcome, &mut trace)?;
-    assert!(rt; trace.is_empty(), "{line}");
+    holds_in(rt, trace.is_empty(), &line);
     Ok(())
 }
 
@@ -167,6 +168,6 @@ fn no_client_and_a_beat_that_moves(rt: HostRuntime) -> Result<(), Fail> {
     append_drained(0, &mut out)?;
     append_drained(160, &mut out)?;
     let text = b"no client\n01 E 07\n01 E 07\ndrained 0\ndrained 160\n";
-    assert_eq!(rt; out.as_slice(), text.as_slice());
+    same(&rt, &out.as_slice(), &text.as_slice());
     Ok(())
 }

@@ -1,5 +1,6 @@
 //! Limits of configurations, versions and levels in headers, reports.
 
+use crate::expect::{holds, same};
 use arrayvec::ArrayVec;
 use tl_params::config::{ClientConfig, Config, NewFault};
 use tl_params::header::{Version, front_level, front_version, is_end};
@@ -41,14 +42,18 @@ fn limits_of_a_configuration(rt: HostRuntime) {
         (2, 1, 1, 9, Err(NewFault::N4)),
     ];
     for (clients, blocks, trackers, sources, verdict) in rows {
-        assert_eq!(rt; config(clients, blocks, trackers, sources).check(), verdict);
+        same(
+            &rt,
+            &config(clients, blocks, trackers, sources).check(),
+            &verdict,
+        );
     }
     let client = ClientConfig {
         level: Level::UL,
         sources: 0,
     };
-    assert_eq!(rt; client.check(0), Err(NewFault::N2));
-    assert_eq!(rt; client.check(4), Err(NewFault::N4));
+    same(&rt, &client.check(0), &Err(NewFault::N2));
+    same(&rt, &client.check(4), &Err(NewFault::N4));
 }
 
 #[test]
@@ -59,25 +64,35 @@ fn reports_of_each_cap_and_permission(rt: HostRuntime) {
         (Cap::ToT, [Report::TtoT, Report::BtoB, Report::NtoN]),
     ];
     for (cap, [trunk, branch, none]) in rows {
-        assert_eq!(rt; report_of(cap, Perm::Trunk), trunk);
-        assert_eq!(rt; report_of(cap, Perm::Branch), branch);
-        assert_eq!(rt; report_of(cap, Perm::None), none);
+        same(&rt, &report_of(cap, Perm::Trunk), &trunk);
+        same(&rt, &report_of(cap, Perm::Branch), &branch);
+        same(&rt, &report_of(cap, Perm::None), &none);
     }
 }
 
 #[test]
 fn what_a_version_leaves_out(rt: HostRuntime) {
-    assert_eq!(rt; Version::First.width(), Width::Eight);
-    assert_eq!(rt; Version::First.profile(), Profile::One);
-    assert_eq!(rt; Version::Second(Width::Sixteen).width(), Width::Sixteen);
-    assert_eq!(rt; Version::Second(Width::Sixteen).profile(), Profile::One);
-    assert_eq!(rt;
-        Version::Third(Width::Four, Profile::Two).width(),
-        Width::Four
+    same(&rt, &Version::First.width(), &Width::Eight);
+    same(&rt, &Version::First.profile(), &Profile::One);
+    same(
+        &rt,
+        &Version::Second(Width::Sixteen).width(),
+        &Width::Sixteen,
     );
-    assert_eq!(rt;
-        Version::Third(Width::Four, Profile::Two).profile(),
-        Profile::Two
+    same(
+        &rt,
+        &Version::Second(Width::Sixteen).profile(),
+        &Profile::One,
+    );
+    same(
+        &rt,
+        &Version::Third(Width::Four, Profile::Two).width(),
+        &Width::Four,
+    );
+    same(
+        &rt,
+        &Version::Third(Width::Four, Profile::Two).profile(),
+        &Profile::Two,
     );
 }
 
@@ -89,19 +104,19 @@ fn a_version_and_what_follows_it(rt: HostRuntime) {
         (b"3 4 2 C", Version::Third(Width::Four, Profile::Two)),
     ];
     for (bytes, version) in rows {
-        assert!(rt; front_version(bytes) == Some((version, b" C")));
+        holds(&rt, front_version(bytes) == Some((version, b" C")));
     }
     for bytes in [b"4 C", b"2 5", b"3 8"] {
-        assert!(rt; front_version(bytes) == None);
+        holds(&rt, front_version(bytes) == None);
     }
 }
 
 #[test]
 fn levels_up_to_the_end(rt: HostRuntime) {
-    assert!(rt; front_level(b" UL C\n") == Some((Level::UL, b" C\n")));
-    assert!(rt; front_level(b" UH\n") == Some((Level::UH, b"\n")));
-    assert!(rt; front_level(b" C\n") == Some((Level::C, b"\n")));
-    assert!(rt; front_level(b" U\n") == None);
-    assert!(rt; is_end(b"\n"));
-    assert!(rt; !is_end(b" C\n"));
+    holds(&rt, front_level(b" UL C\n") == Some((Level::UL, b" C\n")));
+    holds(&rt, front_level(b" UH\n") == Some((Level::UH, b"\n")));
+    holds(&rt, front_level(b" C\n") == Some((Level::C, b"\n")));
+    holds(&rt, front_level(b" U\n") == None);
+    holds(&rt, is_end(b"\n"));
+    holds(&rt, !is_end(b" C\n"));
 }

@@ -3,6 +3,7 @@
 ghost use Rattle.std.specs.Prelude.{◌≡◌, ◌≤◌};
 ghost use Rattle.tl_beat.specs.statement.Width.{IsWidth};
 
+use crate::expect::{holds, same, same_in};
 use std::process::Abort;
 use tl_beat::beat::{Beat, BeatA};
 use tl_beat::channel::Channel;
@@ -47,7 +48,7 @@ fn request<const W: usize>(
 fn performed<const W: usize>(rt: &impl Abort, block: &mut [u8; 64], message: &Message<W>) -> Answer
     requires { IsWidth W }
 {
-    assert_eq!(rt; check(Level::UH, Channel::A, message), Ok(()));
+    same(rt, &check(Level::UH, Channel::A, message), &Ok(()));
     perform(block, message)
 }
 
@@ -72,8 +73,11 @@ fn logical_operations_on_four_bytes(rt: HostRuntime) {
         block[21] = 0xff;
         let message = request::<8>(OpA::LogicalData, param, 2, 20, 4, 0x00ff_00ff, 0xf0);
         let answer = performed(&rt, &mut block, &message);
-        assert_eq!(rt; number(&block, 20), stored);
-        assert!(rt; matches!(answer, Answer::Data(old) if number(&old, 4) == 0xffff));
+        same(&rt, &number(&block, 20), &stored);
+        holds(
+            &rt,
+            matches!(answer, Answer::Data(old) if number(&old, 4) == 0xffff),
+        );
     }
 }
 
@@ -96,9 +100,12 @@ fn arithmetic_on_four_and_eight_bytes(rt: HostRuntime) {
         block[16..24].copy_from_slice(&old.to_le_bytes());
         let message = request::<8>(OpA::ArithmeticData, param, size, 16, 0, operand, mask);
         let answer = performed(&rt, &mut block, &message);
-        assert_eq!(rt; number(&block, 16), stored, "{param} {size}");
+        same_in(&rt, &number(&block, 16), &stored, &(param, size));
         let reached = if size == 3 { old } else { old % (1 << 32) };
-        assert!(rt; matches!(answer, Answer::Data(data) if number(&data, 0) == reached));
+        holds(
+            &rt,
+            matches!(answer, Answer::Data(data) if number(&data, 0) == reached),
+        );
     }
 }
 
@@ -108,29 +115,35 @@ fn atomics_at_widths_4_and_16(rt: HostRuntime) {
     let mut block = [0xff; 64];
     let message = request::<4>(OpA::ArithmeticData, 4, 3, 8, 0, 1, 0xff);
     let answer = performed(&rt, &mut block, &message);
-    assert_eq!(rt; number(&block, 8), 0);
-    assert_eq!(rt; number(&block, 16), u64::MAX);
-    assert!(rt; matches!(answer, Answer::Data(data) if number(&data, 0) == u64::MAX));
+    same(&rt, &number(&block, 8), &0);
+    same(&rt, &number(&block, 16), &u64::MAX);
+    holds(
+        &rt,
+        matches!(answer, Answer::Data(data) if number(&data, 0) == u64::MAX),
+    );
     let message = request::<16>(OpA::LogicalData, 3, 2, 0x18, 8, 7, 0x0f00);
     let answer = performed(&rt, &mut block, &message);
-    assert_eq!(rt; number(&block, 24), 0xffff_ffff_0000_0007);
-    assert!(rt; matches!(answer, Answer::Data(data) if number(&data, 8) == 0xffff_ffff));
+    same(&rt, &number(&block, 24), &0xffff_ffff_0000_0007);
+    holds(
+        &rt,
+        matches!(answer, Answer::Data(data) if number(&data, 8) == 0xffff_ffff),
+    );
 }
 
 #[test]
 fn puts_write_the_bytes_of_their_mask(rt: HostRuntime) {
     let mut block = [0; 64];
     let message = request::<8>(OpA::PutPartialData, 0, 3, 0x38, 0, u64::MAX, 0x81);
-    assert_eq!(rt; performed(&rt, &mut block, &message), Answer::Ack);
+    same(&rt, &performed(&rt, &mut block, &message), &Answer::Ack);
     let mut wanted = [0; 64];
     wanted[56] = 0xff;
     wanted[63] = 0xff;
-    assert_eq!(rt; block, wanted);
+    same(&rt, &block, &wanted);
     let message = request::<16>(OpA::PutFullData, 0, 1, 0x2a, 10, 0xabcd, 0x0c00);
-    assert_eq!(rt; performed(&rt, &mut block, &message), Answer::Ack);
+    same(&rt, &performed(&rt, &mut block, &message), &Answer::Ack);
     wanted[42] = 0xcd;
     wanted[43] = 0xab;
-    assert_eq!(rt; block, wanted);
+    same(&rt, &block, &wanted);
 }
 
 #[test]
@@ -143,20 +156,23 @@ fn a_get_reads_and_an_intent_hints(rt: HostRuntime) {
         &mut block,
         &request::<4>(OpA::Get, 0, 2, 12, 0, 0, 0xf),
     );
-    assert!(rt; matches!(answer, Answer::Data(data) if number(&data, 0) == 0x0909_0905));
+    holds(
+        &rt,
+        matches!(answer, Answer::Data(data) if number(&data, 0) == 0x0909_0905),
+    );
     let answer = performed(
         &rt,
         &mut block,
         &request::<16>(OpA::Get, 0, 6, 64, 0, 0, 0xffff),
     );
-    assert_eq!(rt; answer, Answer::Data(before));
+    same(&rt, &answer, &Answer::Data(before));
     let answer = performed(
         &rt,
         &mut block,
         &request::<8>(OpA::Intent, 1, 6, 64, 0, 0, 0xff),
     );
-    assert_eq!(rt; answer, Answer::Hint);
-    assert_eq!(rt; block, before);
+    same(&rt, &answer, &Answer::Hint);
+    same(&rt, &block, &before);
 }
 
 #[test]
@@ -167,7 +183,7 @@ fn merges_of_64_bytes(rt: HostRuntime) {
     for (mask, wanted) in [(0, [0; 64]), (u64::MAX, [0xff; 64]), (1 << 63 | 1, ends)] {
         let mut bytes = [0; 64];
         merge_masked(&mut bytes, &[0xff; 64], mask);
-        assert_eq!(rt; bytes, wanted);
+        same(&rt, &bytes, &wanted);
     }
 }
 
@@ -175,13 +191,13 @@ fn merges_of_64_bytes(rt: HostRuntime) {
 #[test]
 fn the_first_beat_that_breaks_a_rule(rt: HostRuntime) {
     let whole = request::<8>(OpA::PutFullData, 0, 4, 0, 0, 0, 0xffff);
-    assert_eq!(rt; check(Level::UH, Channel::A, &whole), Ok(()));
-    assert_eq!(rt; check(Level::UL, Channel::A, &whole), Err(Rule::L3));
-    assert_eq!(rt; check(Level::UH, Channel::C, &whole), Err(Rule::L1));
+    same(&rt, &check(Level::UH, Channel::A, &whole), &Ok(()));
+    same(&rt, &check(Level::UL, Channel::A, &whole), &Err(Rule::L3));
+    same(&rt, &check(Level::UH, Channel::C, &whole), &Err(Rule::L1));
     let gap = request::<8>(OpA::PutFullData, 0, 4, 0, 0, 0, 0xfeff);
-    assert_eq!(rt; check(Level::UH, Channel::A, &gap), Err(Rule::L5));
+    same(&rt, &check(Level::UH, Channel::A, &gap), &Err(Rule::L5));
     let part = request::<8>(OpA::PutPartialData, 0, 4, 0, 0, 0, 0xfeff);
-    assert_eq!(rt; check(Level::UH, Channel::A, &part), Ok(()));
+    same(&rt, &check(Level::UH, Channel::A, &part), &Ok(()));
     let mut answer = MessageD {
         opcode: OpD::AccessAckData,
         param: 0,
@@ -192,25 +208,36 @@ fn the_first_beat_that_breaks_a_rule(rt: HostRuntime) {
         payload: [0; 64],
         corrupt: 1,
     };
-    assert_eq!(rt;
-        check::<8>(Level::UH, Channel::D, &Message::D(answer)),
-        Err(Rule::L6)
+    same(
+        &rt,
+        &check::<8>(Level::UH, Channel::D, &Message::D(answer)),
+        &Err(Rule::L6),
     );
     answer.corrupt = 3;
-    assert_eq!(rt;
-        check::<8>(Level::UH, Channel::D, &Message::D(answer)),
-        Ok(())
+    same(
+        &rt,
+        &check::<8>(Level::UH, Channel::D, &Message::D(answer)),
+        &Ok(()),
     );
 }
 
 /// Payload, mask and corrupt bits after the beats of a message.
 #[test]
 fn blank_messages(rt: HostRuntime) {
-    assert!(rt; is_blank(&request::<8>(OpA::PutFullData, 0, 3, 0, 0, u64::MAX, 0xff)));
-    assert!(rt; !is_blank(&request::<4>(OpA::PutFullData, 0, 2, 0, 0, u64::MAX, 0xf)));
-    assert!(rt; !is_blank(&request::<8>(OpA::PutFullData, 0, 3, 0, 0, 0, 0x1ff)));
-    assert!(rt; !is_blank(&request::<8>(OpA::Get, 0, 3, 0, 0, 1, 0xff)));
-    assert!(rt; is_blank(&request::<8>(OpA::Get, 0, 6, 0, 0, 0, 0xff)));
+    holds(
+        &rt,
+        is_blank(&request::<8>(OpA::PutFullData, 0, 3, 0, 0, u64::MAX, 0xff)),
+    );
+    holds(
+        &rt,
+        !is_blank(&request::<4>(OpA::PutFullData, 0, 2, 0, 0, u64::MAX, 0xf)),
+    );
+    holds(
+        &rt,
+        !is_blank(&request::<8>(OpA::PutFullData, 0, 3, 0, 0, 0, 0x1ff)),
+    );
+    holds(&rt, !is_blank(&request::<8>(OpA::Get, 0, 3, 0, 0, 1, 0xff)));
+    holds(&rt, is_blank(&request::<8>(OpA::Get, 0, 6, 0, 0, 0, 0xff)));
 }
 
 /// A Get of size 2 or 3 at this address, as a beat.
@@ -230,12 +257,14 @@ fn get<const W: usize>(size: u8, address: u32, corrupt: bool) -> Beat<W> {
 /// A mask with more lanes than a beat has, and a beat on another channel.
 #[test]
 fn beats_that_no_line_spells(rt: HostRuntime) {
-    assert_eq!(rt;
-        check_beat::<4>(Level::UL, Channel::A, &get(2, 4, false)),
-        Err(Rule::L5)
+    same(
+        &rt,
+        &check_beat::<4>(Level::UL, Channel::A, &get(2, 4, false)),
+        &Err(Rule::L5),
     );
-    assert_eq!(rt;
-        check_beat::<8>(Level::UL, Channel::B, &get(3, 8, true)),
-        Err(Rule::L1)
+    same(
+        &rt,
+        &check_beat::<8>(Level::UL, Channel::B, &get(3, 8, true)),
+        &Err(Rule::L1),
     );
 }

@@ -1,5 +1,6 @@
 //! Calls of tl_wide whose contracts a body that always fails would meet too.
 
+use crate::expect::{holds, same};
 use tl_beat::beat::{Beat, BeatA, Link};
 use tl_beat::opcode::OpA;
 use tl_wide::beat::{WideBeat, WideBeatA};
@@ -40,10 +41,10 @@ fn writes_a_line(rt: HostRuntime) {
         corrupt: false,
     });
     let mut text = Vec::new(rt.alloc());
-    assert!(rt; write_wide_line(Link(1), &beat, &mut text).is_ok());
+    holds(&rt, write_wide_line(Link(1), &beat, &mut text).is_ok());
     let line =
         b"01 A 0 0 5 01ff 0000000180000020 ffffffff 5a5a5a5a5a5a5a5a5a5a5a5a5a5a5a5a5a5a5a5a5a5a5a5a5a5a5a5a5a5a5a5a 0\n";
-    assert_eq!(rt; text.as_slice(), line.as_slice());
+    same(&rt, &text.as_slice(), &line.as_slice());
 }
 
 #[test]
@@ -58,8 +59,12 @@ fn reads_a_line(rt: HostRuntime) {
         lanes: None,
         corrupt: false,
     });
-    assert_eq!(rt; read_wide_into::<32>(LINE, &mut beat).ok(), Some(Link(1)));
-    assert!(rt; beat == put());
+    same(
+        &rt,
+        &read_wide_into::<32>(LINE, &mut beat).ok(),
+        &Some(Link(1)),
+    );
+    holds(&rt, beat == put());
 }
 
 /// A part of that Put, with the first block and the second source of its link.
@@ -82,19 +87,19 @@ fn cuts_a_beat_in_parts(rt: HostRuntime) {
     let mut narrower = Narrower::new(rt.alloc());
     match narrower.narrow::<32, 16>(Link(1), &beat) {
         Ok(Some(mut parts)) => {
-            assert!(rt; parts.next::<32, 16>(&beat) == part_of_put(0x3c));
-            assert!(rt; parts.next::<32, 16>(&beat) == part_of_put(0x5a));
-            assert!(rt; parts.next::<32, 16>(&beat) == None);
+            holds(&rt, parts.next::<32, 16>(&beat) == part_of_put(0x3c));
+            holds(&rt, parts.next::<32, 16>(&beat) == part_of_put(0x5a));
+            holds(&rt, parts.next::<32, 16>(&beat) == None);
         }
-        _ => assert!(rt; false),
+        _ => holds(&rt, false),
     }
 }
 
 #[test]
 fn numbers_names(rt: HostRuntime) {
     let mut numbers = Numbers::new(rt.alloc());
-    assert_eq!(rt; numbers.number(0x1_8000_0000, 2).ok(), Some(Some(0)));
-    assert_eq!(rt; numbers.number(7, 2).ok(), Some(Some(1)));
-    assert_eq!(rt; numbers.number(8, 2).ok(), Some(None));
-    assert_eq!(rt; numbers.number(0x1_8000_0000, 2).ok(), Some(Some(0)));
+    same(&rt, &numbers.number(0x1_8000_0000, 2).ok(), &Some(Some(0)));
+    same(&rt, &numbers.number(7, 2).ok(), &Some(Some(1)));
+    same(&rt, &numbers.number(8, 2).ok(), &Some(None));
+    same(&rt, &numbers.number(0x1_8000_0000, 2).ok(), &Some(Some(0)));
 }

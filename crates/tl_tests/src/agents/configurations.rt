@@ -3,6 +3,7 @@
 ghost use Rattle.tl_beat.specs.statement.Width.{IsWidth};
 
 use crate::agents::worlds::config_of;
+use crate::expect::same;
 use std::alloc::Global;
 use std::process::Abort;
 use tl_client::agent::Agent;
@@ -54,15 +55,15 @@ fn all_read<const W: usize, A: Agent<W>, D: Directory>(
     requires { IsWidth W }
 {
     for client in 0..count {
-        assert_eq!(rt; world.held(client, block), Perm::Branch);
+        same(rt, &world.held(client, block), &Perm::Branch);
     }
-    assert_eq!(rt; world.held(count, block), Perm::None);
+    same(rt, &world.held(count, block), &Perm::None);
 }
 
 fn all_started(rt: &impl Abort, outcomes: &[Outcome<8>], count: usize) {
     let reply = Reply::Started(0);
     for outcome in outcomes.iter().take(count) {
-        assert_eq!(rt; *outcome, Outcome::Replied { reply });
+        same(rt, outcome, &Outcome::Replied { reply });
     }
 }
 
@@ -77,7 +78,7 @@ fn reads(rt: &impl Abort, alloc: Global, blocks: u16, sources: &[u8]) {
     let room = &mut outcomes[..events.len()];
     let made = ran::<8, AnyClient<8>, BitDirectory>(alloc, config, events, room);
     let mut world = world_in(rt, made);
-    assert_eq!(rt; world.drain(), 10 * u64::from(count));
+    same(rt, &world.drain(), &(10 * u64::from(count)));
     all_read(rt, &world, count, block);
     all_started(rt, &outcomes, events.len());
     let mut outcomes = [Outcome::Stalled; 16];
@@ -85,7 +86,7 @@ fn reads(rt: &impl Abort, alloc: Global, blocks: u16, sources: &[u8]) {
     let room = &mut outcomes[..events.len()];
     let made = ran::<8, AnyClient<8>, TableDirectory>(alloc, config, events, room);
     let mut world = world_in(rt, made);
-    assert_eq!(rt; world.drain(), 10 * u64::from(count));
+    same(rt, &world.drain(), &(10 * u64::from(count)));
     all_read(rt, &world, count, block);
     all_started(rt, &outcomes, events.len());
 }

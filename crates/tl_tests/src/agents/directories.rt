@@ -2,6 +2,7 @@
 
 ghost use Rattle.std.specs.Prelude.{◌≡◌};
 
+use crate::expect::same;
 use std::process::Abort;
 use std::test::Fail;
 use tl_manager::bits::BitDirectory;
@@ -13,10 +14,10 @@ use tl_rules::perm::Perm;
 fn words_are<D: Directory>(rt: &impl Abort, directory: &D, holders: u16, owners: u16)
     requires { D.blocks directory.now ≡ 2 }
 {
-    assert_eq!(rt; directory.holders(0), holders);
-    assert_eq!(rt; directory.owners(0), owners);
-    assert_eq!(rt; directory.holders(1), 0);
-    assert_eq!(rt; directory.owners(1), 0);
+    same(rt, &directory.holders(0), &holders);
+    same(rt, &directory.owners(0), &owners);
+    same(rt, &directory.holders(1), &0);
+    same(rt, &directory.owners(1), &0);
 }
 
 fn records<D: Directory>(rt: &impl Abort, mut directory: D)
@@ -30,9 +31,9 @@ fn records<D: Directory>(rt: &impl Abort, mut directory: D)
     words_are(rt, &directory, 0x8008, 0x8000);
     directory.set(0, 15, Perm::None);
     words_are(rt, &directory, 0x0008, 0);
-    assert_eq!(rt; directory.get(0, 3), Perm::Branch);
-    assert_eq!(rt; directory.get(0, 15), Perm::None);
-    assert_eq!(rt; directory.get(1, 3), Perm::None);
+    same(rt, &directory.get(0, 3), &Perm::Branch);
+    same(rt, &directory.get(0, 15), &Perm::None);
+    same(rt, &directory.get(1, 3), &Perm::None);
 }
 
 #[test]

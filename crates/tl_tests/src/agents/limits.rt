@@ -1,6 +1,7 @@
 //! Limits of a configuration, broken one by one and several at once, in their order.
 
 use crate::agents::worlds::config_of;
+use crate::expect::same;
 use std::alloc::Global;
 use std::process::Abort;
 use tl_beat::beat::Link;
@@ -39,7 +40,7 @@ fn limits_of_clients(rt: HostRuntime) {
     for (blocks, trackers, sources, fault) in &BROKEN {
         let config = config_of(*blocks, *trackers, Level::C, sources);
         let made = agents_of::<8>(rt.alloc(), &config);
-        assert_eq!(rt; made.err(), Some(*fault));
+        same(&rt, &made.err(), &Some(*fault));
     }
 }
 
@@ -48,9 +49,9 @@ fn limits_of_managers(rt: HostRuntime) {
     for (blocks, trackers, sources, fault) in &BROKEN {
         let config = config_of(*blocks, *trackers, Level::C, sources);
         let made = make_manager::<8, BitDirectory>(rt.alloc(), &config);
-        assert_eq!(rt; made.err(), Some(*fault));
+        same(&rt, &made.err(), &Some(*fault));
         let made = make_manager::<8, TableDirectory>(rt.alloc(), &config);
-        assert_eq!(rt; made.err(), Some(*fault));
+        same(&rt, &made.err(), &Some(*fault));
     }
 }
 
@@ -61,7 +62,7 @@ fn is_refused<A: Hires<8>, D: Covers>(
 ) {
     match made {
         Ok(_) => panic!(rt; "a world"),
-        Err(fault) => assert_eq!(rt; fault, expected),
+        Err(fault) => same(rt, &fault, &expected),
     }
 }
 
@@ -114,7 +115,7 @@ fn limits_of_replays(rt: HostRuntime) {
             &mut outcomes,
         );
         is_refused(&rt, made, fault);
-        assert_eq!(rt; outcomes, [Outcome::Stalled]);
+        same(&rt, &outcomes, &[Outcome::Stalled]);
     }
 }
 
@@ -135,7 +136,7 @@ fn limits_of<A: Hires<8>>(rt: &impl Abort, alloc: Global, level: Level) {
     for (sources, blocks, fault) in rows {
         let config = ClientConfig { level, sources };
         let made = A::hire(alloc, config, blocks, Profile::One);
-        assert_eq!(rt; made.err(), fault);
+        same(rt, &made.err(), &fault);
     }
 }
 

@@ -4,6 +4,7 @@ ghost use Rattle.std.specs.Prelude.{◌≤◌};
 ghost use Rattle.tl_beat.specs.statement.Width.{IsWidth};
 
 use crate::agents::worlds::config_of;
+use crate::expect::same;
 use std::alloc::Global;
 use std::process::Abort;
 use tl_beat::beat::Link;
@@ -59,7 +60,7 @@ fn client_of<A: Hires<8>>(rt: &impl Abort, alloc: Global, level: Level) -> A {
 }
 
 fn is_busy<A: Agent<8>>(rt: &impl Abort, client: &mut A, operation: Op<8>, busy: Busy) {
-    assert_eq!(rt; client.ask(operation), (Reply::Busy(busy), None));
+    same(rt, &client.ask(operation), &(Reply::Busy(busy), None));
 }
 
 /// Operations that a client of any level refuses. The source of an access is replaced.
@@ -87,7 +88,7 @@ fn asked_of<A: Hires<8>>(rt: &impl Abort, alloc: Global, level: Level, load: Bus
     let mut another = get;
     another.source = 5;
     let started = (Reply::Started(0), Some(Message::A(get)));
-    assert_eq!(rt; client.ask(access(another)), started);
+    same(rt, &client.ask(access(another)), &started);
     is_busy(rt, &mut client, access(acquire), Busy::B4);
 }
 
@@ -133,7 +134,7 @@ fn is_not_sent<const W: usize>(rt: &impl Abort, outcomes: [Outcome<W>; 4])
     let ack = Outcome::Replied {
         reply: Reply::Busy(Busy::B4),
     };
-    assert_eq!(rt; outcomes, [put, Outcome::Empty, ack, Outcome::Empty]);
+    same(rt, &outcomes, &[put, Outcome::Empty, ack, Outcome::Empty]);
 }
 
 fn not_sent_by<const W: usize>(rt: &impl Abort, alloc: Global)

@@ -7,8 +7,8 @@ use Rattle.std.proofs.BoxSteps.Form.{Bx}
 use Rattle.std.specs.contracts.alloc.Global as global
 use Rattle.std.proofs.alloc.Global.TheLaws as global-laws
 use Rattle.std.specs.contracts.impls.GlobalAllocator.TheImpl.{ghosts, dict}
-use Rattle.hefrudyl.specs.contracts.session.Session as session
-use Rattle.hefrudyl.proofs.session.Session.TheLaws as session-laws
+use Rattle.tl_sessions.specs.contracts.session.Session as session
+use Rattle.tl_sessions.proofs.session.Session.TheLaws as session-laws
 use Rattle.hefrudyl.specs.contracts.parts.Parts as parts
 use Rattle.hefrudyl.specs.contracts.handle.Place as place
 

@@ -1,15 +1,1 @@
-pub mod Client
-pub mod ClientOpened
-pub mod Covering
-pub mod Events
-pub mod EventsOpened
 pub mod Handled
-pub mod Judged
-pub mod Manager
-pub mod ManagerOpened
-pub mod Opened
-pub mod Sessions
-pub mod Together
-pub mod TogetherOpened
-pub mod Wide
-pub mod WideOpened

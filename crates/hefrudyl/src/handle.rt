@@ -4,16 +4,16 @@ ghost use Rattle.std.specs.Prelude.{◌≡◌, ◌⊎◌, Option, Some, None, is
 ghost use Rattle.std.specs.Coded.{coded_option};
 ghost use Rattle.hefrudyl.specs.code.Owned.{owned};
 ghost use Rattle.hefrudyl.specs.code.Taking.{Takes};
-ghost use Rattle.hefrudyl.specs.declared.session.Session.{Session};
-ghost use Rattle.hefrudyl.specs.contracts.session.Session.{the_row};
+ghost use Rattle.tl_sessions.specs.declared.session.Session.{Session};
+ghost use Rattle.tl_sessions.specs.contracts.session.Session.{the_row};
 ghost use Rattle.std.specs.contracts.impls.GlobalAllocator.TheImpl.{ghosts};
 
 use crate::parts::Parts;
-use crate::session::Session;
 use std::alloc::Global;
 use std::marker::Model;
 use std::{mem, ptr};
 use tl_pictures::answer::Answer;
+use tl_sessions::session::Session;
 
 /// The memory of a session, as C sees it.
 #[repr(C)]

@@ -2,7 +2,7 @@
 use Rattle.std.specs.Prelude.{◌≡◌, Option, Some, None, Result, Ok, Err}
 use Rattle.tl_pictures.specs.declared.answer.Answer.{Answer}
 use Rattle.tl_pictures.specs.statement.Answer.{IsBad, no_memory, ok}
-use Rattle.hefrudyl.specs.declared.session.Session.{Session}
+use Rattle.tl_sessions.specs.declared.session.Session.{Session}
 
 -- A full handle stays, and the call is bad input. An empty one takes the session, if it was opened and there is memory.
 abbrev pub Takes : Result Session Answer → Option Session → Option Session → Answer → Type 0

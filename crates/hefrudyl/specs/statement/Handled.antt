@@ -8,15 +8,15 @@ use Rattle.tl_pictures.specs.declared.outcome.Outcome.{Outcome}
 use Rattle.tl_pictures.specs.declared.outcome.Reception.{Reception}
 use Rattle.tl_pictures.specs.declared.picture.Picture.{Picture}
 use Rattle.tl_pictures.specs.declared.wide.WidePicture.{WidePicture}
-use Rattle.hefrudyl.specs.declared.cover.BinTally.{BinTally}
-use Rattle.hefrudyl.specs.declared.cover.Tally.{Tally}
-use Rattle.hefrudyl.specs.declared.session.Session.{Session}
+use Rattle.tl_sessions.specs.declared.cover.BinTally.{BinTally}
+use Rattle.tl_sessions.specs.declared.cover.Tally.{Tally}
+use Rattle.tl_sessions.specs.declared.session.Session.{Session}
 use Rattle.tl_pictures.specs.statement.Answer.{bad, IsBad}
-use Rattle.hefrudyl.specs.statement.Covering.{BinSession, CountsSession, OpensCovering, TallySession}
-use Rattle.hefrudyl.specs.statement.EventsOpened.{OpensEvents}
-use Rattle.hefrudyl.specs.statement.Opened.{OpensTo, OpensUnder}
-use Rattle.hefrudyl.specs.statement.Sessions
-use Rattle.hefrudyl.specs.statement.WideOpened.{JudgesWide, MonitorsWide, OpensWide}
+use Rattle.tl_sessions.specs.statement.Covering.{BinSession, CountsSession, OpensCovering, TallySession}
+use Rattle.tl_sessions.specs.statement.EventsOpened.{OpensEvents}
+use Rattle.tl_sessions.specs.statement.Opened.{OpensTo, OpensUnder}
+use Rattle.tl_sessions.specs.statement.Sessions
+use Rattle.tl_sessions.specs.statement.WideOpened.{JudgesWide, MonitorsWide, OpensWide}
 
 -- a full handle stays, and the call is bad input; P is true of the session of an empty handle afterwards, and of the
 -- answer

@@ -5,13 +5,13 @@ ghost use Rattle.hefrudyl.specs.statement.Handled.{ClientOpenTold, AskTold, Offe
 ghost use Rattle.hefrudyl.specs.statement.Handled.{HeldTold, CopyTold, ClosedTold};
 
 use crate::handle::Handle;
-use crate::session::Session;
 use std::alloc::Global;
 use std::mem;
 use tl_pictures::answer::Answer;
 use tl_pictures::operation::Operation;
 use tl_pictures::outcome::{Outcome, Reception};
 use tl_pictures::picture::Picture;
+use tl_sessions::session::Session;
 
 /// Makes a client of a level, 0 for UL, 1 for UH and 2 for C, in an empty handle.
 #[unsafe(no_mangle)]

@@ -3,13 +3,13 @@
 ghost use Rattle.std.specs.Prelude.{◌≡◌, None};
 ghost use Rattle.hefrudyl.specs.statement.Handled.{BinTold, CoverOpenTold, CountTold, TallyTold};
 
-use crate::cover::{BinTally, Tally};
-use crate::covered;
 use crate::handle::Handle;
 use std::alloc::Global;
 use std::mem;
 use tl_pictures::answer::Answer;
 use tl_pictures::picture::Picture;
+use tl_sessions::cover::{BinTally, Tally};
+use tl_sessions::covered;
 
 /// Makes a cover of links of these levels with these liberties, in an empty handle.
 #[unsafe(no_mangle)]

@@ -5,12 +5,12 @@ ghost use Rattle.hefrudyl.specs.statement.Handled.{JudgeOpenTold, JudgeOpenUnder
 ghost use Rattle.hefrudyl.specs.statement.Handled.{JudgeTold, JudgeTryTold, JudgeLineTold, CommitTold, TryCommitTold};
 
 use crate::handle::Handle;
-use crate::judge_session;
 use std::alloc::Global;
 use std::mem;
 use tl_pictures::answer::Answer;
 use tl_pictures::commit::CommitPicture;
 use tl_pictures::picture::Picture;
+use tl_sessions::judge_session;
 
 /// Makes a judge of all links of a manager, of these levels, 0 for UL, 1 for UH and 2 for C, in an empty handle.
 #[unsafe(no_mangle)]

@@ -5,12 +5,12 @@ ghost use Rattle.hefrudyl.specs.statement.Handled.{ManagerOpenTold, ManagerOpenU
 ghost use Rattle.hefrudyl.specs.statement.Handled.{NextAtTold, PopAtTold, ClosedAtTold};
 
 use crate::handle::Handle;
-use crate::session::Session;
 use std::alloc::Global;
 use std::mem;
 use tl_pictures::answer::Answer;
 use tl_pictures::config::LinkConfig;
 use tl_pictures::picture::Picture;
+use tl_sessions::session::Session;
 
 /// Makes a manager of these links with this many blocks and trackers, in an empty handle.
 #[unsafe(no_mangle)]

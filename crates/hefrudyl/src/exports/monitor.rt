@@ -5,11 +5,11 @@ ghost use Rattle.hefrudyl.specs.statement.Handled.{MonitorOpenTold, MonitorOpenU
 ghost use Rattle.hefrudyl.specs.statement.Handled.{PushTold, TryTold, LineTold, EntriesTold};
 
 use crate::handle::Handle;
-use crate::session::Session;
 use std::alloc::Global;
 use std::mem;
 use tl_pictures::answer::Answer;
 use tl_pictures::picture::Picture;
+use tl_sessions::session::Session;
 
 /// Makes a monitor of links of these levels, 0 for UL, 1 for UH and 2 for C, in an empty handle.
 #[unsafe(no_mangle)]

@@ -1,7 +1,7 @@
 //! Texts for C.
 
 ghost use Rattle.std.specs.Prelude.{◌≡◌, ◌++◌, OnOk, slice_get};
-ghost use Rattle.hefrudyl.specs.statement.Covering.{IsNameWritten, IsNamed, name_of, sentence_at, sentence_of};
+ghost use Rattle.tl_sessions.specs.statement.Covering.{IsNameWritten, IsNamed, name_of, sentence_at, sentence_of};
 ghost use Rattle.tl_cover.specs.statement.Bins.{all_bins};
 ghost use Rattle.tl_cover.specs.statement.Covered.{all_situations};
 ghost use Rattle.tl_pictures.specs.statement.Named.{name_with};

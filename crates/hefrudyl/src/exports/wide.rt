@@ -3,11 +3,11 @@
 ghost use Rattle.hefrudyl.specs.statement.Handled.{WideJudgeOpenTold, WideJudgeTold, WideMonitorOpenTold, WidePushTold};
 
 use crate::handle::Handle;
-use crate::wide_session;
 use std::alloc::Global;
 use std::mem;
 use tl_pictures::answer::Answer;
 use tl_pictures::wide::WidePicture;
+use tl_sessions::wide_session;
 
 /// Makes a monitor of wide beats of links of these levels, 0 for UL, 1 for UH and 2 for C, with these liberties, bit 0
 /// for `ids` to bit 7 for `uncorrupt`, in an empty handle. A beat has 4, 8, 16, 32 or 64 bytes.

@@ -1,10 +1,10 @@
-//! What tests expect. An assertion is proved wherever it is written, which takes seconds; a call of one of these functions
+//! Assertions of tests. An assertion is proved wherever it is written, which takes seconds; a call of one of these functions
 //! takes hardly any time.
 
 use std::fmt::Debug;
 use std::process::Abort;
 
-/// Fails unless what was found is what was wanted.
+/// Fails unless these are the same.
 pub fn same<T: PartialEq + Debug>(rt: &impl Abort, found: &T, wanted: &T) {
     assert_eq!(rt; found, wanted);
 }

@@ -48,7 +48,7 @@ fn request<const W: usize>(
 fn performed<const W: usize>(rt: &impl Abort, block: &mut [u8; 64], message: &Message<W>) -> Answer
     requires { IsWidth W }
 {
-    same(rt, &check(Level::UH, Channel::A, message), &Ok(()));
+    assert_eq!(rt; check(Level::UH, Channel::A, message), Ok(()));
     perform(block, message)
 }
 

@@ -6,9 +6,9 @@ ghost use Rattle.tl_words.specs.Refused.{IsFaultOf, status_of_usage};
 ghost use Rattle.tl_words.specs.Tool.{IsTaskOf};
 
 use crate::commands::chart;
+use crate::usage::invalid_value;
 use crate::words::{WordsFault, copied, wrong_liberties};
 use clap::ArgMatches;
-use clap::error::ErrorKind;
 use std::alloc::{AllocError, Global};
 use tl_command::chart::{ChartOption, range_named};
 use tl_command::liberties::allowed_named;
@@ -24,8 +24,7 @@ fn wrong_range(
 {
     let (word, name, wanted) = (word.unwrap_or(""), option.name(), option.wanted());
     let message = format!(in alloc; "invalid value '{word}' for '{name}': {wanted}")?;
-    let mut chart = chart(alloc)?.bin_name("tltool chart")?;
-    chart.error(ErrorKind::InvalidValue, message.as_str())
+    invalid_value(chart(alloc), "tltool chart", message.as_str())
 }
 
 /// The word of an option of `chart`.

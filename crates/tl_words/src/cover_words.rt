@@ -7,6 +7,7 @@ ghost use Rattle.tl_words.specs.Refused.{IsFaultOf, status_of_usage};
 ghost use Rattle.tl_words.specs.Tool.{IsTaskOf, form_in, form_of};
 
 use crate::commands::cover;
+use crate::usage::usage_error;
 use crate::words::{WordsFault, flag_named};
 use clap::ArgMatches;
 use clap::error::ErrorKind;
@@ -52,8 +53,9 @@ fn form_of(tables: bool, json: bool) -> Option<CoverForm>
 fn both_forms(alloc: Global) -> Result<clap::Error, AllocError>
     ensures { IfOk result (λ error. status_of_usage error ≡ 2) }
 {
-    let mut cover = cover(alloc)?.bin_name("tltool cover")?;
-    cover.error(
+    usage_error(
+        cover(alloc),
+        "tltool cover",
         ErrorKind::ArgumentConflict,
         "the argument '--tables' cannot be used with '--json', which has the tables too",
     )

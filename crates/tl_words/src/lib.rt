@@ -7,5 +7,6 @@ mod cover_words;
 mod help;
 mod report;
 mod run_words;
+mod usage;
 mod wide_words;
 pub mod words;

@@ -5,6 +5,7 @@ ghost use Rattle.clap.specs.Words.{kind_of};
 ghost use Rattle.tl_words.specs.Tool.{run_form};
 
 use crate::commands::run;
+use crate::usage::usage_error;
 use clap::error::ErrorKind;
 use std::alloc::{AllocError, Global};
 use tl_command::command::RunForm;
@@ -25,8 +26,9 @@ pub(crate) fn run_form(trace: bool, commits: bool) -> Option<RunForm>
 pub(crate) fn commits_alone(alloc: Global) -> Result<clap::Error, AllocError>
     ensures { IfOk result (λ error. kind_of error ≡ ErrorKind.MissingRequiredArgument) }
 {
-    let mut run = run(alloc)?.bin_name("tltool run")?;
-    run.error(
+    usage_error(
+        run(alloc),
+        "tltool run",
         ErrorKind::MissingRequiredArgument,
         "the argument '--commits' cannot be used without '--trace', since it adds lines to the trace",
     )

@@ -6,9 +6,9 @@ ghost use Rattle.tl_words.specs.Refused.{IsFaultOf, status_of_usage};
 ghost use Rattle.tl_words.specs.Tool.{IsTaskOf, flag_named, is_wide};
 
 use crate::commands::decode;
+use crate::usage::invalid_value;
 use crate::words::{WordsFault, copied, flag_named};
 use clap::ArgMatches;
-use clap::error::ErrorKind;
 use std::alloc::{AllocError, Global};
 use tl_command::task::Task;
 use tl_command::width_word::wide_width_named;
@@ -28,8 +28,7 @@ fn wrong_wide_width(alloc: Global, word: Option<&str>) -> Result<clap::Error, Al
     let message = format!(in alloc;
         "invalid value '{word}' for '--width <BYTES>': a wide beat carries 4, 8, 16, 32 or 64 bytes"
     )?;
-    let mut decode = decode(alloc)?.bin_name("tltool decode")?;
-    decode.error(ErrorKind::InvalidValue, message.as_str())
+    invalid_value(decode(alloc), "tltool decode", message.as_str())
 }
 
 /// The task of the entries of `decode` for wide beats. A word that names no width of them is a `Usage`.

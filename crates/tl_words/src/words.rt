@@ -20,6 +20,7 @@ use crate::cover_words::tell_covered;
 use crate::help;
 use crate::report::{is_reported, report};
 use crate::run_words::{commits_alone, run_form};
+use crate::usage::{invalid_value, usage_error};
 use crate::wide_words::{decode_wide, is_wide};
 use clap::ArgMatches;
 use clap::error::ErrorKind;
@@ -133,16 +134,16 @@ fn wrong_width(alloc: Global, word: Option<&str>) -> Result<clap::Error, AllocEr
     let message = format!(in alloc;
         "invalid value '{word}' for '--width <BYTES>': a beat carries 4, 8 or 16 bytes"
     )?;
-    let mut decode = decode(alloc)?.bin_name("tltool decode")?;
-    decode.error(ErrorKind::InvalidValue, message.as_str())
+    invalid_value(decode(alloc), "tltool decode", message.as_str())
 }
 
 /// The error of an `explain` without FILE.
 fn missing_file(alloc: Global) -> Result<clap::Error, AllocError>
     ensures { IfOk result (λ error. kind_of error ≡ ErrorKind.MissingRequiredArgument) }
 {
-    let mut explain = explain(alloc)?.bin_name("tltool explain")?;
-    explain.error(
+    usage_error(
+        explain(alloc),
+        "tltool explain",
         ErrorKind::MissingRequiredArgument,
         "explain reads FILE twice, so it can't read standard input: write the trace to a file, and name that file",
     )
@@ -178,8 +179,7 @@ fn wrong_option(
 {
     let (word, name, wanted) = (word.unwrap_or(""), option.name(), option.wanted());
     let message = format!(in alloc; "invalid value '{word}' for '{name}': {wanted}")?;
-    let mut random = random(alloc)?.bin_name("tltool random")?;
-    random.error(ErrorKind::InvalidValue, message.as_str())
+    invalid_value(random(alloc), "tltool random", message.as_str())
 }
 
 /// The words of the options of `random`.
@@ -213,12 +213,14 @@ fn draw(alloc: Global, found: &ArgMatches) -> Result<Task, WordsFault>
     }
 }
 
-/// The command that searches, in all links together or in each by itself.
-fn searching<'a>(alloc: Global, together: bool) -> Result<clap::Command<'a>, AllocError> {
+/// The error of a word of the command that judges all links together, or each by itself.
+fn wrong_search(alloc: Global, together: bool, message: &str) -> Result<clap::Error, AllocError>
+    ensures { IfOk result (λ error. kind_of error ≡ ErrorKind.InvalidValue) }
+{
     if together {
-        coherent(alloc)?.bin_name("tltool coherent")
+        invalid_value(coherent(alloc), "tltool coherent", message)
     } else {
-        monitor(alloc)?.bin_name("tltool monitor")
+        invalid_value(monitor(alloc), "tltool monitor", message)
     }
 }
 
@@ -231,17 +233,18 @@ pub(crate) fn wrong_number(
     ensures { IfOk result (λ error. status_of_usage error ≡ 2) }
 {
     let message = format!(in alloc; "invalid value '{word}' for '--all <N>': {ALL_WANTED}")?;
-    let mut command = searching(alloc, together)?;
-    command.error(ErrorKind::InvalidValue, message.as_str())
+    wrong_search(alloc, together, message.as_str())
 }
 
-/// The command of this name, which has `--allow`.
-fn allowing<'a>(alloc: Global, name: &str) -> Result<clap::Command<'a>, AllocError> {
+/// The error of a word of the command of this name, which has `--allow`.
+fn wrong_allowance(alloc: Global, name: &str, message: &str) -> Result<clap::Error, AllocError>
+    ensures { IfOk result (λ error. kind_of error ≡ ErrorKind.InvalidValue) }
+{
     match name {
-        "explain" => explain(alloc)?.bin_name("tltool explain"),
-        "chart" => chart(alloc)?.bin_name("tltool chart"),
-        "coherent" => searching(alloc, true),
-        _ => searching(alloc, false),
+        "explain" => invalid_value(explain(alloc), "tltool explain", message),
+        "chart" => invalid_value(chart(alloc), "tltool chart", message),
+        "coherent" => wrong_search(alloc, true, message),
+        _ => wrong_search(alloc, false, message),
     }
 }
 
@@ -256,8 +259,7 @@ pub(crate) fn wrong_liberties(
     let word = word.unwrap_or("");
     let wanted = LIBERTIES_WANTED;
     let message = format!(in alloc; "invalid value '{word}' for '--allow <LIBERTIES>': {wanted}")?;
-    let mut command = allowing(alloc, name)?;
-    command.error(ErrorKind::InvalidValue, message.as_str())
+    wrong_allowance(alloc, name, message.as_str())
 }
 
 /// Whether the command of this name judges all links together. None if it doesn't search.

@@ -25,8 +25,8 @@ import tempfile
 CLIENTS = ["C:2,C:2,C:2,UH:1", "C:1,C:1", "C:8,C:1,UL:2", "C:2,UH:2,UL:2", "UL:1,UH:8", "C:3"]
 EVENTS = 120
 BLOCK = 64
-# The letters of stores and loads, which faults/wide_commits.py has between the beats.
-COMMITS = "SLI"
+# The letters of stores and loads, which faults/wide_commits.py has between the beats, and their kinds in reports.
+COMMITS, KINDS = "SLI", ["Store", "Load", "LoadBegin"]
 # The opcodes that carry data, by channel.
 DATA = {"A": "0123", "B": "0123", "C": "157", "D": "15", "E": ""}
 PUT_FULL, PUT_PARTIAL = "0", "1"
@@ -494,8 +494,14 @@ def examples(tool):
 
 
 def message(beat):
-    """The link, channel and message of a beat, in the order of reports."""
-    return int(beat.link, 16), beat.channel, 0 if beat.channel == "E" else int(beat.opcode, 16)
+    """The link, the letter's place in the order of reports, the opcode, and the message of a beat or the kind of a commit."""
+    letter, opcode, name = beat.channel, 0, "GrantAck"
+    if letter in COMMITS:
+        name = KINDS[COMMITS.index(letter)]
+    elif letter != "E":
+        opcode = int(beat.opcode, 16)
+        name = OPCODES[letter][opcode]
+    return int(beat.link, 16), ("ABCDE" + COMMITS).index(letter), opcode, name
 
 
 def report(tool, words, text, found, taken):
@@ -511,10 +517,7 @@ def report(tool, words, text, found, taken):
     if says != ought or of(tool, *words, text=text) != ought:
         yield f"{' '.join(words)} says {says}, and ought to say {ought}"
     counts = collections.Counter(map(message, taken))
-    listed = [
-        {"beats": counts[it], "channel": it[1], "link": it[0], "message": "GrantAck" if it[1] == "E" else OPCODES[it[1]][it[2]]}
-        for it in sorted(counts)
-    ]
+    listed = [{"beats": counts[it], "channel": ("ABCDE" + COMMITS)[it[1]], "link": it[0], "message": it[3]} for it in sorted(counts)]
     for it in told["faults"]:
         del it["sentence"]
     del told["tool"]

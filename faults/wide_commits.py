@@ -6,8 +6,10 @@ a tenth as many of each wrong one), and traces of worlds, by `TOOL random` and `
 beats joined to those of a bus of up to 64 bytes, their blocks named by addresses of 64 bits and their ids by numbers of 16, one to
 one; each once more with a line spoiled. `TOOL monitor` and `TOOL coherent` must say of each what they say of the narrow trace that
 faults/wide.py makes of it by the text of docs/FORMATS.md, at the line of the wide event whose part is at fault. Where no beats were
-joined they must say what they say of the trace that was written wide, which has the model's verdict. Lines that spell no event have
-the fault of the table in docs/FORMATS.md, and commits take no numbers of sources. Ends with 'wide commits: N passed, M failed'."""
+joined they must say what they say of the trace that was written wide, which has the model's verdict. With `--all` and a report they
+must find what they find line by line in the trace without the lines found before, and count the beats and the commits of the others.
+Lines that spell no event have the fault of the table in docs/FORMATS.md, and commits take no numbers of sources. Ends with
+'wide commits: N passed, M failed'."""
 import concurrent.futures
 import os
 import pathlib
@@ -91,6 +93,9 @@ def slips(tool, name, text, seed, verdict=None):
                 ought = wanted(tool, [command], head, written, width)
                 if of(tool, command, text=told) != ought:
                     yield f"{name}: {command} of {width} bytes says {of(tool, command, text=told)}, not {ought}"
+                most = rng.choice([1, 2, 3, 20])
+                found = wide.wanted_all(tool, [command], *head, written, width, most)
+                yield from (f"{name}: {it}" for it in wide.report(tool, [command, "--all", str(most)], told, *found))
             if not spoil and width == narrow:
                 for command, is_verdict in ("monitor", None), ("coherent", verdict):
                     says = of(tool, command, text=told)

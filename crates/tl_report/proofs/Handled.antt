@@ -3,6 +3,7 @@ use Rattle.std.proofs.Common.{◌≡◌, ℕ, List, [], ◌∷◌, ◌++◌, ref
 use Rattle.std.specs.Prelude.{IfOk, Option, Some, None, Result, Ok, Err}
 use Rattle.std.specs.Io.KnownBytes.{Consumes}
 use Rattle.std.specs.declared.alloc.Global.{Global}
+use Rattle.tl_beat.specs.declared.beat.Link.{Link}
 use Rattle.tl_command.specs.declared.search.Aim.{Aim}
 use Rattle.tl_params.specs.declared.level.Level.{Level}
 use Rattle.tl_params.specs.declared.liberties.Liberties.{Liberties}
@@ -13,6 +14,7 @@ use Rattle.tl_engine.specs.code.Progress.{HasAll}
 use Rattle.tl_engine.specs.code.Run.{Stands}
 use Rattle.tl_engine.specs.statement.Run.{EndsAs}
 use Rattle.tl_engine.specs.declared.fault.Fault.{Fault}
+use Rattle.tl_engine.specs.declared.links_header.LinksHeader.{LinksHeader}
 use Rattle.tl_engine.specs.declared.status.Status.{Status}
 use Rattle.tl_engine.specs.declared.status.Status.TheVariants.{Clean, Broken}
 use Rattle.tl_engine.specs.statement.LinksHeader.{NamesAllowed}
@@ -21,14 +23,17 @@ use Rattle.tl_engine.proofs.Decoded.{open_fault}
 use Rattle.tl_engine.proofs.LinksHeaders.{open_allowed}
 use Rattle.tl_commit_lines.proofs.JudgedLines.{open-event}
 use Rattle.tl_commit_lines.proofs.MarkedHeaders.{open_marked}
+use Rattle.tl_commit_lines.specs.declared.header.CommitHeader.{CommitHeader}
 use Rattle.tl_commit_lines.specs.declared.header.MarkedLevel.{MarkedLevel}
 use Rattle.tl_commit_lines.specs.statement.MarkedHeader.{NamesMarked}
 use Rattle.tl_report.proofs.Searched.{found_in, knows_header, opened}
+use Rattle.tl_report.proofs.Variants.{IsSearch}
 use Rattle.tl_report.specs.code.EventJudging.{event_ways}
 use Rattle.tl_report.specs.code.LineJudging.{Ways}
 use Rattle.tl_report.specs.code.NarrowJudging.{narrow_ways}
-use Rattle.tl_report.specs.code.Searching.{EndsLines, EndsSearch, EndsWith, HasFound, KnowsLines, KnowsSearch, SearchesLine}
+use Rattle.tl_report.specs.code.Searching.{EndsLines, EndsWith, HasFound, KnowsLines, KnowsSearch, SearchesLine}
 use Rattle.tl_report.specs.code.Searching.{StartsLines, StartsSearch, TellsLines, aim_of}
+use Rattle.tl_report.specs.code.WideEventJudging.{wide_event_ways}
 use Rattle.tl_report.specs.code.WideJudging.{wide_ways}
 use Rattle.tl_report.specs.declared.events.EventLineJudge.{EventLineJudge}
 use Rattle.tl_report.specs.declared.findings.Findings.{Findings}
@@ -36,12 +41,19 @@ use Rattle.tl_report.specs.declared.narrow.NarrowLineJudge.{NarrowLineJudge}
 use Rattle.tl_report.specs.declared.search.Search.{Search}
 use Rattle.tl_report.specs.declared.search_lines.SearchLines.{SearchLines}
 use Rattle.tl_report.specs.declared.search_lines.SearchLines.TheVariants as of
-use Rattle.tl_report.specs.declared.wide.WideLineJudge.{WideLineJudge}
+use Rattle.tl_report.specs.declared.kept.KeptLineJudge.{KeptLineJudge}
+use Rattle.tl_report.specs.declared.wide.WideTaker.{WideTaker}
+use Rattle.tl_report.specs.declared.wide_events.SpelledEvent.{SpelledEvent}
+use Rattle.tl_report.specs.declared.wide_events.WideEventTaker.{WideEventTaker}
 use Rattle.tl_report.specs.statement.Found.{FindsFor, IsHeadless, event_terms_of, no_header, terms_of}
 use Rattle.tl_report.specs.statement.Said.{Searches}
 use Rattle.tl_report.specs.statement.Taken.{AreCounted}
+use Rattle.tl_wide.specs.declared.beat.WideBeat.{WideBeat}
 use Rattle.tl_wide.specs.declared.width.WideWidth.{WideWidth}
 use Rattle.tl_wide.specs.statement.Width.{part_width, wide_bytes_of}
+use Rattle.tl_wide_event_lines.proofs.JudgedLines.{open-event as open-wide-event}
+use Rattle.tl_wide_event_lines.proofs.WideMarkedHeaders.{open_wide as open_wide_marked}
+use Rattle.tl_wide_event_lines.specs.statement.WideMarkedHeader.{NamesWideMarked}
 use Rattle.tl_wide_lines.proofs.JudgedLines.{open-fault}
 use Rattle.tl_wide_lines.proofs.WideHeaders.{open_wide}
 use Rattle.tl_wide_lines.specs.statement.WideHeader.{NamesWide}
@@ -58,7 +70,8 @@ begun_narrow line width may levels aim s spells is =
     (λ lines found beats cells finds. inr (inl (width, may, levels, spells, finds)))
 
 pub begun_wide : (line : List ℕ) (width : WideWidth) (may : Liberties) (levels : List Level) (aim : Aim)
-    (s : Search (WideLineJudge (wide_bytes_of width) (part_width (wide_bytes_of width))))
+    (s : Search (KeptLineJudge (WideTaker (wide_bytes_of width) (part_width (wide_bytes_of width))) LinksHeader
+    (Link × WideBeat (wide_bytes_of width))))
     → NamesWide aim.allow line width may levels
     → StartsSearch (wide_ways (wide_bytes_of width) (part_width (wide_bytes_of width))) aim (terms_of aim.together may levels) s
     → KnowsSearch (wide_ways (wide_bytes_of width) (part_width (wide_bytes_of width))) s (line ∷ [])
@@ -77,6 +90,18 @@ begun_events line width may links aim s spells is =
     knows_header (event_ways (bytes_of width)) aim (event_terms_of aim.together may links) s line is
     (λ lines found beats cells finds. inr (inr (inl (width, may, links, spells, finds))))
 
+pub begun_wide_events : (line : List ℕ) (width : WideWidth) (may : Liberties) (links : List MarkedLevel) (aim : Aim)
+    (s : Search (KeptLineJudge (WideEventTaker (wide_bytes_of width) (part_width (wide_bytes_of width))) CommitHeader
+    (SpelledEvent (wide_bytes_of width)))) → NamesWideMarked aim.allow line width may links
+    → StartsSearch (wide_event_ways (wide_bytes_of width) (part_width (wide_bytes_of width))) aim
+    (event_terms_of aim.together may links) s
+    → KnowsSearch (wide_event_ways (wide_bytes_of width) (part_width (wide_bytes_of width))) s (line ∷ [])
+unfolding FindsFor
+begun_wide_events line width may links aim s spells is =
+    knows_header (wide_event_ways (wide_bytes_of width) (part_width (wide_bytes_of width))) aim
+    (event_terms_of aim.together may links) s line is
+    (λ lines found beats cells finds. inr (inr (inr (inl (width, may, links, spells, finds)))))
+
 -- a broken status isn't clean
 pub unclean : {A : Type 0} → Broken ≡ Clean → A
 unclean e = absurd cc
@@ -85,7 +110,7 @@ pub no_header_ends : (alloc : Global) (aim : Aim) (line : List ℕ) → IsHeadle
     → Ends KnowsLines EndsLines (of.Waiting alloc aim) (of.Waiting alloc aim) line
 unfolding FindsFor
 no_header_ends alloc aim line none = λ lines text known more beats cells counted.
-    rw known (inr (inr (inr (none, (refl, counted)))))
+    rw known (inr (inr (inr (inr (none, (refl, counted))))))
 
 -- a line that has no LF or more than 256 bytes is no header
 pub open_header : (alloc : Global) (aim : Aim) (line : List ℕ) → IsOpen line
@@ -95,6 +120,7 @@ open_header alloc aim line is =
       open_allowed aim.allow line is,
       open_wide aim.allow line is,
       open_marked aim.allow line is,
+      open_wide_marked aim.allow line is,
     )
 
 pub stops : (h : SearchLines) (line was is : List ℕ) (fault : Fault) → Stops KnowsLines TellsLines h line was is fault
@@ -124,6 +150,11 @@ started alloc aim new line was (Ok None) starts = λ lines before known. rw know
     knows_text (of.EventFour s) text k = k
     knows_text (of.EventEight s) text k = k
     knows_text (of.EventSixteen s) text k = k
+    knows_text (of.WideEventFour s) text k = k
+    knows_text (of.WideEventEight s) text k = k
+    knows_text (of.WideEventSixteen s) text k = k
+    knows_text (of.WideEventThirtyTwo s) text k = k
+    knows_text (of.WideEventSixtyFour s) text k = k
 started alloc aim new line was (Ok (Some fault)) starts = λ lines before known more broken. unclean broken
 
 pub start_ends : {E : Type 0} (alloc : Global) (aim : Aim) (new : SearchLines) (line : List ℕ) (r : Result (Option Fault) E)
@@ -140,117 +171,6 @@ start_aim alloc aim new line (Ok None) starts = starts.1
 start_aim alloc aim new line (Ok (Some fault)) starts = ap aim_of starts.0
 
 -- ---- what the handler says of a line
-
--- the variant of a handler whose lines are searched so
-pub record IsSearch {J T X : Type 0} (ways : Ways J T X) (wrap : Search J → SearchLines) : Type 0 where
-  pub into : (s : Search J) (lines : List (List ℕ)) (text : List ℕ) → KnowsLines (wrap s) lines text
-      → KnowsSearch ways s lines
-  pub out : (s : Search J) (lines : List (List ℕ)) (text : List ℕ) → KnowsSearch ways s lines
-      → KnowsLines (wrap s) lines text
-  pub into_ends : (s : Search J) (lines : List (List ℕ)) → EndsLines (wrap s) lines → EndsSearch s lines
-  pub out_ends : (s : Search J) (lines : List (List ℕ)) → EndsSearch s lines → EndsLines (wrap s) lines
-  pub aim_is : (s : Search J) → aim_of (wrap s) ≡ s.aim
-
--- the variants
-
-pub four : IsSearch (narrow_ways 4) of.Four
-four = record {
-  into = λ s lines text k. k;
-  out = λ s lines text k. k;
-  into_ends = λ s lines e. e;
-  out_ends = λ s lines e. e;
-  aim_is = λ s. refl;
-}
-
-pub eight : IsSearch (narrow_ways 8) of.Eight
-eight = record {
-  into = λ s lines text k. k;
-  out = λ s lines text k. k;
-  into_ends = λ s lines e. e;
-  out_ends = λ s lines e. e;
-  aim_is = λ s. refl;
-}
-
-pub sixteen : IsSearch (narrow_ways 16) of.Sixteen
-sixteen = record {
-  into = λ s lines text k. k;
-  out = λ s lines text k. k;
-  into_ends = λ s lines e. e;
-  out_ends = λ s lines e. e;
-  aim_is = λ s. refl;
-}
-
-pub wide_four : IsSearch (wide_ways 4 4) of.WideFour
-wide_four = record {
-  into = λ s lines text k. k;
-  out = λ s lines text k. k;
-  into_ends = λ s lines e. e;
-  out_ends = λ s lines e. e;
-  aim_is = λ s. refl;
-}
-
-pub wide_eight : IsSearch (wide_ways 8 8) of.WideEight
-wide_eight = record {
-  into = λ s lines text k. k;
-  out = λ s lines text k. k;
-  into_ends = λ s lines e. e;
-  out_ends = λ s lines e. e;
-  aim_is = λ s. refl;
-}
-
-pub wide_sixteen : IsSearch (wide_ways 16 16) of.WideSixteen
-wide_sixteen = record {
-  into = λ s lines text k. k;
-  out = λ s lines text k. k;
-  into_ends = λ s lines e. e;
-  out_ends = λ s lines e. e;
-  aim_is = λ s. refl;
-}
-
-pub wide_thirty_two : IsSearch (wide_ways 32 16) of.WideThirtyTwo
-wide_thirty_two = record {
-  into = λ s lines text k. k;
-  out = λ s lines text k. k;
-  into_ends = λ s lines e. e;
-  out_ends = λ s lines e. e;
-  aim_is = λ s. refl;
-}
-
-pub wide_sixty_four : IsSearch (wide_ways 64 16) of.WideSixtyFour
-wide_sixty_four = record {
-  into = λ s lines text k. k;
-  out = λ s lines text k. k;
-  into_ends = λ s lines e. e;
-  out_ends = λ s lines e. e;
-  aim_is = λ s. refl;
-}
-
-pub event_four : IsSearch (event_ways 4) of.EventFour
-event_four = record {
-  into = λ s lines text k. k;
-  out = λ s lines text k. k;
-  into_ends = λ s lines e. e;
-  out_ends = λ s lines e. e;
-  aim_is = λ s. refl;
-}
-
-pub event_eight : IsSearch (event_ways 8) of.EventEight
-event_eight = record {
-  into = λ s lines text k. k;
-  out = λ s lines text k. k;
-  into_ends = λ s lines e. e;
-  out_ends = λ s lines e. e;
-  aim_is = λ s. refl;
-}
-
-pub event_sixteen : IsSearch (event_ways 16) of.EventSixteen
-event_sixteen = record {
-  into = λ s lines text k. k;
-  out = λ s lines text k. k;
-  into_ends = λ s lines e. e;
-  out_ends = λ s lines e. e;
-  aim_is = λ s. refl;
-}
 
 module _ {J T X : Type 0} (ways : Ways J T X) (wrap : Search J → SearchLines) (so : IsSearch ways wrap) where
   pub read_judged : {E : Type 0} (old new : Search J) (line was : List ℕ) (r : Result (Option Fault) E)
@@ -297,6 +217,16 @@ open_ends (of.EventEight s) read line is = λ lines text k more.
     opened (event_ways 8) s line lines k is (λ terms. open-event 8 line is) more
 open_ends (of.EventSixteen s) read line is = λ lines text k more.
     opened (event_ways 16) s line lines k is (λ terms. open-event 16 line is) more
+open_ends (of.WideEventFour s) read line is = λ lines text k more.
+    opened (wide_event_ways 4 4) s line lines k is (λ terms. open-wide-event 4 line is) more
+open_ends (of.WideEventEight s) read line is = λ lines text k more.
+    opened (wide_event_ways 8 8) s line lines k is (λ terms. open-wide-event 8 line is) more
+open_ends (of.WideEventSixteen s) read line is = λ lines text k more.
+    opened (wide_event_ways 16 16) s line lines k is (λ terms. open-wide-event 16 line is) more
+open_ends (of.WideEventThirtyTwo s) read line is = λ lines text k more.
+    opened (wide_event_ways 32 16) s line lines k is (λ terms. open-wide-event 32 line is) more
+open_ends (of.WideEventSixtyFour s) read line is = λ lines text k more.
+    opened (wide_event_ways 64 16) s line lines k is (λ terms. open-wide-event 64 line is) more
 
 -- ---- the end
 
@@ -314,6 +244,11 @@ read_clean (of.WideSixtyFour s) read count was is = λ lines before k counted cl
 read_clean (of.EventFour s) read count was is = λ lines before k counted clean. k.some
 read_clean (of.EventEight s) read count was is = λ lines before k counted clean. k.some
 read_clean (of.EventSixteen s) read count was is = λ lines before k counted clean. k.some
+read_clean (of.WideEventFour s) read count was is = λ lines before k counted clean. k.some
+read_clean (of.WideEventEight s) read count was is = λ lines before k counted clean. k.some
+read_clean (of.WideEventSixteen s) read count was is = λ lines before k counted clean. k.some
+read_clean (of.WideEventThirtyTwo s) read count was is = λ lines before k counted clean. k.some
+read_clean (of.WideEventSixtyFour s) read count was is = λ lines before k counted clean. k.some
 
 pub no_lines : (alloc : Global) (aim : Aim) (status : Status) (f : Findings) → f.faults.items ≡ no_header
     → AreCounted f.beats f.cells.items [] → HasFound (of.Waiting alloc aim) status f

@@ -13,10 +13,10 @@ use Rattle.tl_engine.specs.statement.Judged.{IsAtFault as IsAtFaultBy, JudgedAft
 use Rattle.tl_engine.specs.statement.JudgedLinks.{faults_by}
 use Rattle.tl_engine.specs.statement.LinksHeader.{NamesAllowed}
 use Rattle.tl_commit_lines.proofs.AsBefore.{links-apart, wide-apart}
-use Rattle.tl_commit_lines.specs.statement.JudgedEvents.{IsEventAtFault, JudgedCommits, JudgedEvents}
+use Rattle.tl_commit_lines.specs.statement.JudgedEvents.{IsEventAtFault, JudgedEvents}
 use Rattle.tl_commits.specs.statement.Events.{Events}
 use Rattle.tl_report.specs.declared.findings.Finding.{Finding}
-use Rattle.tl_report.specs.statement.Form.{EventTerms, Form, IsAtFault, Terms, events, first_fault_in, narrow, wide}
+use Rattle.tl_report.specs.statement.Form.{EventTerms, Form, IsAtFault, Terms, events, first_fault_in, narrow, wide, wide_events}
 use Rattle.tl_report.specs.statement.Found.{FindsAfter, FindsFor, event_terms_of, is_open, left_behind, most_of, terms_of}
 use Rattle.tl_report.specs.statement.Said.{first_text, status_of}
 use Rattle.tl_wide.specs.declared.width.WideWidth.{WideWidth}
@@ -24,6 +24,9 @@ use Rattle.tl_wide.specs.statement.Naming.{WideTrace}
 use Rattle.tl_wide_lines.proofs.JudgedLines.{begin-more, begin-none}
 use Rattle.tl_wide_lines.proofs.WideHeaders.{versions_apart}
 use Rattle.tl_report.proofs.WideTaken.{newest-last, nothing-found}
+use Rattle.tl_wide_event_lines.proofs.AsBefore.{links-apart as links-unmarked, marked-apart, wide-apart as wide-unmarked}
+use Rattle.tl_wide_event_lines.specs.statement.JudgedWideEvents.{IsWideAtFault, JudgedAny, JudgedWideEvents}
+use Rattle.tl_wide_events.specs.statement.Narrowed.{WideEvents}
 use Rattle.tl_wide_lines.specs.statement.JudgedTrace.{BeginWith, JudgedWide}
 use Rattle.tl_wide_lines.specs.statement.WideHeader.{NamesWide}
 
@@ -115,6 +118,32 @@ events_judged terms e n most (line ∷ lines) found beats cells number (inl (x, 
 events_judged terms e n most (line ∷ lines) found beats cells number (inr (fault, later, is, found_is, behind)) =
     inr (fault, event_at_fault terms e line fault is, rw (found_is, number) refl, rw found_is refl)
 
+-- ---- wide beats and commits
+
+wide_at_fault : {w : ℕ} (terms : EventTerms) (t : WideEvents w) (line : List ℕ) (fault : Fault)
+    → IsAtFault (wide_events w terms) t line fault → IsWideAtFault w terms.together terms.links terms.may t line fault
+wide_at_fault terms t line fault (inl bad) = inl bad
+wide_at_fault terms t line fault (inr (x, spells, bad)) = inr (x.0, x.1, spells, bad)
+
+wide_events_judged : {w : ℕ} (terms : EventTerms) (t : WideEvents w) (n most : ℕ) (lines : List (List ℕ))
+    (found : List Finding) (beats : ℕ) (cells : List ℕ) → n ≡ length t + 2
+    → FindsAfter (wide_events w terms) t n (suc most) lines found beats cells
+    → JudgedWideEvents w terms.together terms.links terms.may t lines (first_text terms.together found beats)
+    (status_of found)
+unfolding JudgedWideEvents FindsAfter
+wide_events_judged {w} terms t n most [] found beats cells number is =
+    rw (is.0, is.1.in_all ∙ length-map t (wide_events w terms).cell) (refl, refl)
+wide_events_judged terms t n most (line ∷ lines) found beats cells number (inl (x, spells, good, is)) =
+    inl (
+      x.0,
+      x.1,
+      spells,
+      good,
+      wide_events_judged terms (x ∷ t) (n + 1) most lines found beats cells (omega (arith, number)) is,
+    )
+wide_events_judged terms t n most (line ∷ lines) found beats cells number (inr (fault, later, is, found_is, behind)) =
+    inr (fault, wide_at_fault terms t line fault is, rw (found_is, number) refl, rw found_is refl)
+
 -- ---- a trace
 
 -- a header of narrow beats is none of wide ones
@@ -126,46 +155,63 @@ apart allow line width may levels names wider own others wides =
 
 pub verdict_so : (aim : Aim) (lines : List (List ℕ)) (found : List Finding) (beats : ℕ) (cells : List ℕ)
     → FindsFor aim lines found beats cells
-    → JudgedCommits aim.together aim.allow lines (first_text aim.together found beats) (status_of found)
+    → JudgedAny aim.together aim.allow lines (first_text aim.together found beats) (status_of found)
 unfolding FindsFor JudgedBy
 verdict_so aim [] found beats cells is = rw is.0 (refl, refl)
 verdict_so aim (line ∷ lines) found beats cells (inl (width, may, levels, spells, is)) =
     inr (
-      (λ other own links marked. wide-apart line width other spells.0 marked.0 levels links spells.1 marked.1),
-      inl (
-        width,
-        may,
-        levels,
-        spells,
-        judged_wide (terms_of aim.together may levels) lines [] 2 aim.behind lines found
-            beats cells refl (nothing-found _ (terms_of aim.together may levels)) (begin-none _ lines) is,
-      ),
-    )
-verdict_so aim (line ∷ lines) found beats cells (inr (inl (width, may, levels, spells, is))) =
-    inr (
-      (λ other own links marked. links-apart line width other spells.0 marked.0 levels links spells.1 marked.1),
+      (λ other own links marked. wide-unmarked line width other spells.0 marked.0 levels links spells.1 marked.1),
       inr (
-        apart aim.allow line width may levels spells,
+        (λ other own links marked. wide-apart line width other spells.0 marked.0 levels links spells.1 marked.1),
         inl (
           width,
           may,
           levels,
           spells,
-          judged_after (terms_of aim.together may levels) [] 2 aim.behind lines found beats
-              cells refl is,
+          judged_wide (terms_of aim.together may levels) lines [] 2 aim.behind lines found
+              beats cells refl (nothing-found _ (terms_of aim.together may levels)) (begin-none _ lines) is,
+        ),
+      ),
+    )
+verdict_so aim (line ∷ lines) found beats cells (inr (inl (width, may, levels, spells, is))) =
+    inr (
+      (λ other own links marked. links-unmarked line width other spells.0 marked.0 levels links spells.1 marked.1),
+      inr (
+        (λ other own links marked. links-apart line width other spells.0 marked.0 levels links spells.1 marked.1),
+        inr (
+          apart aim.allow line width may levels spells,
+          inl (
+            width,
+            may,
+            levels,
+            spells,
+            judged_after (terms_of aim.together may levels) [] 2 aim.behind lines found beats
+                cells refl is,
+          ),
         ),
       ),
     )
 verdict_so aim (line ∷ lines) found beats cells (inr (inr (inl (width, may, links, spells, is)))) =
+    inr (
+      (λ other own others marked. marked-apart line width other spells.0 marked.0 links others spells.1 marked.1),
+      inl (
+        width,
+        may,
+        links,
+        spells,
+        events_judged (event_terms_of aim.together may links) [] 2 aim.behind lines found beats cells refl is,
+      ),
+    )
+verdict_so aim (line ∷ lines) found beats cells (inr (inr (inr (inl (width, may, links, spells, is))))) =
     inl (
       width,
       may,
       links,
       spells,
-      events_judged (event_terms_of aim.together may links) [] 2 aim.behind lines found beats cells refl is,
+      wide_events_judged (event_terms_of aim.together may links) [] 2 aim.behind lines found beats cells refl is,
     )
-verdict_so aim (line ∷ lines) found beats cells (inr (inr (inr (none, is)))) =
-    inr (none.2, inr (none.1, inr (none.0, rw is.0 refl, rw is.0 refl)))
+verdict_so aim (line ∷ lines) found beats cells (inr (inr (inr (inr (none, is))))) =
+    inr (none.3, inr (none.2, inr (none.1, inr (none.0, rw is.0 refl, rw is.0 refl))))
 
 -- ---- how many are found
 
@@ -197,4 +243,6 @@ at_most aim (line ∷ lines) found beats cells (inr (inl (width, may, levels, sp
     at_most_after _ [] 2 (most_of aim) lines found beats cells is
 at_most aim (line ∷ lines) found beats cells (inr (inr (inl (width, may, links, spells, is)))) =
     at_most_after _ [] 2 (most_of aim) lines found beats cells is
-at_most aim (line ∷ lines) found beats cells (inr (inr (inr (none, is)))) = rw is.0 (omega arith)
+at_most aim (line ∷ lines) found beats cells (inr (inr (inr (inl (width, may, links, spells, is))))) =
+    at_most_after _ [] 2 (most_of aim) lines found beats cells is
+at_most aim (line ∷ lines) found beats cells (inr (inr (inr (inr (none, is))))) = rw is.0 (omega arith)

@@ -2,7 +2,7 @@
 use Rattle.std.proofs.Common.{◌≡◌, ◌∙◌, ℕ, List, [], ◌∷◌, ◌++◌, length, refl, ap, sym, subst}
 use Rattle.std.proofs.Common.{inl, inr}
 use Rattle.std.proofs.lemmas.Grind.{reverse_onto}
-use Rattle.std.proofs.lemmas.List.{length-reverse, reverse-append, reverse-reverse}
+use Rattle.std.proofs.lemmas.List.{length-reverse, reverse-reverse}
 use Rattle.std.specs.Prelude.{false, true, Option, Some, None, reverse}
 use mathlib.Core.List.{reverse_aux}
 use Rattle.tl_beat.specs.declared.beat.Link.{Link}
@@ -21,7 +21,10 @@ use Rattle.tl_wide_lines.proofs.FirstFaults.{next-bad, next-beats, next-beyond, 
 use Rattle.tl_wide_lines.proofs.PartsJudged.{all-taken}
 use Rattle.tl_wide_lines.specs.code.FirstFault.{IsTaken, beats_taken, behind, fault_from, with_parts}
 use Rattle.tl_wide_lines.specs.code.WideJudging.{JudgesWideBeat, KnowsNone}
-use Rattle.tl_report.specs.code.WideTaking.{AnswersNext, AreGood, KnowsTrace}
+use Rattle.tl_report.specs.code.Taking.{TakesItem}
+use Rattle.tl_report.specs.code.WideJudging.{wide_takings}
+use Rattle.tl_report.specs.code.WideTaking.{AnswersNext, KnowsTrace}
+use Rattle.tl_report.specs.declared.wide.WideTaker.{WideTaker}
 use Rattle.tl_report.specs.statement.Form.{Terms, first_fault_in}
 use Rattle.tl_wide_lines.specs.declared.judge.WideJudge.{WideJudge}
 use Rattle.tl_wide_lines.specs.statement.JudgedTrace.{first_fault_of}
@@ -58,9 +61,6 @@ newest-last x t = reverse_onto t x []
 
 some-same : {A : Type 0} {x y : A} → Some x ≡ Some y → x ≡ y
 some-same e = cc
-
-none-some : {A : Type 0} {x : A} → None ≡ Some x → ⊥
-none-some e = cc
 
 module _ {w p : ℕ} (width : p ≡ part_width w) (terms : Terms)
     (old new : WideJudge p) (link : Link) (x : WideBeat w) (t : WideTrace w)
@@ -156,34 +156,13 @@ pub nothing-found : (w : ℕ) (terms : Terms)
 unfolding joined narrowed_from fault_from
 nothing-found w terms = none-at-fault terms.together terms.may terms.levels [] (record { complete = refl; good = refl })
 
--- ---- beats that are judged again
+-- ---- the answer to the next beat
 
--- the beats behind these are without a fault too
-good-behind : {w : ℕ} (terms : Terms) (newer t : WideTrace w) → AreGood terms (newer ++ t) → AreGood terms t
-unfolding AreGood
-good-behind terms [] t good = good
-good-behind terms (x ∷ newer) t good = good-behind terms newer t good.1
-
--- A trace without a fault begins with a front and one more beat. A judge that has taken the front takes the beat.
-pub taken-again : {w p : ℕ} → p ≡ part_width w → (terms : Terms) (old new : WideJudge p)
-    (trace front more : WideTrace w) (x : Link × WideBeat w) (answer : Option Fault)
-    → AreGood terms (reverse trace) → trace ≡ (front ++ x ∷ []) ++ more
-    → KnowsTrace terms old (reverse front) → JudgesWideBeat old new x.0 x.1 answer
-    → KnowsTrace terms new (reverse (front ++ x ∷ []))
-unfolding AreGood
-taken-again {w} {p} width terms old new trace front more x answer good is k judged =
-    go answer (next-answered width terms old new x.0 x.1 (reverse front) k answer judged)
-  where
-    order : reverse (front ++ x ∷ []) ≡ x ∷ reverse front
-    order = reverse-append front (x ∷ [])
-
-    orders : reverse trace ≡ reverse more ++ x ∷ reverse front
-    orders = ap reverse is ∙ reverse-append (front ++ x ∷ []) more ∙ ap (λ t. reverse more ++ t) order
-
-    none : first_fault_in terms (x ∷ reverse front) ≡ None
-    none = (good-behind terms (reverse more) (x ∷ reverse front) (subst (AreGood terms) orders good)).0
-
-    go : (answer : Option Fault) → AnswersNext terms new (reverse front) x answer
-        → KnowsTrace terms new (reverse (front ++ x ∷ []))
-    go None known = subst (λ t. KnowsTrace terms new t) (sym order) known
-    go (Some fault) bad = absurd (none-some (sym none ∙ bad))
+-- a judge takes the next beat if it isn't at fault
+pub takes-beat : {w p : ℕ} → p ≡ part_width w → (old new : WideTaker w p) (x : Link × WideBeat w) (answer : Option Fault)
+    → JudgesWideBeat old.judge new.judge x.0 x.1 answer → TakesItem (wide_takings w p) old new x answer
+takes-beat width old new x None judged = λ terms t k.
+    let next = next-answered width terms old.judge new.judge x.0 x.1 t k None judged in
+    (none-found terms new.judge (x ∷ t) next, next)
+takes-beat width old new x (Some fault) judged = λ terms t k.
+    next-answered width terms old.judge new.judge x.0 x.1 t k (Some fault) judged

@@ -1,7 +1,11 @@
 pub mod EventJudging
+pub mod KeptJudging
 pub mod LineJudging
 pub mod NarrowJudging
 pub mod Searching
+pub mod Taking
+pub mod ValidEvents
+pub mod WideEventJudging
 pub mod WideJudging
 pub mod WideTaking
 pub mod WideWidth

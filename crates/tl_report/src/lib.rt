@@ -4,6 +4,7 @@
 pub mod events;
 pub mod find;
 pub mod findings;
+pub mod kept;
 pub mod law;
 pub mod line_judge;
 pub mod narrow;
@@ -11,4 +12,6 @@ pub mod say;
 pub mod search;
 pub mod search_lines;
 pub mod taken;
+pub mod taker;
 pub mod wide;
+pub mod wide_events;

@@ -6,17 +6,20 @@ ghost use Rattle.tl_engine.specs.declared.status.Status.{Status};
 ghost use Rattle.tl_report.specs.code.EventJudging.{event_ways};
 ghost use Rattle.tl_report.specs.code.Searching.{Begins, EndsLines, HasFound, KnowsLines, StartsSearch, TellsLines, aim_of};
 ghost use Rattle.tl_report.specs.code.NarrowJudging.{narrow_ways};
+ghost use Rattle.tl_report.specs.code.WideEventJudging.{wide_event_ways};
 ghost use Rattle.tl_report.specs.code.WideJudging.{wide_ways};
-ghost use Rattle.tl_report.specs.statement.Found.{IsHeadless, IsNotMarked, IsNotNarrow, IsNotWide, event_terms_of};
-ghost use Rattle.tl_report.specs.statement.Found.{no_header, terms_of};
+ghost use Rattle.tl_report.specs.statement.Found.{IsHeadless, IsNotMarked, IsNotNarrow, IsNotWide, IsNotWideMarked};
+ghost use Rattle.tl_report.specs.statement.Found.{event_terms_of, no_header, terms_of};
 ghost use Rattle.tl_report.specs.statement.Taken.{AreCounted};
 ghost use Rattle.tl_wide.specs.statement.Width.{IsWideWidth, part_width};
 
 use crate::events::EventLineJudge;
 use crate::findings::{Finding, Findings};
+use crate::kept::KeptLineJudge;
 use crate::narrow::NarrowLineJudge;
 use crate::search::Search;
-use crate::wide::WideLineJudge;
+use crate::wide::{WideLineJudge, WideTaker};
+use crate::wide_events::{WideEventLineJudge, WideEventTaker};
 use std::alloc::{AllocError, Global};
 use std::mem;
 use tl_beat::fault::LineFault;
@@ -29,6 +32,7 @@ use tl_engine::status::Status;
 use tl_engine::trace_judge::read_for;
 use tl_params::width::Width;
 use tl_wide::width::WideWidth;
+use tl_wide_event_lines::header::read_wide_marked_for;
 use tl_wide_lines::header::read_wide_for;
 
 /// Judges the lines of a trace, and records those at fault.
@@ -47,6 +51,11 @@ pub enum SearchLines {
     EventFour(Search<EventLineJudge<4>>),
     EventEight(Search<EventLineJudge<8>>),
     EventSixteen(Search<EventLineJudge<16>>),
+    WideEventFour(Search<WideEventLineJudge<4, 4>>),
+    WideEventEight(Search<WideEventLineJudge<8, 8>>),
+    WideEventSixteen(Search<WideEventLineJudge<16, 16>>),
+    WideEventThirtyTwo(Search<WideEventLineJudge<32, 16>>),
+    WideEventSixtyFour(Search<WideEventLineJudge<64, 16>>),
 }
 
 /// A search after a header of narrow beats.
@@ -73,8 +82,8 @@ fn wide<const W: usize, const P: usize>(
     requires part { P ≡ part_width W }
     ensures { IfOk result (StartsSearch (wide_ways W P) aim (terms_of aim.together links.may links.levels.items)) }
 {
-    let judge = WideLineJudge::new(alloc, aim, links)?;
-    Search::new(alloc, aim, judge)
+    let judge = WideTaker::new(alloc, aim.together, &links)?;
+    Search::new(alloc, aim, KeptLineJudge::new(alloc, aim, judge, links))
 }
 
 /// A search after a header of a trace with commits.
@@ -89,6 +98,21 @@ fn events<const W: usize>(
 {
     let judge = EventLineJudge::new(alloc, aim.together, header)?;
     Search::new(alloc, aim, judge)
+}
+
+/// A search after a header of a wide trace with commits.
+fn wide_events<const W: usize, const P: usize>(
+    alloc: Global,
+    aim: Aim,
+    links: CommitHeader,
+) -> Result<Search<WideEventLineJudge<W, P>>, AllocError>
+    requires width { IsWideWidth W }
+    requires part { P ≡ part_width W }
+    ensures { IfOk result (StartsSearch (wide_event_ways W P) aim (event_terms_of aim.together links.may
+        links.links.items)) }
+{
+    let judge = WideEventTaker::new(alloc, aim.together, &links)?;
+    Search::new(alloc, aim, KeptLineJudge::new(alloc, aim, judge, links))
 }
 
 /// Begins with the links that a header of narrow beats names; `None` if the line is no such header.
@@ -139,6 +163,28 @@ fn begin_events(alloc: Global, aim: Aim, line: &[u8]) -> Result<Option<SearchLin
     Ok(Some(lines))
 }
 
+/// Begins with the links that a header of a wide trace with commits names; `None` if the line is no such header.
+fn begin_wide_events(
+    alloc: Global,
+    aim: Aim,
+    line: &[u8],
+) -> Result<Option<SearchLines>, AllocError>
+    ensures { IfOk result (Begins IsNotWideMarked aim line.now) }
+{
+    let Some(header) = read_wide_marked_for(aim.allow, line) else {
+        return Ok(None);
+    };
+    let links = header.narrow;
+    let lines = match header.width {
+        WideWidth::Four => SearchLines::WideEventFour(wide_events(alloc, aim, links)?),
+        WideWidth::Eight => SearchLines::WideEventEight(wide_events(alloc, aim, links)?),
+        WideWidth::Sixteen => SearchLines::WideEventSixteen(wide_events(alloc, aim, links)?),
+        WideWidth::ThirtyTwo => SearchLines::WideEventThirtyTwo(wide_events(alloc, aim, links)?),
+        WideWidth::SixtyFour => SearchLines::WideEventSixtyFour(wide_events(alloc, aim, links)?),
+    };
+    Ok(Some(lines))
+}
+
 /// Begins with the links that a header names; `None` if the line is no header.
 fn begin(alloc: Global, aim: Aim, line: &[u8]) -> Result<Option<SearchLines>, AllocError>
     ensures { IfOk result (Begins IsHeadless aim line.now) }
@@ -146,8 +192,11 @@ fn begin(alloc: Global, aim: Aim, line: &[u8]) -> Result<Option<SearchLines>, Al
     if let Some(lines) = begin_wide(alloc, aim, line)? {
         return Ok(Some(lines));
     }
-    match begin_narrow(alloc, aim, line)? {
-        None => begin_events(alloc, aim, line),
+    if let Some(lines) = begin_narrow(alloc, aim, line)? {
+        return Ok(Some(lines));
+    }
+    match begin_events(alloc, aim, line)? {
+        None => begin_wide_events(alloc, aim, line),
         Some(lines) => Ok(Some(lines)),
     }
 }
@@ -199,6 +248,11 @@ impl SearchLines {
             SearchLines::EventFour(search) => search.into_findings(status),
             SearchLines::EventEight(search) => search.into_findings(status),
             SearchLines::EventSixteen(search) => search.into_findings(status),
+            SearchLines::WideEventFour(search) => search.into_findings(status),
+            SearchLines::WideEventEight(search) => search.into_findings(status),
+            SearchLines::WideEventSixteen(search) => search.into_findings(status),
+            SearchLines::WideEventThirtyTwo(search) => search.into_findings(status),
+            SearchLines::WideEventSixtyFour(search) => search.into_findings(status),
         }
     }
 }
@@ -237,6 +291,11 @@ impl LineHandler for SearchLines {
             SearchLines::EventFour(search) => search.read(line),
             SearchLines::EventEight(search) => search.read(line),
             SearchLines::EventSixteen(search) => search.read(line),
+            SearchLines::WideEventFour(search) => search.read(line),
+            SearchLines::WideEventEight(search) => search.read(line),
+            SearchLines::WideEventSixteen(search) => search.read(line),
+            SearchLines::WideEventThirtyTwo(search) => search.read(line),
+            SearchLines::WideEventSixtyFour(search) => search.read(line),
         }
     }
 

@@ -3,10 +3,13 @@
 ghost use Rattle.std.specs.Prelude.{◌≡◌, ◌<◌, ◌≤◌};
 ghost use Rattle.tl_report.specs.statement.Taken.{cell_for, cell_of, message_of, most_cells, wide_cell_of};
 ghost use Rattle.tl_report.specs.statement.Taken.{commit_message_of, event_cell_of, event_message_of, wide_message_of};
+ghost use Rattle.tl_report.specs.statement.Taken.{wide_event_cell_of, wide_event_message_of};
+ghost use Rattle.tl_wide_events.specs.statement.Narrowed.{commit_at};
 
 use tl_beat::beat::{Beat, Link};
 use tl_events::commit::{Commit, Event};
 use tl_wide::beat::WideBeat;
+use tl_wide_events::commit::{WideCommit, WideEvent};
 
 /// The number of cells: 36 for each of 256 links.
 pub const CELLS: usize = 9216;
@@ -64,6 +67,29 @@ fn event_message_of<const W: usize>(event: &Event<W>) -> u8
     }
 }
 
+/// The same for a commit with an address of 64 bits.
+fn wide_commit_message_of(commit: &WideCommit) -> u8
+    ensures number { result ≡ commit_message_of (commit_at commit.now 0) }
+    ensures below { result ≤ 35 }
+{
+    match commit {
+        WideCommit::Store { .. } => 33,
+        WideCommit::Load { .. } => 34,
+        WideCommit::Begin { .. } => 35,
+    }
+}
+
+/// The same for an event of a wide trace.
+fn wide_event_message_of<const W: usize>(event: &WideEvent<W>) -> u8
+    ensures number { result ≡ wide_event_message_of event.now }
+    ensures below { result ≤ 35 }
+{
+    match event {
+        WideEvent::Beat(beat) => wide_message_of(beat),
+        WideEvent::Commit(commit) => wide_commit_message_of(commit),
+    }
+}
+
 /// The number of the cell of a message or a kind of commits: each link has 36 cells, one for each.
 fn cell_for(link: Link, message: u8) -> usize
     requires { message ≤ 35 }
@@ -95,4 +121,12 @@ pub fn event_cell_of<const W: usize>(link: Link, event: &Event<W>) -> usize
     ensures below { result < most_cells }
 {
     cell_for(link, event_message_of(event))
+}
+
+/// The number of the cell in which an event of a wide trace counts.
+pub fn wide_event_cell_of<const W: usize>(link: Link, event: &WideEvent<W>) -> usize
+    ensures cell { result ≡ wide_event_cell_of link event.now }
+    ensures below { result < most_cells }
+{
+    cell_for(link, wide_event_message_of(event))
 }

@@ -1,4 +1,4 @@
-mod AsBefore
+pub mod AsBefore
 pub mod EventsJudged
 pub mod JudgedLines
 mod JudgedOnce

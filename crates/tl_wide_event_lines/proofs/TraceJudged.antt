@@ -100,7 +100,7 @@ module _ (together : Bool) (allow : Liberties) (lines : List (List ℕ)) (text :
 -- ---- a trace with another header
 
 -- what is said of lines of which the first is no header of a wide trace with commits
-narrow-judged : (together : Bool) (allow : Liberties) (lines : List (List ℕ)) (text : List ℕ) (status : Status)
+pub narrow-judged : (together : Bool) (allow : Liberties) (lines : List (List ℕ)) (text : List ℕ) (status : Status)
     → NoneWideMarked allow lines → JudgedCommits together allow lines text status
     → JudgedAny together allow lines text status
 narrow-judged together allow [] text status none judged = judged

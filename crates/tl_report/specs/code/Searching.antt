@@ -11,6 +11,7 @@ use Rattle.tl_engine.specs.declared.status.Status.TheVariants.{Clean, Broken}
 use Rattle.tl_report.specs.code.EventJudging.{event_ways}
 use Rattle.tl_report.specs.code.LineJudging.{Ways}
 use Rattle.tl_report.specs.code.NarrowJudging.{narrow_ways}
+use Rattle.tl_report.specs.code.WideEventJudging.{wide_event_ways}
 use Rattle.tl_report.specs.code.WideJudging.{wide_ways}
 use Rattle.tl_report.specs.declared.findings.Finding.{Finding}
 use Rattle.tl_report.specs.declared.findings.Findings.{Findings}
@@ -120,6 +121,11 @@ aim_of (of.WideSixtyFour s) = s.aim
 aim_of (of.EventFour s) = s.aim
 aim_of (of.EventEight s) = s.aim
 aim_of (of.EventSixteen s) = s.aim
+aim_of (of.WideEventFour s) = s.aim
+aim_of (of.WideEventEight s) = s.aim
+aim_of (of.WideEventSixteen s) = s.aim
+aim_of (of.WideEventThirtyTwo s) = s.aim
+aim_of (of.WideEventSixtyFour s) = s.aim
 
 -- these lines were read, whatever was said of them
 abbrev pub KnowsLines : SearchLines → List (List ℕ) → List ℕ → Type 0
@@ -135,6 +141,11 @@ KnowsLines (of.WideSixtyFour s) lines text = KnowsSearch (wide_ways 64 16) s lin
 KnowsLines (of.EventFour s) lines text = KnowsSearch (event_ways 4) s lines
 KnowsLines (of.EventEight s) lines text = KnowsSearch (event_ways 8) s lines
 KnowsLines (of.EventSixteen s) lines text = KnowsSearch (event_ways 16) s lines
+KnowsLines (of.WideEventFour s) lines text = KnowsSearch (wide_event_ways 4 4) s lines
+KnowsLines (of.WideEventEight s) lines text = KnowsSearch (wide_event_ways 8 8) s lines
+KnowsLines (of.WideEventSixteen s) lines text = KnowsSearch (wide_event_ways 16 16) s lines
+KnowsLines (of.WideEventThirtyTwo s) lines text = KnowsSearch (wide_event_ways 32 16) s lines
+KnowsLines (of.WideEventSixtyFour s) lines text = KnowsSearch (wide_event_ways 64 16) s lines
 
 -- an input without a line has no header
 abbrev pub TellsLines : List (List ℕ) → List ℕ → Status → Type 0
@@ -156,6 +167,11 @@ EndsLines (of.WideSixtyFour s) lines = EndsSearch s lines
 EndsLines (of.EventFour s) lines = EndsSearch s lines
 EndsLines (of.EventEight s) lines = EndsSearch s lines
 EndsLines (of.EventSixteen s) lines = EndsSearch s lines
+EndsLines (of.WideEventFour s) lines = EndsSearch s lines
+EndsLines (of.WideEventEight s) lines = EndsSearch s lines
+EndsLines (of.WideEventSixteen s) lines = EndsSearch s lines
+EndsLines (of.WideEventThirtyTwo s) lines = EndsSearch s lines
+EndsLines (of.WideEventSixtyFour s) lines = EndsSearch s lines
 
 -- these are all faults of the input
 abbrev pub HasFound : SearchLines → Status → Findings → Type 0

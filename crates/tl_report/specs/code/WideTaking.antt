@@ -1,5 +1,5 @@
 -- What a judge of wide beats knows of the trace that it has taken, and its answer to the next beat.
-use Rattle.std.specs.Prelude.{◌≡◌, ◌∷◌, [], ℕ, length, Option, Some, None, reverse, ⊤}
+use Rattle.std.specs.Prelude.{◌≡◌, ◌∷◌, ℕ, length, Option, Some, None, reverse}
 use Rattle.tl_beat.specs.declared.beat.Link.{Link}
 use Rattle.tl_engine.specs.code.TraceJudging.{KnowsBeats}
 use Rattle.tl_engine.specs.declared.fault.Fault.{Fault}
@@ -25,8 +25,3 @@ pub record KnowsTrace {w p : ℕ} (terms : Terms) (judge : WideJudge p) (t : Wid
 abbrev pub AnswersNext : {w p : ℕ} → Terms → WideJudge p → WideTrace w → Link × WideBeat w → Option Fault → Type 0
 AnswersNext terms new t x None = KnowsTrace terms new (x ∷ t)
 AnswersNext terms new t x (Some fault) = first_fault_in terms (x ∷ t) ≡ Some (length t, fault)
-
--- neither this trace, the newest beat first, nor any front of it has a fault
-unfoldable pub AreGood : {w : ℕ} → Terms → WideTrace w → Type 0
-AreGood terms [] = ⊤
-AreGood terms (x ∷ t) = (first_fault_in terms (x ∷ t) ≡ None) × AreGood terms t

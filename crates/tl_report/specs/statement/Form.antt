@@ -1,5 +1,5 @@
--- The three forms that a trace may have, and the fault of a beat of each: narrow beats, wide ones, and narrow ones with
--- commits between them.
+-- The four forms that a trace may have, and the fault of a beat of each: narrow beats, wide ones, and either with commits
+-- between them.
 use Rattle.std.specs.Prelude.{◌≡◌, ◌⊎◌, ◌∷◌, ℕ, Bool, List, length, Option, Some, None, reverse}
 use Rattle.tl_beat.specs.declared.beat.Beat.{Beat}
 use Rattle.tl_beat.specs.declared.beat.Link.{Link}
@@ -14,9 +14,12 @@ use Rattle.tl_commit_lines.specs.declared.header.MarkedLevel.{MarkedLevel}
 use Rattle.tl_commit_lines.specs.statement.JudgedEvents.{fault_by}
 use Rattle.tl_events.specs.declared.commit.Event.{Event}
 use Rattle.tl_events.specs.statement.EventLine.{SpellsEvent, event_fault}
-use Rattle.tl_report.specs.statement.Taken.{cell_of, event_cell_of, wide_cell_of}
+use Rattle.tl_report.specs.statement.Taken.{cell_of, event_cell_of, wide_cell_of, wide_event_cell_of}
 use Rattle.tl_wide.specs.declared.beat.WideBeat.{WideBeat}
 use Rattle.tl_wide.specs.statement.Line.{WideSpells, wide_line_fault}
+use Rattle.tl_wide_event_lines.specs.statement.EventFaults.{wide_fault_by}
+use Rattle.tl_wide_events.specs.declared.commit.WideEvent.{WideEvent}
+use Rattle.tl_wide_events.specs.statement.WideEventLine.{SpellsWideEvent, wide_event_fault}
 use Rattle.tl_wide_lines.specs.statement.JudgedTrace.{first_fault_of}
 
 -- the terms of a trace: whether its links are judged together, their liberties, and their levels
@@ -76,6 +79,17 @@ events w terms = record {
   is_good = λ e x. fault_by w terms.together terms.links terms.may x.0 x.1 e ≡ None;
   is_bad = λ e x fault. fault_by w terms.together terms.links terms.may x.0 x.1 e ≡ Some fault;
   cell = λ x. event_cell_of x.0 x.1;
+}
+
+-- Wide beats and commits: each is at fault after those of a trace as the rules say of the events that it becomes, or if no
+-- number is left for one of its names.
+abbrev pub wide_events : (w : ℕ) → EventTerms → Form (Link × WideEvent w)
+wide_events w terms = record {
+  spells = λ line x. SpellsWideEvent line x.0 x.1;
+  line_fault = wide_event_fault w;
+  is_good = λ t x. wide_fault_by w terms.together terms.links terms.may x.0 x.1 t ≡ None;
+  is_bad = λ t x fault. wide_fault_by w terms.together terms.links terms.may x.0 x.1 t ≡ Some fault;
+  cell = λ x. wide_event_cell_of x.0 x.1;
 }
 
 -- The line is at fault for this after the beats of t. It spells no beat, or one that is at fault for it.

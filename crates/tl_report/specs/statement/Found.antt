@@ -13,10 +13,11 @@ use Rattle.tl_engine.specs.statement.Width.{bytes_of}
 use Rattle.tl_report.specs.declared.findings.Finding.{Finding}
 use Rattle.tl_commit_lines.specs.declared.header.MarkedLevel.{MarkedLevel}
 use Rattle.tl_commit_lines.specs.statement.MarkedHeader.{NamesMarked}
-use Rattle.tl_report.specs.statement.Form.{EventTerms, Form, IsAtFault, Terms, events, narrow, wide}
+use Rattle.tl_report.specs.statement.Form.{EventTerms, Form, IsAtFault, Terms, events, narrow, wide, wide_events}
 use Rattle.tl_report.specs.statement.Taken.{AreCounted}
 use Rattle.tl_wide.specs.declared.width.WideWidth.{WideWidth}
 use Rattle.tl_wide.specs.statement.Width.{wide_bytes_of}
+use Rattle.tl_wide_event_lines.specs.statement.WideMarkedHeader.{NamesWideMarked}
 use Rattle.tl_wide_lines.specs.statement.WideHeader.{NamesWide}
 
 -- the most lines at fault that are looked for
@@ -74,6 +75,14 @@ FindsEvents aim line lines found beats cells =
     × FindsAfter (events (bytes_of width) (event_terms_of aim.together may links)) [] 2 (most_of aim) lines found beats
     cells
 
+-- the same for a header of a wide trace with commits
+abbrev pub FindsWideEvents : Aim → List ℕ → List (List ℕ) → List Finding → ℕ → List ℕ → Type 0
+FindsWideEvents aim line lines found beats cells =
+    (width : WideWidth) × (may : Liberties) × (links : List MarkedLevel)
+    × NamesWideMarked aim.allow line width may links
+    × FindsAfter (wide_events (wide_bytes_of width) (event_terms_of aim.together may links)) [] 2 (most_of aim) lines found
+    beats cells
+
 -- the line is no header of narrow beats
 abbrev pub IsNotNarrow : Aim → List ℕ → Type 0
 IsNotNarrow aim line = (width : Width) (may : Liberties) (levels : List Level)
@@ -89,9 +98,14 @@ abbrev pub IsNotMarked : Aim → List ℕ → Type 0
 IsNotMarked aim line = (width : Width) (may : Liberties) (links : List MarkedLevel)
     → ¬ NamesMarked aim.allow line width may links
 
+-- the line is no header of a wide trace with commits
+abbrev pub IsNotWideMarked : Aim → List ℕ → Type 0
+IsNotWideMarked aim line = (width : WideWidth) (may : Liberties) (links : List MarkedLevel)
+    → ¬ NamesWideMarked aim.allow line width may links
+
 -- the line is no header
 abbrev pub IsHeadless : Aim → List ℕ → Type 0
-IsHeadless aim line = IsNotNarrow aim line × IsNotWide aim line × IsNotMarked aim line
+IsHeadless aim line = IsNotNarrow aim line × IsNotWide aim line × IsNotMarked aim line × IsNotWideMarked aim line
 
 -- the one line at fault of a trace without a header
 abbrev pub no_header : List Finding
@@ -110,4 +124,5 @@ FindsFor aim (line ∷ lines) found beats cells =
     FindsWide aim line lines found beats cells
     ⊎ FindsNarrow aim line lines found beats cells
     ⊎ FindsEvents aim line lines found beats cells
+    ⊎ FindsWideEvents aim line lines found beats cells
     ⊎ (IsHeadless aim line × FindsNone found beats cells)

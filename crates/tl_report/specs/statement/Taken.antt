@@ -10,6 +10,9 @@ use Rattle.tl_events.specs.declared.commit.Event.{Event}
 use Rattle.tl_events.specs.declared.commit.Event.TheVariants as event
 use Rattle.tl_wide.specs.declared.beat.WideBeat.{WideBeat}
 use Rattle.tl_wide.specs.declared.beat.WideBeat.TheVariants as wide
+use Rattle.tl_wide_events.specs.declared.commit.WideEvent.{WideEvent}
+use Rattle.tl_wide_events.specs.declared.commit.WideEvent.TheVariants as wide_event
+use Rattle.tl_wide_events.specs.statement.Narrowed.{commit_at}
 
 -- the number of a message: eight for each channel from A to D, by the opcode, and one for GrantAck
 abbrev pub message_of : {w : ℕ} → Beat w → ℕ
@@ -38,6 +41,11 @@ abbrev pub event_message_of : {w : ℕ} → Event w → ℕ
 event_message_of (event.Beat x) = message_of x
 event_message_of (event.Commit x) = commit_message_of x
 
+-- the same for an event of a wide trace: a commit has the number that it has at any other address
+abbrev pub wide_event_message_of : {w : ℕ} → WideEvent w → ℕ
+wide_event_message_of (wide_event.Beat x) = wide_message_of x
+wide_event_message_of (wide_event.Commit x) = commit_message_of (commit_at x 0)
+
 -- the number of the cell in which a beat with this message counts, or such a commit: each link has 36 cells
 abbrev pub cell_for : Link → ℕ → ℕ
 cell_for link message = 36 * link.0 + message
@@ -53,6 +61,10 @@ wide_cell_of link beat = cell_for link (wide_message_of beat)
 -- the number of the cell in which an event counts
 abbrev pub event_cell_of : {w : ℕ} → Link → Event w → ℕ
 event_cell_of link x = cell_for link (event_message_of x)
+
+-- the number of the cell in which an event of a wide trace counts
+abbrev pub wide_event_cell_of : {w : ℕ} → Link → WideEvent w → ℕ
+wide_event_cell_of link x = cell_for link (wide_event_message_of x)
 
 -- the number of cells, for 256 links
 abbrev pub most_cells : ℕ

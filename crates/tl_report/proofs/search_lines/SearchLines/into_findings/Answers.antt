@@ -1,7 +1,10 @@
-use Rattle.tl_report.proofs.Handled.{eight, four, sixteen, wide_eight, wide_four, wide_sixteen, wide_sixty_four, wide_thirty_two}
-use Rattle.tl_report.proofs.Handled.{event_eight, event_four, event_sixteen, found_so}
+use Rattle.tl_report.proofs.Handled.{found_so}
+use Rattle.tl_report.proofs.Variants.{eight, event_eight, event_four, event_sixteen, four, sixteen, wide_eight, wide_four, wide_sixteen}
+use Rattle.tl_report.proofs.Variants.{wide_event_eight, wide_event_four, wide_event_sixteen, wide_event_sixty_four, wide_event_thirty_two}
+use Rattle.tl_report.proofs.Variants.{wide_sixty_four, wide_thirty_two}
 use Rattle.tl_report.specs.code.EventJudging.{event_ways}
 use Rattle.tl_report.specs.code.NarrowJudging.{narrow_ways}
+use Rattle.tl_report.specs.code.WideEventJudging.{wide_event_ways}
 use Rattle.tl_report.specs.code.WideJudging.{wide_ways}
 use Rattle.tl_report.specs.declared.search_lines.SearchLines.TheVariants as of
 use Rattle.tl_report.proofs.search_lines.SearchLines.into_findings.Goals as goal
@@ -38,3 +41,18 @@ returns-in-EventEight c = rw c.in-EventEight.is (found_so (event_ways 8) of.Even
 
 pub returns-in-EventSixteen : goal.returns-in-EventSixteen
 returns-in-EventSixteen c = rw c.in-EventSixteen.is (found_so (event_ways 16) of.EventSixteen event_sixteen c.in-EventSixteen.search c.args.status c.into_findings-in-EventSixteen.result c.into_findings-in-EventSixteen.ensures)
+
+pub returns-in-WideEventFour : goal.returns-in-WideEventFour
+returns-in-WideEventFour c = rw c.in-WideEventFour.is (found_so (wide_event_ways 4 4) of.WideEventFour wide_event_four c.in-WideEventFour.search c.args.status c.into_findings-in-WideEventFour.result c.into_findings-in-WideEventFour.ensures)
+
+pub returns-in-WideEventEight : goal.returns-in-WideEventEight
+returns-in-WideEventEight c = rw c.in-WideEventEight.is (found_so (wide_event_ways 8 8) of.WideEventEight wide_event_eight c.in-WideEventEight.search c.args.status c.into_findings-in-WideEventEight.result c.into_findings-in-WideEventEight.ensures)
+
+pub returns-in-WideEventSixteen : goal.returns-in-WideEventSixteen
+returns-in-WideEventSixteen c = rw c.in-WideEventSixteen.is (found_so (wide_event_ways 16 16) of.WideEventSixteen wide_event_sixteen c.in-WideEventSixteen.search c.args.status c.into_findings-in-WideEventSixteen.result c.into_findings-in-WideEventSixteen.ensures)
+
+pub returns-in-WideEventThirtyTwo : goal.returns-in-WideEventThirtyTwo
+returns-in-WideEventThirtyTwo c = rw c.in-WideEventThirtyTwo.is (found_so (wide_event_ways 32 16) of.WideEventThirtyTwo wide_event_thirty_two c.in-WideEventThirtyTwo.search c.args.status c.into_findings-in-WideEventThirtyTwo.result c.into_findings-in-WideEventThirtyTwo.ensures)
+
+pub returns-in-WideEventSixtyFour : goal.returns-in-WideEventSixtyFour
+returns-in-WideEventSixtyFour c = rw c.in-WideEventSixtyFour.is (found_so (wide_event_ways 64 16) of.WideEventSixtyFour wide_event_sixty_four c.in-WideEventSixtyFour.search c.args.status c.into_findings-in-WideEventSixtyFour.result c.into_findings-in-WideEventSixtyFour.ensures)

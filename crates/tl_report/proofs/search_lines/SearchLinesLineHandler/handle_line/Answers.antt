@@ -1,8 +1,10 @@
-use Rattle.tl_report.proofs.Handled.{eight, four, sixteen, wide_eight, wide_four, wide_sixteen, wide_sixty_four, wide_thirty_two}
-use Rattle.tl_report.proofs.Handled.{event_eight, event_four, event_sixteen}
 use Rattle.tl_report.proofs.Handled.{read_ends, read_judged, start_aim, start_ends, started}
+use Rattle.tl_report.proofs.Variants.{eight, event_eight, event_four, event_sixteen, four, sixteen, wide_eight, wide_four, wide_sixteen}
+use Rattle.tl_report.proofs.Variants.{wide_event_eight, wide_event_four, wide_event_sixteen, wide_event_sixty_four, wide_event_thirty_two}
+use Rattle.tl_report.proofs.Variants.{wide_sixty_four, wide_thirty_two}
 use Rattle.tl_report.specs.code.EventJudging.{event_ways}
 use Rattle.tl_report.specs.code.NarrowJudging.{narrow_ways}
+use Rattle.tl_report.specs.code.WideEventJudging.{wide_event_ways}
 use Rattle.tl_report.specs.code.WideJudging.{wide_ways}
 use Rattle.tl_report.specs.declared.search_lines.SearchLines.TheVariants as of
 use Rattle.tl_report.proofs.search_lines.SearchLinesLineHandler.handle_line.Goals as goal
@@ -139,3 +141,58 @@ returns-in-EventSixteen-clause-ends c = rw c.in-EventSixteen.is (read_ends (even
 
 pub returns-in-EventSixteen-clause-purpose : goal.returns-in-EventSixteen-clause-purpose
 returns-in-EventSixteen-clause-purpose c = rw c.in-EventSixteen.is c.read-in-EventSixteen.ensures.aim
+
+pub returns-in-WideEventFour-clause-judges : goal.returns-in-WideEventFour-clause-judges
+returns-in-WideEventFour-clause-judges c = rw c.in-WideEventFour.is (read_judged (wide_event_ways 4 4) of.WideEventFour wide_event_four c.in-WideEventFour.search c.read-in-WideEventFour.new.self
+    c.args.line.now c.args._out.now.items c.read-in-WideEventFour.result c.read-in-WideEventFour.ensures.reads)
+
+pub returns-in-WideEventFour-clause-ends : goal.returns-in-WideEventFour-clause-ends
+returns-in-WideEventFour-clause-ends c = rw c.in-WideEventFour.is (read_ends (wide_event_ways 4 4) of.WideEventFour wide_event_four c.in-WideEventFour.search c.read-in-WideEventFour.new.self
+    c.args.line.now c.read-in-WideEventFour.result c.read-in-WideEventFour.ensures.reads)
+
+pub returns-in-WideEventFour-clause-purpose : goal.returns-in-WideEventFour-clause-purpose
+returns-in-WideEventFour-clause-purpose c = rw c.in-WideEventFour.is c.read-in-WideEventFour.ensures.aim
+
+pub returns-in-WideEventEight-clause-judges : goal.returns-in-WideEventEight-clause-judges
+returns-in-WideEventEight-clause-judges c = rw c.in-WideEventEight.is (read_judged (wide_event_ways 8 8) of.WideEventEight wide_event_eight c.in-WideEventEight.search c.read-in-WideEventEight.new.self
+    c.args.line.now c.args._out.now.items c.read-in-WideEventEight.result c.read-in-WideEventEight.ensures.reads)
+
+pub returns-in-WideEventEight-clause-ends : goal.returns-in-WideEventEight-clause-ends
+returns-in-WideEventEight-clause-ends c = rw c.in-WideEventEight.is (read_ends (wide_event_ways 8 8) of.WideEventEight wide_event_eight c.in-WideEventEight.search c.read-in-WideEventEight.new.self
+    c.args.line.now c.read-in-WideEventEight.result c.read-in-WideEventEight.ensures.reads)
+
+pub returns-in-WideEventEight-clause-purpose : goal.returns-in-WideEventEight-clause-purpose
+returns-in-WideEventEight-clause-purpose c = rw c.in-WideEventEight.is c.read-in-WideEventEight.ensures.aim
+
+pub returns-in-WideEventSixteen-clause-judges : goal.returns-in-WideEventSixteen-clause-judges
+returns-in-WideEventSixteen-clause-judges c = rw c.in-WideEventSixteen.is (read_judged (wide_event_ways 16 16) of.WideEventSixteen wide_event_sixteen c.in-WideEventSixteen.search c.read-in-WideEventSixteen.new.self
+    c.args.line.now c.args._out.now.items c.read-in-WideEventSixteen.result c.read-in-WideEventSixteen.ensures.reads)
+
+pub returns-in-WideEventSixteen-clause-ends : goal.returns-in-WideEventSixteen-clause-ends
+returns-in-WideEventSixteen-clause-ends c = rw c.in-WideEventSixteen.is (read_ends (wide_event_ways 16 16) of.WideEventSixteen wide_event_sixteen c.in-WideEventSixteen.search c.read-in-WideEventSixteen.new.self
+    c.args.line.now c.read-in-WideEventSixteen.result c.read-in-WideEventSixteen.ensures.reads)
+
+pub returns-in-WideEventSixteen-clause-purpose : goal.returns-in-WideEventSixteen-clause-purpose
+returns-in-WideEventSixteen-clause-purpose c = rw c.in-WideEventSixteen.is c.read-in-WideEventSixteen.ensures.aim
+
+pub returns-in-WideEventThirtyTwo-clause-judges : goal.returns-in-WideEventThirtyTwo-clause-judges
+returns-in-WideEventThirtyTwo-clause-judges c = rw c.in-WideEventThirtyTwo.is (read_judged (wide_event_ways 32 16) of.WideEventThirtyTwo wide_event_thirty_two c.in-WideEventThirtyTwo.search c.read-in-WideEventThirtyTwo.new.self
+    c.args.line.now c.args._out.now.items c.read-in-WideEventThirtyTwo.result c.read-in-WideEventThirtyTwo.ensures.reads)
+
+pub returns-in-WideEventThirtyTwo-clause-ends : goal.returns-in-WideEventThirtyTwo-clause-ends
+returns-in-WideEventThirtyTwo-clause-ends c = rw c.in-WideEventThirtyTwo.is (read_ends (wide_event_ways 32 16) of.WideEventThirtyTwo wide_event_thirty_two c.in-WideEventThirtyTwo.search c.read-in-WideEventThirtyTwo.new.self
+    c.args.line.now c.read-in-WideEventThirtyTwo.result c.read-in-WideEventThirtyTwo.ensures.reads)
+
+pub returns-in-WideEventThirtyTwo-clause-purpose : goal.returns-in-WideEventThirtyTwo-clause-purpose
+returns-in-WideEventThirtyTwo-clause-purpose c = rw c.in-WideEventThirtyTwo.is c.read-in-WideEventThirtyTwo.ensures.aim
+
+pub returns-in-WideEventSixtyFour-clause-judges : goal.returns-in-WideEventSixtyFour-clause-judges
+returns-in-WideEventSixtyFour-clause-judges c = rw c.in-WideEventSixtyFour.is (read_judged (wide_event_ways 64 16) of.WideEventSixtyFour wide_event_sixty_four c.in-WideEventSixtyFour.search c.read-in-WideEventSixtyFour.new.self
+    c.args.line.now c.args._out.now.items c.read-in-WideEventSixtyFour.result c.read-in-WideEventSixtyFour.ensures.reads)
+
+pub returns-in-WideEventSixtyFour-clause-ends : goal.returns-in-WideEventSixtyFour-clause-ends
+returns-in-WideEventSixtyFour-clause-ends c = rw c.in-WideEventSixtyFour.is (read_ends (wide_event_ways 64 16) of.WideEventSixtyFour wide_event_sixty_four c.in-WideEventSixtyFour.search c.read-in-WideEventSixtyFour.new.self
+    c.args.line.now c.read-in-WideEventSixtyFour.result c.read-in-WideEventSixtyFour.ensures.reads)
+
+pub returns-in-WideEventSixtyFour-clause-purpose : goal.returns-in-WideEventSixtyFour-clause-purpose
+returns-in-WideEventSixtyFour-clause-purpose c = rw c.in-WideEventSixtyFour.is c.read-in-WideEventSixtyFour.ensures.aim

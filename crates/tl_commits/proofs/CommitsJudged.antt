@@ -39,7 +39,7 @@ begun-is (Some y) complete n link piece e is = sym is.0
 pub record SaysAll {w : ℕ} (x : Loading) (complete : List Bool) (n link : ℕ) (piece : Piece) (e : Events w) : Type 0 where
   piece_is : x.piece ≡ piece
   pub loadable_is : x.loadable ≡ at_some (is_piece_loadable link piece) link piece e
-  values_are : (i v : ℕ) → i < 2 ^ piece.size → v < 256
+  pub values_are : (i v : ℕ) → i < 2 ^ piece.size → v < 256
       → had x i v ≡ at_some (may_bring complete n link (piece.address + i) v) link piece e
 
 -- so does the load that has begun, or one that begins now, with what is possible now

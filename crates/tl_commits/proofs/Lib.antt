@@ -1,6 +1,7 @@
 pub mod Pieces
 pub mod AnyTold
 pub mod LoadedBytes
+pub mod CopiedBytes
 pub mod GivenBack
 pub mod GivenUp
 pub mod PieceValues

@@ -1,6 +1,6 @@
 //! The possible values of a block's bytes, by the beats and the commits.
 
-ghost use Rattle.std.specs.Prelude.{ℕ, ◌∷◌, ◌<◌, ◌≡◌, Bool, List, length, IfOk, OnErr, OnOk};
+ghost use Rattle.std.specs.Prelude.{ℕ, ◌∷◌, ◌+◌, ◌*◌, ◌<◌, ◌≡◌, Bool, List, length, IfOk, OnErr, OnOk};
 ghost use Rattle.tl_beat.specs.declared.beat.Beat.{Beat};
 ghost use Rattle.tl_beat.specs.declared.beat.Link.{Link};
 ghost use Rattle.tl_bytes.specs.code.Tellings.{with_write};
@@ -27,11 +27,11 @@ use tl_memory::message::{both, either};
 #[derive(Drop)]
 pub struct BlockValues {
     /// By all beats and commits.
-    pub(crate) seen: Vec<Told>,
+    pub seen: Vec<Told>,
     /// The places that were stored to since a message set them.
     pub(crate) stored: Places,
     /// Those that memory has, with all copies left out.
-    pub(crate) memory: Vec<Told>,
+    pub memory: Vec<Told>,
 }
 
 /// These values after a beat that makes this change, if it sets none, at this moment.
@@ -146,6 +146,16 @@ impl BlockValues {
         Ok(())
     }
 
+    /// Whether the byte at a place may have a value that memory may have, if it was stored.
+    pub fn is_kept(&self, place: u8) -> bool
+        ensures { (w : ℕ) (complete : List Bool) (n block : ℕ) (e : Events w) →
+            KnowsValues self.now complete n block e → place < 64 →
+            result ≡ Commits.is_kept complete n (64 * block + place) e }
+    {
+        let common = have_common(self.seen.as_slice(), self.memory.as_slice(), place);
+        either(!is_in(&self.stored, place), common)
+    }
+
     /// Whether each byte that was stored may have a value that memory may have.
     pub fn is_clean(&self) -> bool
         ensures { (w : ℕ) (complete : List Bool) (n block : ℕ) (e : Events w) →
@@ -153,8 +163,7 @@ impl BlockValues {
     {
         let mut all = true;
         for place in 0..BLOCK_BYTES {
-            let common = have_common(self.seen.as_slice(), self.memory.as_slice(), place);
-            all = both(either(!is_in(&self.stored, place), common), all);
+            all = both(self.is_kept(place), all);
         }
         all
     }

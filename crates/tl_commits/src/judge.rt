@@ -57,12 +57,12 @@ use tl_together::judge::Judge;
 #[derive(Drop)]
 pub struct CommitJudge<const W: usize> {
     alloc: Global,
-    judge: Judge<W>,
-    levels: Vec<Level>,
+    pub(crate) judge: Judge<W>,
+    pub(crate) levels: Vec<Level>,
     /// Whether all stores of each link are in the trace.
-    complete: Vec<bool>,
-    loads: Vec<Loading>,
-    values: ValueTable,
+    pub(crate) complete: Vec<bool>,
+    pub(crate) loads: Vec<Loading>,
+    pub(crate) values: ValueTable,
     /// For each link the bytes that its unfinished Grant may bring.
     grants: Vec<GrantBytes>,
     /// The bytes that pending accesses may have found.

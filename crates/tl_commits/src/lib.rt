@@ -1,10 +1,12 @@
 //! Stores and loads of the cores on a manager's links, in one trace with the beats: their lines, and the rules M5 to M7.
 #![tactic(auto)]
 
-mod block_values;
+mod asking;
+pub mod block_values;
 mod bringing;
 pub mod commits;
 mod common;
+mod copied;
 mod copies;
 pub mod fault;
 mod giving_back;

@@ -145,7 +145,7 @@ fn set_each(told: &mut Vec<Told>, places: &Places, write: &Write, moment: u64)
 }
 
 /// A list with the values of these places set. The error means that there is no memory left.
-fn replaced(
+pub(crate) fn replaced(
     alloc: Global,
     before: &[Told],
     places: &Places,

@@ -1,4 +1,4 @@
-use Rattle.std.proofs.Common.{◌+◌, ◌*◌, ◌∙◌, arith, ap, refl}
+use Rattle.std.proofs.Common.{◌+◌, ◌*◌, ◌∙◌, arith, ap}
 use Rattle.tl_rules.specs.statement.Legality.{each_below}
 use Rattle.tl_commits.specs.statement.Commits.{is_kept}
 use Rattle.tl_commits.proofs.Pieces.{below-more, below-none}
@@ -9,18 +9,8 @@ loop-place-init c = λ w complete n block e k. below-none (λ place. is_kept com
 
 pub loop-place-preserved : goal.loop-place-preserved
 loop-place-preserved c = λ w complete n block e k.
-    let p = c.loop-place.place in
-    let lt = c.loop-place-test.true in
-    below-more p (λ place. is_kept complete n (64 * block + place) e) c.either.result c.loop-place.all c.both-all.result
-    (c.either.ensures ∙ rw (
-      c.is_in.ensures,
-      c.have_common-common.ensures,
-      c.as_slice.ensures.value,
-      c.as_slice-in-loop-place.ensures.value,
-      k.stored_is p lt,
-      k.seen_is p lt,
-      k.memory_is p lt,
-    ) refl)
+    below-more c.loop-place.place (λ place. is_kept complete n (64 * block + place) e) c.is_kept.result c.loop-place.all
+    c.both-all.result (c.is_kept.ensures w complete n block e k c.loop-place-test.true)
     (c.loop-place.invariant w complete n block e k) c.both-all.ensures
 
 pub returns : goal.returns

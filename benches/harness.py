@@ -275,7 +275,8 @@ def shared_checked():
 
 
 # The example on wide links: its caches share a port, beats have 32 bytes, and the map begins behind 32 bits of address.
-WIDE = ["-DSHARED", "-DWIDTH=32", "-DADDRESS_BITS=64", "-DBASE=64'h1_8000_0000"]
+FAR = ["-DSHARED", "-DADDRESS_BITS=64", "-DBASE=64'h1_8000_0000"]
+WIDE = ["-DWIDTH=32", *FAR]
 
 
 def wide(*flags):
@@ -291,6 +292,22 @@ def wide_in_icarus():
 def wide_checked():
     """The same with a checker on each link, one of all links on the caches' side, and one of the ports on the manager's."""
     return with_library("wide_checked", [], ["sv/tl_checker_dpi.cpp"], *WIDE, "-DCHECKED", "-DTOGETHER", "-DCOUNT=0")
+
+
+def wide_commits(width=32):
+    """The example on wide links of so many bytes, whose trace has what the caches' processors store and load."""
+    return verilator(f"wide_commits{width}", "bench_recorded", SV + COMMIT_RECORDER + EXAMPLE, "-DCOMMITS", f"-DWIDTH={width}", *FAR)
+
+
+def wide_commits_in_icarus():
+    """The same in Icarus, as a command."""
+    return ["vvp", "-n", icarus("wide_commits.vvp", "bench_recorded", SV + COMMIT_RECORDER + EXAMPLE, "-DCOMMITS", *WIDE)]
+
+
+def wide_commits_checked():
+    """The same with one checker of all links, which judges what they store and load too."""
+    return with_library("wide_commits_checked", COMMIT_RECORDER + COMMIT_CHECKER, ["sv/tl_checker_dpi.cpp"], "-DCOMMITS", "-DTOGETHER",
+                        "-DCOUNT=0", *WIDE)
 
 
 def liberal():

@@ -96,10 +96,10 @@ enum tl_commit_kind { TL_COMMIT_STORE = 0, TL_COMMIT_LOAD = 1, TL_COMMIT_BEGIN =
 
 /* A commit of the core of a link: a store to its cache's copy, a load from it, or the beginning of a load. It reaches the
    2^size bytes, size 0 to 3, from an address on that is a multiple of their number. The value has these bytes, the lowest
-   address in the lowest byte; that of a beginning is 0. */
+   address in the lowest byte; that of a beginning is 0. A link that isn't wide has addresses of 32 bits. */
 typedef struct tl_commit {
   uint64_t value;
-  uint32_t address;
+  uint64_t address;
   uint8_t kind; /* enum tl_commit_kind */
   uint8_t size;
 } tl_commit;
@@ -188,17 +188,26 @@ tl_answer tl_judge_new_commits(tl_judge *judge, const uint8_t *levels, size_t li
 /* Judges a commit of a link, 0 to 15, after the earlier beats and commits of all links: L1 where the link has no cache,
    M5 where the cache hasn't the copy that was stored to or loaded from, M6 where a load brought a byte that the copy can't
    have. Of one clock edge those commits come first that see the copy as it is before the edge, then the beats, then those
-   that use a beat of the edge. A field out of its range, or a judge of beats alone, is TL_BAD_ARGUMENT. */
+   that use a beat of the edge. A field out of its range, or a judge of beats alone, is TL_BAD_ARGUMENT. A judge of wide beats
+   and commits also answers TL_TOO_MANY and TL_NO_MEMORY as it does to a wide beat. */
 tl_answer tl_judge_commit(tl_judge *judge, uint8_t link, const tl_commit *commit);
 
-/* The same, but the judge goes on where a commit breaks a rule, as tl_judge_try_push does. */
+/* The same, but the judge goes on where a commit breaks a rule, as tl_judge_try_push does. One of wide beats and commits
+   can't: TL_BAD_ARGUMENT. */
 tl_answer tl_judge_try_commit(tl_judge *judge, uint8_t link, const tl_commit *commit);
 
 /* Makes a judge of wide beats, of 4, 8, 16, 32 or 64 bytes, of links that have these liberties. */
 tl_answer tl_judge_new_wide(tl_judge *judge, const uint8_t *levels, size_t links, uint8_t width,
                             uint8_t liberties);
 
-/* Judges a wide beat of a link, after the earlier beats of all links, as tl_monitor_push_wide does. */
+/* Makes a judge of wide beats and commits of links that have these liberties; `complete` is that of tl_judge_new_commits.
+   Beats are pushed by tl_judge_push_wide, and commits by tl_judge_commit. */
+tl_answer tl_judge_new_wide_commits(tl_judge *judge, const uint8_t *levels, size_t links, const uint8_t *complete,
+                                    size_t complete_count, uint8_t width, uint8_t liberties);
+
+/* Judges a wide beat of a link, after the earlier beats and commits of all links, as tl_monitor_push_wide does. The names of a
+   commit count as those of a beat: one that names more than 2^26 blocks is TL_TOO_MANY. After TL_NO_MEMORY the same beat or
+   commit may be pushed again; another one may be TL_BAD_ARGUMENT, if the first has begun. */
 tl_answer tl_judge_push_wide(tl_judge *judge, uint8_t link, const tl_wide_beat *beat);
 
 /* Frees what the handle holds. It holds nothing then. */

@@ -216,6 +216,24 @@ using WideMonitor = Wide<tl_monitor, tl_monitor_free, tl_monitor_new_wide, tl_mo
 /// A judge of wide beats of all links of one manager.
 using WideJudge = Wide<tl_judge, tl_judge_free, tl_judge_new_wide, tl_judge_push_wide>;
 
+/// A judge of wide beats and commits of all links of one manager.
+class WideCommitJudge : public Handle<tl_judge, tl_judge_free> {
+public:
+  /// Of links of these levels that have these liberties; `complete` has 1 for each of which all stores will be judged.
+  explicit WideCommitJudge(const std::vector<std::uint8_t> &levels, const std::vector<std::uint8_t> &complete,
+                           std::uint8_t width, std::uint8_t liberties = 0) {
+    tl_answer answer = tl_judge_new_wide_commits(&handle, levels.data(), levels.size(), complete.data(), complete.size(),
+                                                 width, liberties);
+    require_made(answer, "hefrudyl: levels, complete or width");
+  }
+
+  /// Judges a wide beat of a link, after the earlier beats and commits of all links (hefrudyl.h).
+  tl_answer push(std::uint8_t link, const tl_wide_beat &beat) { return tl_judge_push_wide(&handle, link, &beat); }
+
+  /// Judges a commit of a link, after the earlier beats and commits of all links.
+  tl_answer commit(std::uint8_t link, const tl_commit &commit) { return tl_judge_commit(&handle, link, &commit); }
+};
+
 /// A client of a link, with the beats that it has still to send.
 class Client : public Handle<tl_client, tl_client_free> {
 public:

@@ -87,7 +87,7 @@ class CommitKind(enum.IntEnum):
 @dataclasses.dataclass(frozen=True)
 class Commit:
     """A store of a link's core to its cache's copy, a load from it, or the beginning of a load: of the `2**size` bytes from
-    an address on, which `value` has, the lowest address in the lowest byte."""
+    an address on, which `value` has, the lowest address in the lowest byte. A link that isn't wide has addresses of 32 bits."""
 
     kind: CommitKind
     size: int
@@ -213,7 +213,7 @@ class _WideBeat(ctypes.Structure):
 
 
 class _Commit(ctypes.Structure):
-    _fields_ = [("value", ctypes.c_uint64), ("address", ctypes.c_uint32), ("kind", ctypes.c_uint8), ("size", ctypes.c_uint8)]
+    _fields_ = [("value", ctypes.c_uint64), ("address", ctypes.c_uint64), ("kind", ctypes.c_uint8), ("size", ctypes.c_uint8)]
 
 
 class _Answer(ctypes.Structure):
@@ -309,8 +309,9 @@ def _load():
         under = getattr(library, f"tl_{name}_new_under")
         under.restype, under.argtypes = _Answer, getattr(library, f"tl_{name}_new").argtypes
     judge = ctypes.POINTER(_Judge)
-    library.tl_judge_new_commits.restype = _Answer
-    library.tl_judge_new_commits.argtypes = [judge, *[ctypes.c_char_p, ctypes.c_size_t] * 2, ctypes.c_uint8, ctypes.c_uint8]
+    for name in ("new_commits", "new_wide_commits"):
+        call = getattr(library, "tl_judge_" + name)
+        call.restype, call.argtypes = _Answer, [judge, *[ctypes.c_char_p, ctypes.c_size_t] * 2, ctypes.c_uint8, ctypes.c_uint8]
     for name in ("commit", "try_commit"):
         call = getattr(library, "tl_judge_" + name)
         call.restype, call.argtypes = _Answer, [judge, ctypes.c_uint8, ctypes.POINTER(_Commit)]
@@ -419,6 +420,13 @@ class _Agent:
     def __init__(self, handle, free, width):
         self._handle, self._free, self._width = handle, free, width
 
+    def _make(self, call, lists, kind, number):
+        """Makes it of lists of a number for each link, and of a number of this kind."""
+        codes = [bytes(_field(number, "a link's number", 256) for number in numbers) for numbers in lists]
+        counted = [it for them in codes for it in (them, len(them))]
+        _taken(call(self._handle, *counted, _field(self._width, "width", 256), _field(number, kind, 256)),
+               f"levels, width or {kind}")
+
     def _shown(self, call, *place):
         """The beat that a call shows, or None. Its data are zeros where it carries none."""
         shown = _Beat()
@@ -462,10 +470,7 @@ class _Judging(_Agent):
         super().__init__(handle, getattr(_library, f"tl_{name}_free"), width)
         self._push, self._try_push, self._push_line = (
             getattr(_library, f"tl_{name}_{it}") for it in ("push", "try_push", "push_line"))
-        codes = [bytes(_field(number, "a link's number", 256) for number in numbers) for numbers in lists]
-        counted = [it for them in codes for it in (them, len(them))]
-        _taken(getattr(_library, f"tl_{name}_{new}")(self._handle, *counted, _field(width, "width", 256),
-                                                      _field(number, kind, 256)), f"levels, width or {kind}")
+        self._make(getattr(_library, f"tl_{name}_{new}"), lists, kind, number)
 
     def push(self, link, beat):
         """Judges a beat of a link."""
@@ -492,18 +497,22 @@ class Judge(_Judging):
         super().__init__("judge", _Judge(), [levels], width, *_allowed(profile, liberties))
 
 
-class CommitJudge(_Judging):
+class _Committing:
+    """What judges commits."""
+
+    def commit(self, link, commit):
+        """Judges a commit of a link. Where there is no memory, the same commit may be pushed again."""
+        answer = _library.tl_judge_commit(self._handle, _field(link, "link", 256), _commit(commit))
+        return Verdict(Code(answer.code), rule_name(answer.rule))
+
+
+class CommitJudge(_Committing, _Judging):
     """A judge of beats and commits of all links of one manager, of beats of `width` bytes, under these liberties: each after
     the earlier ones of all links. `complete` says of each link whether all its stores will be judged. Of one clock edge those
     commits come first that see the copy as it is before the edge, then the beats, then those that use a beat of the edge."""
 
     def __init__(self, levels, complete, width=8, liberties=0):
         super().__init__("judge", _Judge(), [levels, complete], width, "new_commits", "liberties", int(liberties))
-
-    def commit(self, link, commit):
-        """Judges a commit of a link."""
-        answer = _library.tl_judge_commit(self._handle, _field(link, "link", 256), _commit(commit))
-        return Verdict(Code(answer.code), rule_name(answer.rule))
 
     def try_commit(self, link, commit):
         """The same, but a commit that breaks a rule isn't taken, and the next is judged as if it weren't there."""
@@ -526,16 +535,13 @@ class Monitor(_Judging):
 
 
 class _WideJudging(_Agent):
-    """What judges wide beats, of `width` bytes, of 1 to 16 links of these levels that have these liberties, by the library's
-    calls of a name."""
+    """What judges wide beats, of `width` bytes, of 1 to 16 links that have these liberties, by the library's calls of a name. It
+    is made of levels, and of other lists of a number for each link."""
 
-    def __init__(self, name, handle, levels, width, liberties):
+    def __init__(self, name, handle, lists, width, new, liberties):
         super().__init__(handle, getattr(_library, f"tl_{name}_free"), width)
         self._push = getattr(_library, f"tl_{name}_push_wide")
-        codes = bytes(_field(level, "a level", 256) for level in levels)
-        new = getattr(_library, f"tl_{name}_new_wide")
-        _taken(new(self._handle, codes, len(codes), _field(width, "width", 256), _field(int(liberties), "liberties", 256)),
-               "levels, width or liberties")
+        self._make(getattr(_library, f"tl_{name}_{new}"), lists, "liberties", int(liberties))
 
     def push(self, link, beat):
         """Judges a wide beat of a link. Where there is no memory, the same beat may be pushed again."""
@@ -547,14 +553,22 @@ class WideJudge(_WideJudging):
     """A judge of all links of one manager, of wide beats of 4, 8, 16, 32 or 64 bytes, under these liberties."""
 
     def __init__(self, levels, width, liberties=0):
-        super().__init__("judge", _Judge(), levels, width, liberties)
+        super().__init__("judge", _Judge(), [levels], width, "new_wide", liberties)
+
+
+class WideCommitJudge(_Committing, _WideJudging):
+    """A judge of wide beats and commits of all links of one manager, of beats of 4, 8, 16, 32 or 64 bytes, under these liberties.
+    `complete` and the order at one clock edge are those of CommitJudge."""
+
+    def __init__(self, levels, complete, width, liberties=0):
+        super().__init__("judge", _Judge(), [levels, complete], width, "new_wide_commits", liberties)
 
 
 class WideMonitor(_WideJudging):
     """A monitor of 1 to 16 links of these levels, of wide beats of 4, 8, 16, 32 or 64 bytes, under these liberties."""
 
     def __init__(self, levels, width, liberties=0):
-        super().__init__("monitor", _Monitor(), levels, width, liberties)
+        super().__init__("monitor", _Monitor(), [levels], width, "new_wide", liberties)
 
 
 @dataclasses.dataclass(frozen=True)

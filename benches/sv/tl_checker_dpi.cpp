@@ -48,6 +48,11 @@ template <typename Judging> struct WideCheckerBy : Checker {
   tl_answer push_wide(std::uint8_t link, const tl_wide_beat &beat) override { return judging.push(link, beat); }
 };
 
+struct WideCommitChecker : WideCheckerBy<hefrudyl::WideCommitJudge> {
+  using WideCheckerBy::WideCheckerBy;
+  tl_answer commit(std::uint8_t link, const tl_commit &commit) override { return judging.commit(link, commit); }
+};
+
 // How many situations came, those that came, and those that didn't, in the words of `tltool cover`.
 std::string situations_of(hefrudyl::Cover &cover) {
   int seen = 0;
@@ -128,12 +133,20 @@ extern "C" void *tl_checker_open(int links, int levels, int width, int profile, 
   });
 }
 
+// A judge of beats and commits of these links, or of wide beats and commits.
+template <typename Made, typename Judging>
+static std::unique_ptr<Checker> commit_checker_of(const std::vector<std::uint8_t> &levels, const std::vector<std::uint8_t> &complete,
+                                                  std::uint8_t width, std::uint8_t liberties) {
+  return std::make_unique<Made>(Judging(levels, complete, width, liberties));
+}
+
 // The same of beats and commits; `complete` has a bit for each link of which all stores are judged.
-extern "C" void *tl_checker_open_commits(int links, int levels, int complete, int width, int profile, int liberties) {
+extern "C" void *tl_checker_open_commits(int links, int levels, int complete, int width, int profile, int liberties, int wide) {
   return handle_of([=] {
-    return std::make_unique<CommitChecker>(hefrudyl::CommitJudge(numbers_of(links, 2, levels), numbers_of(links, 1, complete),
-                                                                 static_cast<std::uint8_t>(width),
-                                                                 all_liberties(profile, liberties)));
+    const auto make = wide ? commit_checker_of<WideCommitChecker, hefrudyl::WideCommitJudge>
+                           : commit_checker_of<CommitChecker, hefrudyl::CommitJudge>;
+    return make(numbers_of(links, 2, levels), numbers_of(links, 1, complete), static_cast<std::uint8_t>(width),
+                all_liberties(profile, liberties));
   });
 }
 
@@ -153,9 +166,9 @@ extern "C" int tl_checker_push_wide(void *checker, int link, long long fields, i
 }
 
 // The same of a commit, by the letter of its line.
-extern "C" int tl_checker_commit(void *checker, int link, int letter, int size, int address, long long value) {
+extern "C" int tl_checker_commit(void *checker, int link, int letter, int size, long long address, long long value) {
   const auto kind = letter == 'S' ? TL_COMMIT_STORE : letter == 'L' ? TL_COMMIT_LOAD : TL_COMMIT_BEGIN;
-  const tl_commit commit = {static_cast<std::uint64_t>(value), static_cast<std::uint32_t>(address),
+  const tl_commit commit = {static_cast<std::uint64_t>(value), static_cast<std::uint64_t>(address),
                             static_cast<std::uint8_t>(kind), static_cast<std::uint8_t>(size)};
   return tl_dpi::number_of(static_cast<Checker *>(checker)->commit(static_cast<std::uint8_t>(link), commit));
 }

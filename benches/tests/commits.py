@@ -42,6 +42,23 @@ def the_commits_of_an_edge_are_before_its_beats_or_behind_them():
 
 
 @test
+def commits_of_wide_links_have_sixteen_digits_of_address():
+    script = ["A 0 7 1 6 0 180000040 edge 1", "D 0 4 0 6 0 0 M 0 S 1 0 180000041 5a M 1 I 1 2 180000040 0 edge 1", "E 0 0 edge 1",
+              "M 0 L 0 2 180000040 5aff M 1 S 0 3 180000078 1122334455667788 edge 1", "M 0 S 0 1 80000040 1 edge 1"]
+    for name, command, aborted in simulations("far", *flags(".COMPLETE(16'b1)", "-DADDRESS_BITS=64")):
+        played(command, script)
+        want(beat_lines("committed") == [
+            "tltrace 5 8 none C+", "00 A 7 1 6 0000 0000000180000040 ff - 0", "00 D 4 0 6 0000 0000 0 - 0", "00 S 0 0000000180000041 5a",
+            "00 I 2 0000000180000040", "00 E 0000", "00 L 2 0000000180000040 00005aff", "00 S 3 0000000180000078 1122334455667788",
+            "00 S 1 0000000080000040 0001",
+        ], f"{name}: {beat_lines('committed')}")
+        # of the block that was granted any byte may be loaded that isn't stored; another block has the lower half of its address
+        want(judged(path("committed"), "coherent") == "line 9 M5", f"{name}: {judged(path('committed'), 'coherent')}")
+        told = played(command, ["M 1 S 0 3 180000044 0 edge 1"], status=aborted)
+        want("m_address is 0000000180000044 in cycle 2: no multiple of 8 bytes\n" in told, f"{name}: {told}")
+
+
+@test
 def a_header_says_of_which_links_all_stores_are_recorded():
     for header, words in (
             ("none C+", ONE), ("writer C+", flags(".COMPLETE(16'b1),.PROFILE(2)")), ("early,drops C+", flags(".COMPLETE(16'b1),.LIBERTIES(24)")),
@@ -97,9 +114,8 @@ def commits_behind_a_second_reset_are_refused():
 
 
 REFUSED = [
-    ("W(32)", "tl_commits_are_not_of_wide_links"), ("ADDRESS_BITS(33)", "tl_commits_are_not_of_wide_links"),
-    ("SOURCE_BITS(9)", "tl_commits_are_not_of_wide_links"), ("COMMITS(0)", "tl_COMMITS_is_1_to_16"), ("COMMITS(17)", "tl_COMMITS_is_1_to_16"),
-    ("SINK_BITS(17)", "tl_SINK_BITS_is_1_to_16"),
+    ("COMMITS(0)", "tl_COMMITS_is_1_to_16"), ("COMMITS(17)", "tl_COMMITS_is_1_to_16"), ("SINK_BITS(17)", "tl_SINK_BITS_is_1_to_16"),
+    ("ADDRESS_BITS(65)", "tl_ADDRESS_BITS_is_1_to_64"), ("W(32)", None), ("ADDRESS_BITS(33)", None), ("SOURCE_BITS(9)", None),
 ]
 REFUSED_COMPLETE = ["COMPLETE(16'b0)", "COMPLETE(16'b10)", "COMPLETE(16'b1), .LEVELS(1)", "N(2), .COMPLETE(16'b101)"]
 RECORDED, CHECKED = WATCH + COMMIT_RECORDER, WATCH + COMMIT_WATCH + COMMIT_CHECKER
@@ -118,10 +134,11 @@ def commits_that_no_trace_can_have_are_refused_at_elaboration():
     cases = [(f".COMPLETE(16'b1), .{parameter}", name) for parameter, name in REFUSED]
     cases += [(f".{parameter}", "tl_COMPLETE_is_of_links_of_level_C") for parameter in REFUSED_COMPLETE] + [(".COMPLETE(16'b1)", None)]
     too_many = [(".COMPLETE(16'b1), .FIRST(16)", "tl_links_are_0_to_15")]
+    counted = [(".COMPLETE(16'b1), .W(64), .COUNT(1)", "tl_COUNT_is_0_on_wide_links"), (".COMPLETE(16'b1), .COUNT(1)", None)]
     verilator_lint = ["verilator", "--lint-only", "--timing", "-Wno-PINMISSING", "-Wno-WIDTH", INCLUDES, "--top-module", "refused"]
     # Icarus knows no DPI, by which the checker is called
     for command, module, sources, wanted in (
-            (verilator_lint, "tl_commit_recorder", RECORDED, cases + too_many), (verilator_lint, "tl_commit_checker", CHECKED, cases),
+            (verilator_lint, "tl_commit_recorder", RECORDED, cases + too_many), (verilator_lint, "tl_commit_checker", CHECKED, cases + counted),
             (["iverilog", "-g2012", INCLUDES, "-s", "refused", "-t", "null"], "tl_commit_recorder", RECORDED, cases + too_many)):
         for parameters, name in wanted:
             told = elaborated(command, module, sources, parameters)

@@ -58,6 +58,18 @@ def stores_and_loads_from_c_under_the_sanitizers():
 
 
 @test
+def stores_and_loads_on_wide_links_from_c():
+    c_test("test_wide_commits")
+    want("0 failures" in run([compiled("test_wide_commits_refused", "gcc", "tests/test_wide_commits.c", "-std=c11", *REFUSALS)]),
+         "test_wide_commits.c")
+
+
+@test
+def stores_and_loads_on_wide_links_from_c_under_the_sanitizers():
+    c_test("test_wide_commits", *SANITIZERS)
+
+
+@test
 def a_cover_from_c():
     c_test("test_cover")
 

@@ -1,6 +1,9 @@
 """The example on wide links: beats of 32 bytes behind addresses of more than 32 bits, its caches behind a port that they share."""
 
-from harness import BUGS, HOME_BUGS, beat_lines, judged, path, run, test, want, wide, wide_checked, wide_in_icarus
+from harness import (
+    BUGS, COPY_BUGS, HOME_BUGS, TLTOOL, beat_lines, judged, path, recorded_commits, run, test, want, wide, wide_checked, wide_commits,
+    wide_commits_checked, wide_commits_in_icarus, wide_in_icarus,
+)
 
 RUN = ["+seed=1", "+cycles=20000"]
 SIDES = ("wide_sides", "wide_port")  # the traces of the caches' side of the crossbar, and of the manager's
@@ -67,6 +70,65 @@ def a_lost_release_ack_is_found_on_wide_links():
     want("after 301 cycles there is a Release without ReleaseAck" in told and "tl_manager_recorder: " in told, told)
     want(" source=" in told and " address=00000001800" in told, told)
     want("hang: " in run([wide(), *RUN, LOST_RELEASE_ACK]), "the bench doesn't hang")
+
+
+# ---- what the caches' processors store and load
+
+ALL_BUGS = {**BUGS, **COPY_BUGS}
+
+
+def in_words(line):
+    """A line of a wide trace as a checker tells it: a commit as it is, a beat in words."""
+    return line if line[3] in "SLI" else run([TLTOOL, "decode", "--wide", "--width", "32"], input=line + "\n").strip()
+
+
+def recorded(command, *words):
+    """What a run tells, and what `coherent` says of its trace. The GrantAck of the third bug stops it, on the port."""
+    told = run([*command, *words, f"+trace={path('committed')}"], status=-6 if "+bug=3" in words else 0, timeout=7200)
+    return told, judged(path("committed"), "coherent")
+
+
+@test
+def commits_of_wide_links_are_coherent_in_both_simulators():
+    for seed in (1, 2, 3):
+        told, verdict = recorded([wide_commits()], f"+seed={seed}", "+cycles=4000")
+        fast = beat_lines("committed")
+        want("agree" in told and verdict == f"coherent {len(fast) - 1}", f"seed {seed}: {verdict}, {told}")
+        want(fast[0] == "tltrace 5 32 none C+ C+ UL" and any(" S 3 00000001800" in line for line in fast), f"seed {seed}: {fast[0]}")
+        recorded(wide_commits_in_icarus(), f"+seed={seed}", "+cycles=4000")
+        want(beat_lines("committed") == fast, f"seed {seed}: Icarus's trace differs")
+
+
+@test
+def a_wide_trace_with_commits_has_the_verdict_of_the_narrow_one():
+    """The same run with addresses of 32 bits and of 64."""
+    for words in ([], *([f"+bug={bug}"] for bug in ALL_BUGS), *([f"+home_bug={bug}"] for bug in HOME_BUGS)):
+        told, narrow = recorded([recorded_commits("-DSHARED")], *RUN, *words)
+        lines = beat_lines("committed")
+        also, verdict = recorded([wide_commits(8)], *RUN, *words)
+        want(verdict == narrow and ("agree" in told) == ("agree" in also), f"{words}: {verdict}, and the narrow trace {narrow}")
+        want(len(beat_lines("committed")) == len(lines) and beat_lines("committed") != lines, f"{words}: the traces")
+
+
+@test
+def the_checker_of_commits_of_wide_links_stops_at_the_line_that_coherent_names():
+    for bug, (rule, *_) in ALL_BUGS.items():
+        _, verdict = recorded([wide_commits()], *RUN, f"+bug={bug}")
+        told = run([wide_commits_checked(), *RUN, f"+bug={bug}", f"+trace={path('stopped')}"], status=-6 if verdict.startswith("line ") else 0)
+        want(verdict.endswith(f" {rule}") if rule else verdict.startswith("coherent "), f"bug {bug}: {verdict}")
+        if rule:
+            number = int(verdict.split()[1])
+            line = beat_lines("committed")[number - 1]
+            want(f"tl_commit_checker: link {int(line[:2], 16)} breaks {rule}: {number}: {in_words(line)}\n" in told, f"bug {bug}: {verdict}, {told}")
+            want(judged(path("stopped"), "coherent") == verdict, f"bug {bug}: {judged(path('stopped'), 'coherent')}")
+
+
+@test
+def commits_of_wide_links_raise_no_false_alarm():
+    for seed in range(31, 36):
+        told, verdict = recorded([wide_commits_checked()], f"+seed={seed}", "+cycles=60000")
+        want("agree" in told and "faults: 0" in told, f"seed {seed}: {told}")
+        want(verdict == f"coherent {len(beat_lines('committed')) - 1}", f"seed {seed}: {verdict}")
 
 
 @test

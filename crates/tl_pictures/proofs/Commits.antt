@@ -3,12 +3,13 @@ use Rattle.std.proofs.Common.{◌≡◌, ◌<◌, ◌*◌, ◌^◌, ℕ, true, a
 use Rattle.std.specs.Prelude.{nat_le}
 use Rattle.std.proofs.lemmas.Bool.{and_parts, leb-true, ltb-true}
 use Rattle.tl_rules.specs.statement.Legality.{is_aligned}
-use Rattle.tl_events.specs.statement.CommitLine.{IsPiece, is_piece, value_digits}
+use Rattle.tl_events.specs.statement.CommitLine.{is_piece, value_digits}
 use Rattle.tl_pictures.specs.statement.CommitPicture.{fits_bytes}
+use Rattle.tl_wide_events.specs.statement.WideCommitLine.{IsWidePiece}
 
 -- a piece with these numbers is one of a commit
-pub piece-valid : (size address : ℕ) → is_piece size address ≡ true → address < 2 ^ 32
-    → IsPiece (record { size = size; address = address })
+pub piece-valid : (size address : ℕ) → is_piece size address ≡ true → address < 2 ^ 64
+    → IsWidePiece (record { size = size; address = address })
 piece-valid size address e below =
     let both = and_parts (nat_le size 3) (is_aligned address size) e in
     record { small = leb-true size 3 both.0; in_range = below; aligned = both.1 }

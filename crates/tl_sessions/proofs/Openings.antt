@@ -48,6 +48,7 @@ opened-alone links blocks trackers width profile (Some (session.Client p)) answe
 opened-alone links blocks trackers width profile (Some (session.Covering c)) answer may told = absurd told.2
 opened-alone links blocks trackers width profile (Some (session.WideMonitor s)) answer may told = absurd told.2
 opened-alone links blocks trackers width profile (Some (session.WideJudge s)) answer may told = absurd told.2
+opened-alone links blocks trackers width profile (Some (session.WideEvents s)) answer may told = absurd told.2
 opened-alone links blocks trackers width profile (Some (session.Events j)) answer may told = absurd told.2
 
 -- ---- under liberties

@@ -13,5 +13,6 @@ pub mod monitor;
 pub mod opening;
 pub mod part_judge;
 pub mod session;
+pub mod shown;
 pub mod wide;
 pub mod wide_session;

@@ -9,7 +9,7 @@ ghost use Rattle.tl_sessions.specs.statement.ClientOpened.{may_open_client, Make
 ghost use Rattle.tl_sessions.specs.statement.ManagerOpened.{may_open_manager, profile_code, MakesManager};
 ghost use Rattle.tl_sessions.specs.statement.TogetherOpened.{MakesJudge};
 ghost use Rattle.tl_sessions.specs.statement.EventsOpened.{may_open_events, MakesEvents};
-ghost use Rattle.tl_sessions.specs.statement.WideOpened.{may_open_wide};
+ghost use Rattle.tl_sessions.specs.statement.WideOpened.{may_open_wide, may_open_wide_events};
 
 use crate::event_judge::EventJudge;
 use std::alloc::{AllocError, Global};
@@ -175,6 +175,13 @@ pub fn may_open_wide(codes: &[u8], width: u8) -> bool
     ensures { result ≡ may_open_wide codes.now width }
 {
     1 <= codes.len() && codes.len() <= MOST_CLIENTS && are_levels(codes) && is_wide_width(width)
+}
+
+/// Whether the arguments fit: those of `may_open_wide`, and a flag of 0 or 1 for each level.
+pub fn may_open_wide_events(codes: &[u8], complete: &[u8], width: u8) -> bool
+    ensures { result ≡ may_open_wide_events codes.now complete.now width }
+{
+    may_open_wide(codes, width) && complete.len() == codes.len() && are_flags(complete)
 }
 
 /// The answer to a client or a manager that can't be made for this reason.

@@ -32,7 +32,7 @@ use tl_pictures::outcome::{Outcome, Reception};
 use tl_pictures::picture::Picture;
 
 /// The contents of a handle: a monitor, a judge of all links, a covering, a client or manager with its beats to send,
-/// a monitor or judge of wide beats, or a judge of beats and commits.
+/// a monitor or judge of wide beats, or a judge of beats, or of wide beats, and commits.
 #[derive(Drop)]
 pub enum Session {
     Monitor(AnyMonitor),
@@ -42,6 +42,7 @@ pub enum Session {
     Manager(AnyManager),
     WideMonitor(AnyWide),
     WideJudge(AnyWide),
+    WideEvents(AnyWide),
     Events(AnyEventJudge),
 }
 

@@ -76,7 +76,7 @@ impl WideCommit {
     }
 
     /// The same commit at this address, whose place in its block is the same.
-    pub(crate) fn at(self, address: u32) -> Commit
+    pub fn at(self, address: u32) -> Commit
         ensures same { result ≡ commit_at self address }
         ensures valid { IsWideCommit self → address % 64 ≡ address_of self % 64 → IsCommit result }
     {

@@ -1,5 +1,5 @@
 -- The calls of C on a monitor, a judge, a cover, a client and a manager by its handle.
-use Rattle.std.specs.Prelude.{ℕ, List, ◌≡◌, Option, Some, None, true, false}
+use Rattle.std.specs.Prelude.{ℕ, List, ◌≡◌, Option, Some, None, false}
 use Rattle.tl_pictures.specs.declared.answer.Answer.{Answer}
 use Rattle.tl_pictures.specs.declared.commit.CommitPicture.{CommitPicture}
 use Rattle.tl_pictures.specs.declared.config.LinkConfig.{LinkConfig}
@@ -16,7 +16,8 @@ use Rattle.tl_sessions.specs.statement.Covering.{BinSession, CountsSession, Open
 use Rattle.tl_sessions.specs.statement.EventsOpened.{OpensEvents}
 use Rattle.tl_sessions.specs.statement.Opened.{OpensTo, OpensUnder}
 use Rattle.tl_sessions.specs.statement.Sessions
-use Rattle.tl_sessions.specs.statement.WideOpened.{JudgesWide, MonitorsWide, OpensWide}
+use Rattle.tl_sessions.specs.statement.WideOpened.{CommitsWide, JudgesWide, MonitorsWide}
+use Rattle.tl_sessions.specs.statement.WideOpened.{WideEventsOpen, WideJudgeOpens, WideMonitorOpens}
 
 -- a full handle stays, and the call is bad input; P is true of the session of an empty handle afterwards, and of the
 -- answer
@@ -52,12 +53,17 @@ JudgeOpenCommitsTold old new levels complete width liberties answer =
 -- C opens a monitor of wide beats of links with liberties
 abbrev pub WideMonitorOpenTold : Option Session → Option Session → List ℕ → ℕ → ℕ → Answer → Type 0
 WideMonitorOpenTold old new levels width liberties answer =
-    OpensHandle (OpensWide false levels width liberties) old new answer
+    OpensHandle (WideMonitorOpens levels width liberties) old new answer
 
 -- C opens a judge of wide beats of all links with liberties
 abbrev pub WideJudgeOpenTold : Option Session → Option Session → List ℕ → ℕ → ℕ → Answer → Type 0
 WideJudgeOpenTold old new levels width liberties answer =
-    OpensHandle (OpensWide true levels width liberties) old new answer
+    OpensHandle (WideJudgeOpens levels width liberties) old new answer
+
+-- C opens a judge of wide beats and commits of all links with liberties, and says which links have all their stores judged
+abbrev pub WideEventsOpenTold : Option Session → Option Session → List ℕ → List ℕ → ℕ → ℕ → Answer → Type 0
+WideEventsOpenTold old new levels complete width liberties answer =
+    OpensHandle (WideEventsOpen levels complete width liberties) old new answer
 
 -- C opens a covering of links with liberties
 abbrev pub CoverOpenTold : Option Session → Option Session → List ℕ → ℕ → ℕ → Answer → Type 0
@@ -119,9 +125,9 @@ JudgeTryTold link x answer old new = OnHandle (Sessions.TriesSession link x answ
 abbrev pub JudgeLineTold : List ℕ → Answer → Option Session → Option Session → Type 0
 JudgeLineTold line answer old new = OnHandle (Sessions.JudgesLineSession line answer) (answer ≡ bad) old new
 
--- C pushes the commit of a picture to a judge
+-- C pushes the commit of a picture to a judge, of beats of any width
 abbrev pub CommitTold : ℕ → CommitPicture → Answer → Option Session → Option Session → Type 0
-CommitTold link x answer old new = OnHandle (Sessions.CommitsSession true link x answer) (answer ≡ bad) old new
+CommitTold link x answer old new = OnHandle (CommitsWide link x answer) (answer ≡ bad) old new
 
 -- C tries the commit of a picture at a judge, which stays open or closed as it was
 abbrev pub TryCommitTold : ℕ → CommitPicture → Answer → Option Session → Option Session → Type 0

@@ -10,7 +10,7 @@ use std::mem;
 use tl_pictures::answer::Answer;
 use tl_pictures::commit::CommitPicture;
 use tl_pictures::picture::Picture;
-use tl_sessions::judge_session;
+use tl_sessions::{judge_session, wide_session};
 
 /// Makes a judge of all links of a manager, of these levels, 0 for UL, 1 for UH and 2 for C, in an empty handle.
 #[unsafe(no_mangle)]
@@ -110,7 +110,7 @@ pub extern "C" fn tl_judge_commit(
 ) -> Answer
     ensures { CommitTold link commit.now result judge.old.place.value judge.new.place.value }
 {
-    answered!(alloc, judge, session => judge_session::commit(&mut session, link, commit, true))
+    answered!(alloc, judge, session => wide_session::commit(&mut session, link, commit))
 }
 
 /// Judges a commit of a link, after the earlier beats and commits of all links. A commit that breaks a rule isn't taken,

@@ -1,6 +1,7 @@
-//! The calls of C on a monitor and a judge of wide beats.
+//! The calls of C on a monitor and a judge of wide beats, and on a judge of these and commits.
 
-ghost use Rattle.hefrudyl.specs.statement.Handled.{WideJudgeOpenTold, WideJudgeTold, WideMonitorOpenTold, WidePushTold};
+ghost use Rattle.hefrudyl.specs.statement.Handled.{WideEventsOpenTold, WideJudgeOpenTold, WideJudgeTold};
+ghost use Rattle.hefrudyl.specs.statement.Handled.{WideMonitorOpenTold, WidePushTold};
 
 use crate::handle::Handle;
 use std::alloc::Global;
@@ -44,6 +45,25 @@ pub extern "C" fn tl_judge_new_wide(
     )
 }
 
+/// Makes a judge of wide beats and commits of all links of a manager, of these levels and with these liberties, in an empty
+/// handle. `complete` has 1 for each link of which all stores will be judged, otherwise 0.
+#[unsafe(no_mangle)]
+pub extern "C" fn tl_judge_new_wide_commits(
+    alloc: Global,
+    judge: &mut Handle,
+    levels: &[u8],
+    complete: &[u8],
+    width: u8,
+    liberties: u8,
+) -> Answer
+    ensures { WideEventsOpenTold judge.old.place.value judge.new.place.value levels.now complete.now width liberties result }
+{
+    judge.take(
+        alloc,
+        wide_session::open_events(alloc, levels, complete, width, liberties),
+    )
+}
+
 /// Judges a wide beat of a link, by the beats of at most 16 bytes that it becomes. If there is no memory, the same beat
 /// may be pushed again.
 #[unsafe(no_mangle)]
@@ -58,7 +78,7 @@ pub extern "C" fn tl_monitor_push_wide(
     answered!(alloc, monitor, session => wide_session::push_to_monitor(&mut session, link, beat))
 }
 
-/// Judges a wide beat of a link, after the earlier beats of all links.
+/// Judges a wide beat of a link, after the earlier beats and commits of all links.
 #[unsafe(no_mangle)]
 pub extern "C" fn tl_judge_push_wide(
     alloc: Global,

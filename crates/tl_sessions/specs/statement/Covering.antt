@@ -123,6 +123,7 @@ OnCovering P refused (session.Client old) new = refused × (new ≡ session.Clie
 OnCovering P refused (session.Manager old) new = refused × (new ≡ session.Manager old)
 OnCovering P refused (session.WideMonitor old) new = refused × (new ≡ session.WideMonitor old)
 OnCovering P refused (session.WideJudge old) new = refused × (new ≡ session.WideJudge old)
+OnCovering P refused (session.WideEvents old) new = refused × (new ≡ session.WideEvents old)
 OnCovering P refused (session.Events old) new = refused × (new ≡ session.Events old)
 OnCovering _ _ _ _ = ⊥
 

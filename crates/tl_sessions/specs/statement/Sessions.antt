@@ -50,6 +50,7 @@ OnMonitor P refused (session.Judge old) new = refused × (new ≡ session.Judge 
 OnMonitor P refused (session.Covering old) new = refused × (new ≡ session.Covering old)
 OnMonitor P refused (session.WideMonitor old) new = refused × (new ≡ session.WideMonitor old)
 OnMonitor P refused (session.WideJudge old) new = refused × (new ≡ session.WideJudge old)
+OnMonitor P refused (session.WideEvents old) new = refused × (new ≡ session.WideEvents old)
 OnMonitor P refused (session.Events old) new = refused × (new ≡ session.Events old)
 OnMonitor _ _ _ _ = ⊥
 
@@ -110,6 +111,7 @@ OnJudge P Q refused (session.Manager old) new = refused × (new ≡ session.Mana
 OnJudge P Q refused (session.Covering old) new = refused × (new ≡ session.Covering old)
 OnJudge P Q refused (session.WideMonitor old) new = refused × (new ≡ session.WideMonitor old)
 OnJudge P Q refused (session.WideJudge old) new = refused × (new ≡ session.WideJudge old)
+OnJudge P Q refused (session.WideEvents old) new = refused × (new ≡ session.WideEvents old)
 OnJudge _ _ _ _ _ = ⊥
 
 -- the session's judge judges the beat of this picture; a broken rule closes it
@@ -166,6 +168,7 @@ OnClient P refused (session.Judge old) new = refused × (new ≡ session.Judge o
 OnClient P refused (session.Covering old) new = refused × (new ≡ session.Covering old)
 OnClient P refused (session.WideMonitor old) new = refused × (new ≡ session.WideMonitor old)
 OnClient P refused (session.WideJudge old) new = refused × (new ≡ session.WideJudge old)
+OnClient P refused (session.WideEvents old) new = refused × (new ≡ session.WideEvents old)
 OnClient P refused (session.Events old) new = refused × (new ≡ session.Events old)
 OnClient _ _ _ _ = ⊥
 
@@ -260,6 +263,7 @@ OnManager P refused (session.Judge old) new = refused × (new ≡ session.Judge 
 OnManager P refused (session.Covering old) new = refused × (new ≡ session.Covering old)
 OnManager P refused (session.WideMonitor old) new = refused × (new ≡ session.WideMonitor old)
 OnManager P refused (session.WideJudge old) new = refused × (new ≡ session.WideJudge old)
+OnManager P refused (session.WideEvents old) new = refused × (new ≡ session.WideEvents old)
 OnManager P refused (session.Events old) new = refused × (new ≡ session.Events old)
 OnManager _ _ _ _ = ⊥
 

@@ -1,33 +1,20 @@
-use Rattle.std.proofs.Common.{refl}
-use Rattle.tl_wide.specs.statement.Pieces.{left_of}
-use Rattle.tl_sessions.proofs.WideParts.{part_bad, part_refused, part_taken, parts_good}
+use Rattle.std.proofs.Common.{[], refl}
+use Rattle.tl_events.specs.declared.commit.Event.TheVariants as event
+use Rattle.tl_sessions.proofs.WideParts.{none-judged, one_bad, one_good, parts_good}
 use Rattle.tl_sessions.proofs.part_judge.PartJudge.take_all.Goals as goal
+
+pub returns-in-Commit-event : goal.returns-in-Commit-event
+returns-in-Commit-event g c =
+    rw (c.in-Parts.is, c.in-Commit-event.is) (λ valid. parts_good c.args.self.now c.args.self.now c.args.link [] [] refl
+    (none-judged c.args.self.now c.args.link []))
+
+pub returns-in-Ok-None : goal.returns-in-Ok-None
+returns-in-Ok-None g c =
+    rw c.in-Commit.is (λ valid. one_good c.args.self.now c.take.new.self c.args.link (event.Commit c.in-Commit.commit)
+    (λ judging levels l e known. rw c.in-Ok-None.field-0-is at (c.in-Ok-None.ensures judging levels l e known valid)))
 
 pub returns-in-Ok-Some : goal.returns-in-Ok-Some
 returns-in-Ok-Some g c =
-    rw c.in-Ok-Some.field-0-is (part_bad c.args.self.now c.loop-part.self c.args.link (left_of {p = g.row.P} c.args.beat.now c.args.parts)
-    c.in-Some.part (left_of c.args.beat.now c.loop-part.left) (left_of c.args.beat.now c.next.new.self)
-    c.in-Ok-Some.breach (rw c.loop-part.invariant.same at c.in-Some.ensures) c.loop-part.invariant.parts
-    (rw c.in-Ok-Some.field-0-is at c.in-Ok-Some.ensures))
-
-pub returns-in-Err : goal.returns-in-Err
-returns-in-Err g c =
-    part_refused c.args.self.now c.loop-part.self c.args.link (left_of {p = g.row.P} c.args.beat.now c.args.parts)
-    c.take.new.self c.in-Some.part (left_of c.args.beat.now c.loop-part.left) (left_of c.args.beat.now c.next.new.self)
-    (rw c.loop-part.invariant.same at c.in-Some.ensures) c.loop-part.invariant.parts c.in-Err.ensures
-
-pub loop-part-preserved : goal.loop-part-preserved
-loop-part-preserved g c = record {
-  same = refl;
-  parts =
-      part_taken c.args.self.now c.loop-part.self c.args.link (left_of {p = g.row.P} c.args.beat.now c.args.parts)
-      c.take.new.self c.in-Some.part (left_of c.args.beat.now c.loop-part.left)
-      (left_of c.args.beat.now c.next.new.self) (rw c.loop-part.invariant.same at c.in-Some.ensures)
-      c.loop-part.invariant.parts (rw c.in-Ok-None.field-0-is at c.in-Ok-None.ensures);
-}
-
-pub returns : goal.returns
-returns g c =
-    parts_good c.args.self.now c.loop-part.self c.args.link (left_of {p = g.row.P} c.args.beat.now c.args.parts)
-    (left_of c.args.beat.now c.loop-part.left) (rw c.loop-part.invariant.same at c.in_default.ensures)
-    c.loop-part.invariant.parts
+    rw (c.in-Commit.is, c.in-Ok-Some.field-0-is) (λ valid. one_bad c.args.self.now c.take.new.self c.args.link
+    (event.Commit c.in-Commit.commit) c.in-Ok-Some.breach (λ judging levels l e known.
+    rw c.in-Ok-Some.field-0-is at (c.in-Ok-Some.ensures judging levels l e known valid)))

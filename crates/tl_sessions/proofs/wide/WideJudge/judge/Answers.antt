@@ -6,4 +6,4 @@ returns-in-Err g c = inr (inl (search rules, c.in-Err.ensures))
 
 pub returns-in-Ok : goal.returns-in-Ok
 returns-in-Ok g c =
-    inr (inr (search rules, c.parts.new.self, c.in-Ok.parts, c.in-Ok.ensures, c.judge_left.ensures))
+    inr (inr (search rules, c.left.new.self, c.in-Ok.rest, c.in-Ok.ensures, c.judge_left.ensures))

@@ -42,7 +42,7 @@ pub fn levels_of(alloc: Global, links: &[MarkedLevel]) -> Result<Vec<Level>, All
 }
 
 /// Of which links all stores are in the trace.
-fn complete_of(alloc: Global, links: &[MarkedLevel]) -> Result<Vec<bool>, AllocError>
+pub fn complete_of(alloc: Global, links: &[MarkedLevel]) -> Result<Vec<bool>, AllocError>
     ensures { IfOk result (λ complete. complete.items ≡ complete_of links.now) }
 {
     let mut complete = Vec::new(alloc);

@@ -1,1 +1,4 @@
 pub mod Guilt
+pub mod Setting
+pub mod SameTexts
+pub mod CopyTexts

@@ -1,1 +1,3 @@
 pub mod Convicted
+pub mod CopyLines
+pub mod SetLines

@@ -110,8 +110,8 @@ fn handle_counted_line<H: LineHandler>(
     }
 }
 
-/// Joins a line to the beginning that has come, and returns false. A line of which nothing has come, and that isn't too
-/// long, is at hand: then nothing changes, and true is returned. None if the whole line has more than 256 bytes.
+/// Joins a line to the beginning that has come, and returns false. A line without such a beginning is at hand if it
+/// isn't too long: nothing changes, and true is returned. None if the whole line has more than 256 bytes.
 #[inline(always)]
 fn join(begun: &mut ArrayVec<u8, 256>, line: &[u8]) -> Option<bool>
     ensures { MatchOption result (256 < length begun.old.items + length line.now) (λ at_hand.

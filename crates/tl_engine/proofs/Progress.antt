@@ -83,16 +83,6 @@ module _ {H : Type 0} (knows : H → List (List ℕ) → List ℕ → Type 0) (t
         rw (cut_line old read (before ++ was) line more p ends)
         (counts p.lines before p.known p.counted (lines_of more))
 
-    -- the same, where no beginning of the line came before
-    pub feeds_at_hand : (r : Result Status ToolFault) (old new : Lines H) (line was is : List ℕ) → IsLine line
-        → (length old.begun.items == 0) ≡ true → new.begun.items ≡ old.begun.items
-        → IfOk r (CountsLine knows tells old.handler new.handler old.count new.count line was is)
-        → IfOk r (Feeds knows tells old new line was is)
-    feeds_at_hand (Err fault) old new line was is ends empty same counts = tt
-    feeds_at_hand (Ok status) old new line was is ends empty same counts =
-        let none : old.begun.items ≡ [] = empty_is old.begun.items empty in
-        feeds_line old new line was is status ends (same ∙ none) (rw none counts)
-
     -- a line that is too long is at fault
     feeds_open : (old new : Lines H) (piece was is front back : List ℕ) → piece ≡ front ++ back → LacksLf front
         → 256 ≤ length old.begun.items + length front
@@ -242,13 +232,6 @@ module _ {H : Type 0} (knows : H → List (List ℕ) → List ℕ → Type 0) (e
   ends_line old new line was is has = λ read before p more.
       rw (cut_line knows (Has new) old read (before ++ was) line more p is)
       (has p.lines (before ++ was) p.known (lines_of more))
-
-  pub ends_at_hand : (old : Lines H) (new : H) (line was : List ℕ) → IsLine line
-      → (length old.begun.items == 0) ≡ true → Ends knows ends old.handler new line
-      → EndsWithin knows ends old new line was
-  ends_at_hand old new line was is empty has =
-      let none : old.begun.items ≡ [] = empty_is old.begun.items empty in
-      ends_line old new line was is (rw none has)
 
   -- in one that is too long
   pub ends_open : (old : Lines H) (new : H) (piece was front back : List ℕ) → piece ≡ front ++ back → LacksLf front

@@ -1,6 +1,6 @@
 //! Splits an input that comes in pieces into its lines.
 
-ghost use Rattle.std.specs.Prelude.{◌≡◌, ◌+◌, ◌++◌, [], ◌≤◌, ◌<◌, ◌^◌, ◌-◌, ◌==◌, not, ℕ, List, length};
+ghost use Rattle.std.specs.Prelude.{◌≡◌, ◌+◌, ◌++◌, [], ◌≤◌, ◌<◌, ◌^◌, ◌-◌, ◌==◌, not, ℕ, List, length, if◌then◌else◌};
 ghost use Rattle.std.specs.Prelude.{IfOk, IfErr, MatchOption, Ok};
 ghost use Rattle.std.specs.List.{prefix_len};
 ghost use Rattle.memchr.specs.Find.{IsFirstByte, is_byte};
@@ -110,6 +110,31 @@ fn handle_counted_line<H: LineHandler>(
     }
 }
 
+/// Joins a line to the beginning that has come, and returns false. A line without such a beginning is at hand if it
+/// isn't too long: nothing changes, and true is returned. None if the whole line has more than 256 bytes.
+#[inline(always)]
+fn join(begun: &mut ArrayVec<u8, 256>, line: &[u8]) -> Option<bool>
+    ensures { MatchOption result (256 < length begun.old.items + length line.now) (λ at_hand.
+        (if at_hand then line.now else begun.new.items) ≡ begun.old.items ++ line.now) }
+{
+    if begun.is_empty() && line.len() <= 256 {
+        return Some(true);
+    }
+    if begun.try_extend_from_slice(line).is_err() {
+        return None;
+    }
+    Some(false)
+}
+
+/// The line that is judged: the one at hand, or the joined one. Both are judged by one call, so that the compiler puts
+/// the handler into its caller.
+#[inline(always)]
+fn whole_line<'a>(at_hand: bool, line: &'a [u8], joined: &'a [u8]) -> &'a [u8]
+    ensures { result.now ≡ (if at_hand then line.now else joined.now) }
+{
+    if at_hand { line } else { joined }
+}
+
 impl<H: LineHandler> Lines<H> {
     /// No line has been judged yet.
     pub fn new(handler: H) -> Lines<H>
@@ -164,18 +189,11 @@ impl<H: LineHandler> Lines<H> {
             out.old.items }
         ensures fault { IfErr result (GivesUp (lines_judged self.old)) }
     {
-        if self.begun.is_empty() && line.len() <= 256 {
-            return handle_counted_line(&mut self.handler, &mut self.count, line, out);
-        }
-        if self.begun.try_extend_from_slice(line).is_err() {
+        let Some(at_hand) = join(&mut self.begun, line) else {
             return self.stop(out);
-        }
-        let status = handle_counted_line(
-            &mut self.handler,
-            &mut self.count,
-            self.begun.as_slice(),
-            out,
-        )?;
+        };
+        let whole = whole_line(at_hand, line, self.begun.as_slice());
+        let status = handle_counted_line(&mut self.handler, &mut self.count, whole, out)?;
         self.begun.clear();
         Ok(status)
     }

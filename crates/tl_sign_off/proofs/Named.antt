@@ -21,12 +21,15 @@ use Rattle.tl_events.specs.declared.commit.Commit.TheVariants as commit
 use Rattle.tl_events.specs.declared.commit.Event.{Event}
 use Rattle.tl_events.specs.declared.commit.Event.TheVariants as event
 use Rattle.tl_report.specs.statement.Taken.{cell_for, cell_of, commit_message_of, event_cell_of, message_of, wide_cell_of}
-use Rattle.tl_report.specs.statement.Taken.{wide_message_of}
+use Rattle.tl_report.specs.statement.Taken.{wide_event_cell_of, wide_message_of}
 use Rattle.tl_sign_off.specs.statement.Message.{channel_name, message_name, name_of, wide_channel_of, wide_name_of}
 use Rattle.tl_sign_off.specs.statement.Report.{commit_count_of, count_data, count_lettered, count_named, count_of}
-use Rattle.tl_sign_off.specs.statement.Report.{event_count_of, wide_count_of}
+use Rattle.tl_sign_off.specs.statement.Report.{event_count_of, wide_count_of, wide_event_count_of}
 use Rattle.tl_wide.specs.declared.beat.WideBeat.{WideBeat}
 use Rattle.tl_wide.specs.declared.beat.WideBeat.TheVariants as wide
+use Rattle.tl_wide_events.specs.declared.commit.WideEvent.{WideEvent}
+use Rattle.tl_wide_events.specs.declared.commit.WideEvent.TheVariants as wide_event
+use Rattle.tl_wide_events.specs.statement.Narrowed.{commit_at}
 
 -- a number has this letter and this name
 record IsNamed (n : ℕ) (letter : ℕ) (name : List ℕ) : Type 0 where
@@ -137,3 +140,8 @@ pub event_counted_alike : {w : ℕ} (link : Link) (x : Event w) (n : ℕ)
     → count_data (event_cell_of link x) n ≡ event_count_of link x n
 event_counted_alike link (event.Beat x) n = counted_alike link x n
 event_counted_alike link (event.Commit x) n = commit_counted link x n
+
+pub wide_event_counted_alike : {w : ℕ} (link : Link) (x : WideEvent w) (n : ℕ)
+    → count_data (wide_event_cell_of link x) n ≡ wide_event_count_of link x n
+wide_event_counted_alike link (wide_event.Beat x) n = wide_counted_alike link x n
+wide_event_counted_alike link (wide_event.Commit x) n = commit_counted link (commit_at x 0) n

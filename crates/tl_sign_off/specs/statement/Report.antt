@@ -23,6 +23,9 @@ use Rattle.tl_sign_off.specs.statement.Message.{channel_name, commit_letter, com
 use Rattle.tl_sign_off.specs.statement.Message.{wide_channel_of, wide_name_of}
 use Rattle.tl_sign_off.specs.statement.Sentence.{sentence_of}
 use Rattle.tl_wide.specs.declared.beat.WideBeat.{WideBeat}
+use Rattle.tl_wide_events.specs.declared.commit.WideEvent.{WideEvent}
+use Rattle.tl_wide_events.specs.declared.commit.WideEvent.TheVariants as wide_event
+use Rattle.tl_wide_events.specs.statement.Narrowed.{commit_at}
 
 -- a number without sign
 abbrev pub natural : ℕ → Data
@@ -75,6 +78,11 @@ commit_count_of link x n = count_lettered link (commit_letter x) (commit_name x)
 abbrev pub event_count_of : {w : ℕ} → Link → Event w → ℕ → Data
 event_count_of link (event.Beat x) n = count_of link x n
 event_count_of link (event.Commit x) n = commit_count_of link x n
+
+-- the number of events of a wide trace with this event's link and message, or with its kind
+abbrev pub wide_event_count_of : {w : ℕ} → Link → WideEvent w → ℕ → Data
+wide_event_count_of link (wide_event.Beat x) n = wide_count_of link x n
+wide_event_count_of link (wide_event.Commit x) n = commit_count_of link (commit_at x 0) n
 
 -- the entry for a cell; none for a cell without beats or commits
 abbrev pub counted_in : ℕ → ℕ → List Data

@@ -333,7 +333,7 @@ def python_judges_stores_and_loads():
                 pass
     with module.WideCommitJudge([module.Level.C], [1], 64) as judge:
         want(judge.commit(0, commit(kind.LOAD, 1, 1)).code is module.Code.BAD_ARGUMENT, "an address that isn't aligned")
-        want(judge.commit(0, commit(kind.BEGIN, 0, 2**64 - 1)).rule == "M5", "a load of the last byte without a copy")
+        want(judge.commit(0, commit(kind.LOAD, 0, 2**64 - 1)).rule == "M5", "a load of the last byte without a copy")
 
 
 @test

@@ -4,7 +4,8 @@
 Random traces of caches whose cores store and load, by the model bench/commits_trial.py: RUNS runs of right caches (60 if none
 is said), and a tenth as many of each wrong one. `TOOL coherent` must have the model's verdict on each, and `TOOL monitor` must
 find no fault in those of right caches. Of each run at fault `TOOL explain --coherent` must have the rule's sentence and the event
-in words, and for M5 to M7 the last store to each byte, as they are found here in the lines before it; each line that it cites
+in words, and for M5 to M7 the last store to each byte, as they are found here in the lines before it. For M6 and M7 it must end with
+the lines of bench/commits_bytes.py: what a byte is, all that it may be, and the line that set each value. Each line that it cites
 must be the one of its number. `TOOL chart` of each must draw the rows of the chart of its beats, and its stores and loads between
 them.
 
@@ -23,6 +24,9 @@ import re
 import subprocess
 import sys
 import tempfile
+
+sys.path.insert(0, str(pathlib.Path(__file__).resolve().parent.parent / "bench"))
+from commits_bytes import bytes_told  # noqa: E402
 
 # Traces with more lines aren't explained: each load that begins and never ends is followed to the end of a trace.
 LONG = 1000
@@ -106,6 +110,8 @@ def story_slips(tool, trace, fault):
         if cited and words[int(cited[1]) - 2] != cited[2]:
             yield f"{trace.name}: explain cites {line}"
     wanted = stores_told(lines, words, int(width)) if rule in ("M5", "M6", "M7") else []
+    if rule in ("M6", "M7"):
+        wanted += bytes_told([header, *lines])
     if told[3:] and told[len(told) - len(wanted):] != wanted:
         yield f"{trace.name}: explain ends with {told[-len(wanted):]}, not {wanted}"
     if bool(told[3:]) != bool(wanted):

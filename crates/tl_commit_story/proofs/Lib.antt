@@ -1,3 +1,4 @@
+pub mod Copies
 pub mod Followed
 pub mod Numbers
 pub mod Recorded

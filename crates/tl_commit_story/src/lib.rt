@@ -3,6 +3,7 @@
 
 mod asked;
 mod cached;
+mod copy_follower;
 mod examine;
 pub mod explain;
 mod follower;

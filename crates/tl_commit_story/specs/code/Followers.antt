@@ -2,23 +2,38 @@
 use Rattle.std.specs.Prelude.{◌≡◌, ◌+◌, ◌++◌, ◌∷◌, ℕ, Bool, List, length, ⊤}
 use Rattle.tl_beat.specs.declared.beat.Link.{Link}
 use Rattle.tl_commit_lines.specs.declared.header.MarkedLevel.{MarkedLevel}
-use Rattle.tl_commit_lines.specs.statement.MarkedHeader.{levels_of}
+use Rattle.tl_commit_lines.specs.statement.MarkedHeader.{complete_of, levels_of}
 use Rattle.tl_commits.specs.statement.Events.{Events}
 use Rattle.tl_engine.specs.declared.fault.Fault.{Fault}
 use Rattle.tl_events.specs.declared.commit.Event.{Event}
+use Rattle.tl_events.specs.declared.rule.CommitRule.{CommitRule}
+use Rattle.tl_evidence.specs.code.Following.{KnowsCopy}
+use Rattle.tl_evidence.specs.statement.CopyLines.{copy_lines}
 use Rattle.tl_params.specs.declared.level.Level.{Level}
 use Rattle.tl_params.specs.declared.liberties.Liberties.{Liberties}
 use Rattle.tl_commit_story.specs.code.Following.{KnowsGrounds}
 use Rattle.tl_commit_story.specs.code.Recording.{KnowsLink}
 use Rattle.tl_commit_story.specs.declared.follower.Follower.{Follower}
 use Rattle.tl_commit_story.specs.declared.follower.Follower.TheVariants.{OfCopy, OfLink, OfNothing}
+use Rattle.tl_commit_story.specs.declared.copy_follower.CopyFollower.{CopyFollower}
 use Rattle.tl_commit_story.specs.declared.grounds.Grounds.{Grounds}
 use Rattle.tl_commit_story.specs.statement.Grounds.{AreGrounds, copy_grounds}
+
+-- for a rule of stores and loads
+abbrev pub KnowsCopyFollower : {w : ℕ} → CopyFollower w → Liberties → List MarkedLevel → Events w → Type 0
+KnowsCopyFollower f may links e =
+    KnowsGrounds f.grounds may (levels_of links) e × KnowsCopy f.record may (levels_of links) (complete_of links) e
+
+-- with one more event, in the line of this number
+abbrev pub FollowsCopy : {w : ℕ} → CopyFollower w → CopyFollower w → ℕ → Link → Event w → Type 0
+FollowsCopy {w} old new number link x =
+    (may : Liberties) (links : List MarkedLevel) (e : Events w) → number ≡ length e + 2
+    → KnowsCopyFollower old may links e → KnowsCopyFollower new may links ((link, x) ∷ e)
 
 -- all that is kept is what the events say
 abbrev pub KnowsFollower : {w : ℕ} → Bool → Follower w → Liberties → List MarkedLevel → Events w → Type 0
 KnowsFollower together (OfLink r) may links e = KnowsLink together r may (levels_of links) e
-KnowsFollower together (OfCopy g) may links e = KnowsGrounds g may (levels_of links) e
+KnowsFollower together (OfCopy f) may links e = KnowsCopyFollower f may links e
 KnowsFollower together OfNothing may links e = ⊤
 
 -- one more event, in the line of this number
@@ -27,11 +42,18 @@ FollowsEvent {w} old new number link x =
     (together : Bool) (may : Liberties) (links : List MarkedLevel) (e : Events w) → number ≡ length e + 2
     → KnowsFollower together old may links e → KnowsFollower together new may links ((link, x) ∷ e)
 
--- the text has the grounds, behind what it had, for a rule of stores and loads
-abbrev pub TellsCopy : {w : ℕ} → Grounds w → Link → Event w → List ℕ → List ℕ → Type 0
-TellsCopy {w} g link x was is =
+-- the text has the permission held, data under way and the last stores, behind the text before
+abbrev pub TellsHeld : {w : ℕ} → Grounds w → Link → Event w → List ℕ → List ℕ → Type 0
+TellsHeld {w} g link x was is =
     (may : Liberties) (levels : List Level) (e : Events w) → KnowsGrounds g may levels e
     → is ≡ was ++ copy_grounds may levels link x e
+
+-- the text has the grounds, behind what it had, for a rule of stores and loads
+abbrev pub TellsCopy : {w : ℕ} → CopyFollower w → CommitRule → Link → Event w → List ℕ → List ℕ → Type 0
+TellsCopy {w} f rule link x was is =
+    (may : Liberties) (links : List MarkedLevel) (e : Events w) → KnowsCopyFollower f may links e
+    → is ≡ was ++ (copy_grounds may (levels_of links) link x e
+    ++ copy_lines rule (complete_of links) (length (levels_of links)) link.0 x e)
 
 -- for the fault of an event
 abbrev pub TellsGrounds : {w : ℕ} → Follower w → Fault → Link → Event w → List ℕ → List ℕ → Type 0

@@ -1,14 +1,14 @@
 -- The grounds for a breach of a rule: of one of stores and loads the permission held, the data under way, the last
--- stores; of one of beats those of a trace of beats, with the numbers of these lines.
+-- stores, and the values of bytes; of one of beats those of a trace of beats, with the numbers of these lines.
 use Rattle.std.specs.Prelude.{◌≡◌, ◌==◌, ◌+◌, ◌*◌, ◌++◌, ℕ, zero, suc, Bool, true, false, List, [], ◌∷◌, codes}
-use Rattle.std.specs.Prelude.{Option, Some, None, if◌then◌else◌, slice_get}
+use Rattle.std.specs.Prelude.{Option, Some, None, if◌then◌else◌, length, slice_get}
 use Rattle.tl_allowed.specs.statement.Allowed.{allowed_under}
 use Rattle.tl_beat.specs.declared.beat.Beat.{Beat}
 use Rattle.tl_beat.specs.declared.beat.Link.{Link}
 use Rattle.tl_beat.specs.declared.channel.Channel.TheVariants as channel
 use Rattle.tl_beat.specs.statement.Digits.{digits}
 use Rattle.tl_commit_lines.specs.declared.header.MarkedLevel.{MarkedLevel}
-use Rattle.tl_commit_lines.specs.statement.MarkedHeader.{levels_of}
+use Rattle.tl_commit_lines.specs.statement.MarkedHeader.{complete_of, levels_of}
 use Rattle.tl_commits.specs.statement.Events.{Events, beats_of}
 use Rattle.tl_engine.specs.declared.fault.Fault.{Fault}
 use Rattle.tl_engine.specs.declared.fault.Fault.TheVariants.{Rule as Breaks, CommitRule}
@@ -16,6 +16,7 @@ use Rattle.tl_events.specs.declared.commit.Commit.TheVariants as commit
 use Rattle.tl_events.specs.declared.commit.Event.{Event}
 use Rattle.tl_events.specs.declared.commit.Event.TheVariants as event
 use Rattle.tl_evidence.specs.statement.Convicted.{IsConvicted}
+use Rattle.tl_evidence.specs.statement.CopyLines.{copy_lines}
 use Rattle.tl_explain.specs.statement.Sentences.{perm_name}
 use Rattle.tl_links.specs.statement.Allowed.{allowed_line}
 use Rattle.tl_params.specs.declared.level.Level.{Level}
@@ -128,6 +129,7 @@ AreGrounds together (Breaks rule) may links link x e grounds =
     AreLinkGrounds together rule may (levels_of links) link x e grounds
 AreGrounds together (CommitRule rule) may links link x e grounds =
     grounds ≡ copy_grounds may (levels_of links) link x e
+    ++ copy_lines rule (complete_of links) (length (levels_of links)) link.0 x e
 AreGrounds together _ may links link x e grounds = grounds ≡ []
 
 -- The reasons begin with the sentence of the rule that the event breaks, and the event.

@@ -640,6 +640,11 @@ ROWS = [
     ("tltool cover --json wrong_report.trace two_caches.trace", 1, "{\"verdicts\": [\"line 13 H12\", \"clean 29\"], \"seen\": ..", ""),
     ("tltool cover --json wrong_report.trace two_caches.trace | grep -o '\"report-TtoB.*line\": [0-9]*'", 0, "\"report-TtoB\", \"count\": 1, \"trace\": 1, \"line\": 14\n", ""),
     ("tltool cover --json two_caches.trace two_caches.trace | grep -o '\"report-TtoN.*line\": [a-z]*'", 0, "\"report-TtoN\", \"count\": 0, \"trace\": null, \"line\": null\n", ""),
+    # wide beats and commits: the lines are those of the trace
+    ("tltool cover wide/store_lost.trace | sed -n 1p", 0, "clean 6\n", ""),
+    ("tltool cover <wide/store_lost.trace | grep release-TtoN", 0, "release-TtoN 1, line 7: ..", ""),
+    ("sed '5s/ 05$//' wide/store_lost.trace | tltool cover | sed -n 1p", 0, "line 5 F1\n", ""),
+    ("sed '1s/C+/UH+/' wide/store_lost.trace | tltool cover | sed -n 1p", 0, "line 1 F7\n", ""),
     # wide beats: the lines are theirs, the counts those of their parts
     ("tltool cover wide/two_caches.trace | sed -n 1,4p | cut -d: -f1", 0, "clean 11\nacquire-NtoB 1, line 6\nacquire-NtoT 1, line 2\ngrant-NtoB 1, line 10\n", ""),
     ("tltool cover wide/wrong_report.trace", 1, "line 6 H12\n..", ""),

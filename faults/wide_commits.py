@@ -8,8 +8,8 @@ one; each once more with a line spoiled. `TOOL monitor` and `TOOL coherent` must
 faults/wide.py makes of it by the text of docs/FORMATS.md, at the line of the wide event whose part is at fault. Where no beats were
 joined they must say what they say of the trace that was written wide, which has the model's verdict. With `--all` and a report they
 must find what they find line by line in the trace without the lines found before, and count the beats and the commits of the others.
-Lines that spell no event have the fault of the table in docs/FORMATS.md, and commits take no numbers of sources. Ends with
-'wide commits: N passed, M failed'."""
+`cover --json` must count what it counts of the narrow trace, with the lines of the wide one. Lines that spell no event have the fault
+of the table in docs/FORMATS.md, and commits take no numbers of sources. Ends with 'wide commits: N passed, M failed'."""
 import concurrent.futures
 import os
 import pathlib
@@ -96,6 +96,8 @@ def slips(tool, name, text, seed, verdict=None):
                 most = rng.choice([1, 2, 3, 20])
                 found = wide.wanted_all(tool, [command], *head, written, width, most)
                 yield from (f"{name}: {it}" for it in wide.report(tool, [command, "--all", str(most)], told, *found))
+            if wide.miscounted(tool, told, *head, written, width):
+                yield f"{name}: cover of {width} bytes counts other situations than those of the narrow trace"
             if not spoil and width == narrow:
                 for command, is_verdict in ("monitor", None), ("coherent", verdict):
                     says = of(tool, command, text=told)

@@ -38,7 +38,7 @@ use Rattle.tl_wide_lines.specs.code.FirstFault.{behind}
 beats-more : {w : ℕ} (x : Link × Event w) (e : Events w) → beats_each (x ∷ e) ≡ beats_each e ++ beats_at x ∷ []
 beats-more x e = ap (map beats_at) (reverse_onto e x []) ∙ map-append beats_at (reverse e) (x ∷ [])
 
-joined-more : {w : ℕ} (parts : List (Trace w)) (last : Trace w)
+pub joined-more : {w : ℕ} (parts : List (Trace w)) (last : Trace w)
     → length (joined (parts ++ last ∷ [])) ≡ length (joined parts) + length last
 unfolding joined
 joined-more [] last = omega (arith, length-append last [])
@@ -55,7 +55,7 @@ unfolding behind beats_of
 behind-it (link, event.Beat x) e = refl
 behind-it (link, event.Commit x) e = refl
 
-so-many : {w : ℕ} (x : Link × Event w) (e : Events w)
+pub so-many : {w : ℕ} (x : Link × Event w) (e : Events w)
     → length (beats_of (x ∷ e)) ≡ length (beats_of e) + length (beats_at x)
 unfolding beats_of
 so-many (link, event.Beat x) e = omega arith

@@ -7,6 +7,7 @@ pub mod Summed
 pub mod Telling
 pub mod TraceCounted
 pub mod WideCounted
+pub mod WideEventCounted
 pub mod WideParts
 pub mod WideRowed
 mod Worked

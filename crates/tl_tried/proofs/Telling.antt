@@ -5,7 +5,6 @@ use Rattle.std.specs.Io.KnownBytes.{Consumes}
 use Rattle.std.specs.Prelude.{Option}
 use Rattle.tl_command.specs.declared.cover.CoverForm.{CoverForm}
 use Rattle.tl_cover.specs.declared.row.Row.{Row}
-use Rattle.tl_commit_lines.specs.statement.JudgedEvents.{JudgedCommits}
 use Rattle.tl_engine.specs.statement.Lines.{lines_of}
 use Rattle.tl_engine.specs.code.Progress.{HasAll}
 use Rattle.tl_engine.specs.statement.Run.{EndsAs}
@@ -18,43 +17,44 @@ use Rattle.tl_tried.specs.declared.sum.Sum.{Sum}
 use Rattle.tl_tried.specs.declared.tried.Tried.{Tried}
 use Rattle.tl_tried.specs.statement.Sums.{cells_of, sums_of}
 use Rattle.tl_tried.specs.statement.Told.{Names, shown, told, told_named}
-use Rattle.tl_tried.specs.statement.EventCovered.{CommitsCovered}
+use Rattle.tl_tried.specs.statement.WideEventCovered.{AnyCovered}
+use Rattle.tl_wide_event_lines.specs.statement.JudgedWideEvents.{JudgedAny}
 use Rattle.tl_tried.specs.statement.Covered.{Found}
 
 -- what was read is judged, and the situations are those of it
 abbrev pub Gathered : Liberties → CoverEvents → Option (List ℕ) → Option (List ℕ) → List ℕ → Status → Type 0
 Gathered allow h had left verdict status =
-    (read : List ℕ) × Consumes had left read × JudgedCommits false allow (lines_of read) verdict status
-    × EndsAs (JudgedCommits false allow) left read verdict status × CommitsCovered allow (lines_of read) (found_of_commits h)
+    (read : List ℕ) × Consumes had left read × JudgedAny false allow (lines_of read) verdict status
+    × EndsAs (JudgedAny false allow) left read verdict status × AnyCovered allow (lines_of read) (found_of_commits h)
 
 -- a handler that was made for this has gathered them
 pub gathered : (h old : CoverEvents) (allow : Liberties) (had left : Option (List ℕ)) (verdict : List ℕ)
     (status : Status)
     → old.plain.narrow.allow ≡ allow → h.plain.narrow.allow ≡ allow
-    → (read : List ℕ) × Consumes had left read × JudgedCommits false old.plain.narrow.allow (lines_of read) verdict status
-    × EndsAs (JudgedCommits false old.plain.narrow.allow) left read verdict status × HasAll KnowsCommits EndsCommits h (lines_of read)
+    → (read : List ℕ) × Consumes had left read × JudgedAny false old.plain.narrow.allow (lines_of read) verdict status
+    × EndsAs (JudgedAny false old.plain.narrow.allow) left read verdict status × HasAll KnowsCommits EndsCommits h (lines_of read)
     status
     → Gathered allow h had left verdict status
 gathered h old allow had left verdict status was now (read, consumed, judged, ended, has) = (
   read,
   consumed,
-  subst (λ (l : Liberties). JudgedCommits false l (lines_of read) verdict status) was judged,
-  subst (λ (l : Liberties). EndsAs (JudgedCommits false l) left read verdict status) was ended,
-  subst (λ (l : Liberties). CommitsCovered l (lines_of read) (found_of_commits h)) now (counted-at-end h (lines_of read) status has),
+  subst (λ (l : Liberties). JudgedAny false l (lines_of read) verdict status) was judged,
+  subst (λ (l : Liberties). EndsAs (JudgedAny false l) left read verdict status) was ended,
+  subst (λ (l : Liberties). AnyCovered l (lines_of read) (found_of_commits h)) now (counted-at-end h (lines_of read) status has),
 )
 
 -- a trace with them is tried
 pub tried : (allow : Liberties) (h : CoverEvents) (had left : Option (List ℕ)) (verdict : List ℕ) (status : Status)
     (said old rows : List Row) (counts : List (Option ℕ)) → Gathered allow h had left verdict status
     → said ≡ (found_of_commits h).0 → counts ≡ (found_of_commits h).1 → old ≡ [] → rows ≡ old ++ said
-    → (read : List ℕ) × Consumes had left read × JudgedCommits false allow (lines_of read) verdict status
-    × EndsAs (JudgedCommits false allow) left read verdict status × CommitsCovered allow (lines_of read) (rows, counts)
+    → (read : List ℕ) × Consumes had left read × JudgedAny false allow (lines_of read) verdict status
+    × EndsAs (JudgedAny false allow) left read verdict status × AnyCovered allow (lines_of read) (rows, counts)
 tried allow h had left verdict status said old rows counts (read, consumed, judged, ended, covers) are counted empty is = (
   read,
   consumed,
   judged,
   ended,
-  subst (λ (found : Found). CommitsCovered allow (lines_of read) found)
+  subst (λ (found : Found). AnyCovered allow (lines_of read) found)
       (sym (ap₂ (λ (rs : List Row) (cs : List (Option ℕ)). (rs, cs)) (is ∙ rw (empty, are) refl) counted)) covers,
 )
 

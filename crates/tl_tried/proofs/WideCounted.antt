@@ -49,7 +49,7 @@ next-line : (new old many more : ℕ) → more ≡ many + 1 → new ≡ old + 1 
 next-line new old many more all next at = omega (arith, all, next, at)
 
 -- the situations of a wide trace by those of its parts
-by_rows : {p : ℕ} (c : WideCovering p) (parts : List (Trace p))
+pub by_rows : {p : ℕ} (c : WideCovering p) (parts : List (Trace p))
     → c.rows.items ≡ map (at_wide_line parts) (rows_in c.covering) → wide_found_in c ≡ at_wide_lines parts (found_in c.covering)
 by_rows c parts are = ap (λ (rows : List Row). (rows, cells_in c.covering)) are
 

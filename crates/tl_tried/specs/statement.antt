@@ -4,3 +4,4 @@ pub mod Sums
 pub mod Told
 pub mod Tried
 pub mod WideCovered
+pub mod WideEventCovered

@@ -1,14 +1,16 @@
-//! Judges the lines of a trace with or without commits, and counts the situations in which its messages begin.
+//! Judges the lines of a trace of any version, with or without commits, and counts the situations in which its messages
+//! begin.
 
 ghost use Rattle.std.specs.Prelude.{◌≡◌, [], false, IfOk, None, Ok, Some};
-ghost use Rattle.tl_commit_lines.specs.statement.JudgedEvents.{JudgedCommits};
 ghost use Rattle.tl_engine.specs.code.Judging.{Ends, Judges};
 ghost use Rattle.tl_engine.specs.declared.fault.Fault.{Fault};
-ghost use Rattle.tl_tried.specs.code.EventFollowing.{BeginsEvents, BeginsMarked, EndsCommits, KnowsCommits, ReadsNext};
-ghost use Rattle.tl_tried.specs.code.EventFollowing.{events_found_by, found_of_commits};
+ghost use Rattle.tl_tried.specs.code.EventFollowing.{BeginsAny, BeginsEvents, BeginsMarked, EndsCommits, KnowsCommits};
+ghost use Rattle.tl_tried.specs.code.EventFollowing.{BeginsWideEvents, ReadsNext, events_found_by, found_of_commits};
+ghost use Rattle.tl_wide_event_lines.specs.statement.JudgedWideEvents.{JudgedAny};
 
 use crate::cover_trace::CoverTrace;
 use crate::event_covering::EventCovering;
+use crate::wide_covering::WideCovering;
 use std::alloc::{AllocError, Global};
 use tl_beat::fault::LineFault;
 use tl_commit_lines::header::read_marked_for;
@@ -18,13 +20,20 @@ use tl_engine::line_handler::LineHandler;
 use tl_engine::monitor_lines::append_end;
 use tl_params::liberties::Liberties;
 use tl_params::width::Width;
+use tl_wide::width::WideWidth;
+use tl_wide_event_lines::header::read_wide_marked_for;
 
-/// The covering of the links of a trace with commits, by the bytes of a beat.
+/// The covering of the links of a trace with commits, by the bytes of a narrow beat or of a wide one.
 #[derive(Drop)]
 pub enum EventFollowing {
     Four(EventCovering<4>),
     Eight(EventCovering<8>),
     Sixteen(EventCovering<16>),
+    WideFour(WideCovering<4>),
+    WideEight(WideCovering<8>),
+    WideSixteen(WideCovering<16>),
+    WideThirtyTwo(WideCovering<16>),
+    WideSixtyFour(WideCovering<16>),
 }
 
 /// Judges the lines of a trace with or without commits up to its first fault, and counts its situations.
@@ -36,9 +45,13 @@ pub struct CoverEvents {
     events: Option<EventFollowing>,
 }
 
-/// Follows the links that a header of a trace with commits names; these liberties are allowed too. None for a line of
-/// another form. The error means that there is no memory left.
-fn begin(alloc: Global, allow: Liberties, line: &[u8]) -> Result<Option<EventFollowing>, AllocError>
+/// Follows the links that a header of a narrow trace with commits names; these liberties are allowed too. None for a line
+/// of another form. The error means that there is no memory left.
+fn begin_narrow(
+    alloc: Global,
+    allow: Liberties,
+    line: &[u8],
+) -> Result<Option<EventFollowing>, AllocError>
     ensures { IfOk result (BeginsEvents allow line.now) }
 {
     let Some(header) = read_marked_for(allow, line) else {
@@ -52,6 +65,42 @@ fn begin(alloc: Global, allow: Liberties, line: &[u8]) -> Result<Option<EventFol
     Ok(Some(following))
 }
 
+/// The same of a wide trace with commits.
+fn begin_wide(
+    alloc: Global,
+    allow: Liberties,
+    line: &[u8],
+) -> Result<Option<EventFollowing>, AllocError>
+    ensures { IfOk result (BeginsWideEvents allow line.now) }
+{
+    let Some(header) = read_wide_marked_for(allow, line) else {
+        return Ok(None);
+    };
+    let narrow = &header.narrow;
+    let following = match header.width {
+        WideWidth::Four => EventFollowing::WideFour(WideCovering::of_events(alloc, narrow)?),
+        WideWidth::Eight => EventFollowing::WideEight(WideCovering::of_events(alloc, narrow)?),
+        WideWidth::Sixteen => EventFollowing::WideSixteen(WideCovering::of_events(alloc, narrow)?),
+        WideWidth::ThirtyTwo => EventFollowing::WideThirtyTwo(WideCovering::of_events(
+            alloc, narrow,
+        )?),
+        WideWidth::SixtyFour => EventFollowing::WideSixtyFour(WideCovering::of_events(
+            alloc, narrow,
+        )?),
+    };
+    Ok(Some(following))
+}
+
+/// The same of either.
+fn begin(alloc: Global, allow: Liberties, line: &[u8]) -> Result<Option<EventFollowing>, AllocError>
+    ensures { IfOk result (BeginsAny allow line.now) }
+{
+    match begin_narrow(alloc, allow, line)? {
+        None => begin_wide(alloc, allow, line),
+        Some(following) => Ok(Some(following)),
+    }
+}
+
 impl EventFollowing {
     /// The situations with their counts.
     fn rows(&self) -> &[Row]
@@ -61,6 +110,11 @@ impl EventFollowing {
             EventFollowing::Four(covering) => covering.rows(),
             EventFollowing::Eight(covering) => covering.rows(),
             EventFollowing::Sixteen(covering) => covering.rows(),
+            EventFollowing::WideFour(covering) => covering.rows(),
+            EventFollowing::WideEight(covering) => covering.rows(),
+            EventFollowing::WideSixteen(covering) => covering.rows(),
+            EventFollowing::WideThirtyTwo(covering) => covering.rows(),
+            EventFollowing::WideSixtyFour(covering) => covering.rows(),
         }
     }
 
@@ -72,6 +126,11 @@ impl EventFollowing {
             EventFollowing::Four(covering) => covering.cells(alloc),
             EventFollowing::Eight(covering) => covering.cells(alloc),
             EventFollowing::Sixteen(covering) => covering.cells(alloc),
+            EventFollowing::WideFour(covering) => covering.cells(alloc),
+            EventFollowing::WideEight(covering) => covering.cells(alloc),
+            EventFollowing::WideSixteen(covering) => covering.cells(alloc),
+            EventFollowing::WideThirtyTwo(covering) => covering.cells(alloc),
+            EventFollowing::WideSixtyFour(covering) => covering.cells(alloc),
         }
     }
 
@@ -83,6 +142,11 @@ impl EventFollowing {
             EventFollowing::Four(covering) => covering.take_line(line),
             EventFollowing::Eight(covering) => covering.take_line(line),
             EventFollowing::Sixteen(covering) => covering.take_line(line),
+            EventFollowing::WideFour(covering) => covering.take_event_line::<4>(line),
+            EventFollowing::WideEight(covering) => covering.take_event_line::<8>(line),
+            EventFollowing::WideSixteen(covering) => covering.take_event_line::<16>(line),
+            EventFollowing::WideThirtyTwo(covering) => covering.take_event_line::<32>(line),
+            EventFollowing::WideSixtyFour(covering) => covering.take_event_line::<64>(line),
         }
     }
 }
@@ -132,7 +196,7 @@ impl CoverEvents {
     /// Judges the next line, if no header of a trace with commits has been read.
     fn take_other(&mut self, line: &[u8], out: &mut Vec<u8>) -> Result<Option<Fault>, AllocError>
         requires { self.old.events ≡ None }
-        ensures judges { IfOk result (Judges KnowsCommits (JudgedCommits false self.old.plain.narrow.allow) self.old
+        ensures judges { IfOk result (Judges KnowsCommits (JudgedAny false self.old.plain.narrow.allow) self.old
             self.new line.now out.old.items out.new.items) }
         ensures purpose { IfOk result (λ _. self.new.plain.narrow.allow ≡ self.old.plain.narrow.allow) }
         ensures ends { (fault : Fault) → result ≡ Ok (Some fault) →
@@ -157,7 +221,7 @@ impl LineHandler for CoverEvents {
 
     ghost purpose = { λ h. h.plain.narrow.allow };
 
-    ghost tells = { JudgedCommits false };
+    ghost tells = { JudgedAny false };
 
     ghost ends = { EndsCommits };
 

@@ -1,7 +1,9 @@
 //! Judges the events of a trace with commits, and counts the situations in which the messages of its beats begin.
 
-ghost use Rattle.std.specs.Prelude.{◌≡◌, [], IfOk};
+ghost use Rattle.std.specs.Prelude.{◌≡◌, [], false, IfOk};
 ghost use Rattle.tl_beat.specs.statement.Width.{IsWidth};
+ghost use Rattle.tl_commit_lines.specs.statement.MarkedHeader.{levels_of};
+ghost use Rattle.tl_cover.specs.statement.Covers.{Covers};
 ghost use Rattle.tl_tried.specs.code.EventCover.{CoversEvents, ReadsEvent, TakesBeatOf, TakesEvent, events_found_in};
 
 use crate::cover_lines::take;
@@ -26,6 +28,21 @@ pub struct EventCovering<const W: usize> {
     line: u64,
 }
 
+/// Follows the links that a header of a trace with commits names.
+pub fn follow_events<const W: usize>(
+    alloc: Global,
+    header: &CommitHeader,
+) -> Result<Covering<W>, AllocError>
+    requires { IsWidth W }
+    ensures { IfOk result (λ c. Covers c (levels_of header.now.links.items) header.now.may [] false) }
+{
+    let levels = levels_of(alloc, header.links.as_slice())?;
+    match Covering::new(alloc, levels.as_slice(), header.may) {
+        Ok(covering) => Ok(covering),
+        Err(_) => Err(AllocError),
+    }
+}
+
 /// Judges an event, and takes it if it is a beat that isn't at fault. A commit is never at fault.
 fn take_beat_of<const W: usize>(
     covering: &mut Covering<W>,
@@ -48,10 +65,7 @@ impl<const W: usize> EventCovering<W> {
         requires { IsWidth W }
         ensures { IfOk result (λ c. CoversEvents c header.now.links.items header.now.may []) }
     {
-        let levels = levels_of(alloc, header.links.as_slice())?;
-        let Ok(covering) = Covering::new(alloc, levels.as_slice(), header.may) else {
-            return Err(AllocError);
-        };
+        let covering = follow_events(alloc, header)?;
         let mut rows = Vec::new(alloc);
         follow_rows(&mut rows, 1, covering.rows())?;
         Ok(EventCovering {

@@ -2,13 +2,13 @@
 
 ghost use Rattle.std.specs.Prelude.{◌≡◌, ◌≢◌, ◌++◌, [], ℕ, List, OnOk, IfErr, IfOk, false};
 ghost use Rattle.std.specs.Io.KnownBytes.{Consumes};
-ghost use Rattle.tl_commit_lines.specs.statement.JudgedEvents.{JudgedCommits};
 ghost use Rattle.tl_engine.specs.statement.Lines.{lines_of};
 ghost use Rattle.tl_engine.specs.statement.Run.{EndsAs};
 ghost use Rattle.tl_engine.specs.declared.status.ToolFault.{ToolFault};
 ghost use Rattle.tl_tried.specs.code.EventFollowing.{found_of_commits};
-ghost use Rattle.tl_tried.specs.statement.EventCovered.{CommitsCovered};
 ghost use Rattle.tl_tried.specs.statement.Tried.{IsTried};
+ghost use Rattle.tl_tried.specs.statement.WideEventCovered.{AnyCovered};
+ghost use Rattle.tl_wide_event_lines.specs.statement.JudgedWideEvents.{JudgedAny};
 
 use crate::cover_events::CoverEvents;
 use std::alloc::{AllocError, Global};
@@ -42,9 +42,9 @@ fn gather<R: Read>(
 ) -> Result<(CoverEvents, Status), ToolFault>
     requires { verdict.old.items ≡ [] }
     ensures ok { IfOk result (λ both. (read : List ℕ) × Consumes (R.remaining reader.old) (R.remaining reader.new) read
-        × JudgedCommits false allow (lines_of read) verdict.new.items both.1
-        × EndsAs (JudgedCommits false allow) (R.remaining reader.new) read verdict.new.items both.1
-        × CommitsCovered allow (lines_of read) (found_of_commits both.0)) }
+        × JudgedAny false allow (lines_of read) verdict.new.items both.1
+        × EndsAs (JudgedAny false allow) (R.remaining reader.new) read verdict.new.items both.1
+        × AnyCovered allow (lines_of read) (found_of_commits both.0)) }
     ensures fault { IfErr result (λ fault. fault ≢ ToolFault.Write) }
 {
     let mut lines = Lines::new(CoverEvents::new(alloc, allow));

@@ -23,6 +23,12 @@ use Rattle.tl_wide.specs.statement.Narrowed.{beats_of}
 use Rattle.tl_wide.specs.statement.Narrowing.{Follows}
 use Rattle.tl_wide.specs.statement.Pieces.{left_of}
 use Rattle.tl_wide.specs.statement.Width.{part_width}
+use Rattle.tl_wide_events.specs.declared.commit.WideCommit.{WideCommit}
+use Rattle.tl_wide_events.specs.declared.commit.WideEvent.{WideEvent}
+use Rattle.tl_wide_events.specs.declared.commit.WideEvent.TheVariants as event
+use Rattle.tl_wide_events.specs.declared.commit.WideEvent.TheVariants.{Commit as OfCommit}
+use Rattle.tl_wide_events.specs.statement.Narrowed.{named_as}
+use Rattle.tl_wide_events.specs.statement.WideEventLine.{SpellsWideEvent, wide_event_fault}
 use Rattle.tl_wide_lines.specs.statement.PartFaults.{part_fault, parts_taken}
 
 -- the situations and the counts of a wide trace
@@ -70,6 +76,28 @@ TakesWideLine w old new line answer =
     ((of_line : LineFault) × (wide_line_fault w line ≡ Some of_line) × (answer ≡ Some (Line of_line))
     × (wide_found_in new ≡ wide_found_in old))
     ⊎ ((link : Link) × (x : WideBeat w) × WideSpells line link x × TakesWideBeat old new link x answer)
+
+-- what it answers of a commit: nothing but its line and the number of its block changes, or its names are too many
+abbrev pub TakesWideCommit : {p : ℕ} → WideCovering p → WideCovering p → Link → WideCommit → Option Fault → Type 0
+TakesWideCommit old new link x answer =
+    ((answer ≡ None) × (new.covering ≡ old.covering) × RowsFollow old new
+    × ((w : ℕ) (t : WideTrace w) → Follows old.narrower t
+    → (is_beyond link ((link, named_as (OfCommit x)) ∷ t) ≡ false) × Follows new.narrower ((link, named_as (OfCommit x)) ∷ t)))
+    ⊎ ((answer ≡ Some Beyond) × (wide_found_in new ≡ wide_found_in old)
+    × ((w : ℕ) (t : WideTrace w) → Follows old.narrower t
+    → is_beyond link ((link, named_as (OfCommit x)) ∷ t) ≡ true))
+
+-- what it answers of an event of a wide trace
+abbrev pub TakesWideEvent : {w p : ℕ} → WideCovering p → WideCovering p → Link → WideEvent w → Option Fault → Type 0
+TakesWideEvent old new link (event.Beat x) answer = TakesWideBeat old new link x answer
+TakesWideEvent old new link (event.Commit x) answer = TakesWideCommit old new link x answer
+
+-- what it answers of a line: the line spells no event, or one of which it answers
+abbrev pub TakesEventLine : {p : ℕ} → ℕ → WideCovering p → WideCovering p → List ℕ → Option Fault → Type 0
+TakesEventLine w old new line answer =
+    ((of_line : LineFault) × (wide_event_fault w line ≡ Some of_line) × (answer ≡ Some (Line of_line))
+    × (wide_found_in new ≡ wide_found_in old))
+    ⊎ ((link : Link) × (x : WideEvent w) × SpellsWideEvent line link x × TakesWideEvent old new link x answer)
 
 -- a covering of these links that has seen no beat, of whatever width
 pub record CoversNone {p : ℕ} (levels : List Level) (may : Liberties) (c : WideCovering p) : Type 0 where

@@ -2,7 +2,6 @@
 use Rattle.std.specs.Prelude.{◌≡◌, ℕ, Bool, false, true, List, [], ◌∷◌, Option}
 use Rattle.std.specs.Prelude.{if◌then◌else◌}
 use Rattle.std.specs.Io.KnownBytes.{Consumes}
-use Rattle.tl_commit_lines.specs.statement.JudgedEvents.{JudgedCommits}
 use Rattle.tl_engine.specs.statement.Lines.{lines_of}
 use Rattle.tl_engine.specs.statement.Parts.{AppendsShort}
 use Rattle.tl_engine.specs.statement.Run.{EndsAs}
@@ -12,15 +11,16 @@ use Rattle.tl_engine.specs.declared.status.ToolFault.{ToolFault}
 use Rattle.tl_engine.specs.declared.status.ToolFault.TheVariants.{Write}
 use Rattle.tl_params.specs.declared.liberties.Liberties.{Liberties}
 use Rattle.tl_tried.specs.declared.tried.Tried.{Tried}
-use Rattle.tl_tried.specs.statement.EventCovered.{CommitsCovered}
+use Rattle.tl_tried.specs.statement.WideEventCovered.{AnyCovered}
+use Rattle.tl_wide_event_lines.specs.statement.JudgedWideEvents.{JudgedAny}
 
 -- The verdict, status, situations and counts of the input that was read, to its end or to a line at fault that no continuation
 -- can mend. The verdict and the status are those of `monitor`.
 abbrev pub IsTried : Liberties → Option (List ℕ) → Option (List ℕ) → Tried → Type 0
 IsTried allow had left tried =
-    (read : List ℕ) × Consumes had left read × JudgedCommits false allow (lines_of read) tried.verdict.items tried.status
-    × EndsAs (JudgedCommits false allow) left read tried.verdict.items tried.status
-    × CommitsCovered allow (lines_of read) (tried.rows.items, tried.cells.items)
+    (read : List ℕ) × Consumes had left read × JudgedAny false allow (lines_of read) tried.verdict.items tried.status
+    × EndsAs (JudgedAny false allow) left read tried.verdict.items tried.status
+    × AnyCovered allow (lines_of read) (tried.rows.items, tried.cells.items)
 
 -- a line is at fault
 abbrev pub is_broken : Status → Bool

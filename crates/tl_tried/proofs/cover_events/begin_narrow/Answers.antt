@@ -1,9 +1,9 @@
 use Rattle.tl_params.specs.declared.width.Width.TheVariants.{Four, Eight, Sixteen}
 use Rattle.tl_tried.proofs.EventCounted.{header-counted}
-use Rattle.tl_tried.proofs.cover_events.begin.Goals as goal
-use Rattle.tl_tried.proofs.cover_events.begin.Goals.{in-Four+in_ok-new-in-Four}
-use Rattle.tl_tried.proofs.cover_events.begin.Goals.{in-Eight+in_ok-new-in-Eight}
-use Rattle.tl_tried.proofs.cover_events.begin.Goals.{in-Sixteen+in_ok-new-in-Sixteen}
+use Rattle.tl_tried.proofs.cover_events.begin_narrow.Goals as goal
+use Rattle.tl_tried.proofs.cover_events.begin_narrow.Goals.{in-Four+in_ok-new-in-Four}
+use Rattle.tl_tried.proofs.cover_events.begin_narrow.Goals.{in-Eight+in_ok-new-in-Eight}
+use Rattle.tl_tried.proofs.cover_events.begin_narrow.Goals.{in-Sixteen+in_ok-new-in-Sixteen}
 
 pub returns : goal.returns
 returns c = elim c.match-header.branch [

@@ -27,6 +27,7 @@ import tempfile
 
 sys.path.insert(0, str(pathlib.Path(__file__).resolve().parent.parent / "bench"))
 from commits_bytes import bytes_told  # noqa: E402
+from commits_model import Beyond  # noqa: E402
 
 # Traces with more lines aren't explained: each load that begins and never ends is followed to the end of a trace.
 LONG = 1000
@@ -111,7 +112,11 @@ def story_slips(tool, trace, fault):
             yield f"{trace.name}: explain cites {line}"
     wanted = stores_told(lines, words, int(width)) if rule in ("M5", "M6", "M7") else []
     if rule in ("M6", "M7"):
-        wanted += bytes_told([header, *lines])
+        try:
+            wanted += bytes_told([header, *lines])
+        except Beyond:
+            # the model has no atomics: then the lines about bytes aren't compared
+            told = [it for it in told if not re.match(r"  (byte |and \d+ more$)", it)]
     if told[3:] and told[len(told) - len(wanted):] != wanted:
         yield f"{trace.name}: explain ends with {told[-len(wanted):]}, not {wanted}"
     if bool(told[3:]) != bool(wanted):

@@ -177,6 +177,7 @@ STORIES = {
   3: 00 D Grant toT size=6 source=00 sink=00 denied=0 data=- corrupt=0
   the last stores to these bytes:
   5: link 00 stores 1 byte at 00000000: 05
+  byte 00000000 is 06, and may be 05, set in line 5
 """,
     "M7": """line 6 M7
   6: 00 C ReleaseData TtoN size=6 source=00 address=00000000 data=0000000000000006 corrupt=0
@@ -184,6 +185,7 @@ STORIES = {
   3: 00 D Grant toT size=6 source=00 sink=00 denied=0 data=- corrupt=0
   the last stores to these bytes:
   5: link 00 stores 1 byte at 00000000: 05
+  byte 00000000 is 06, and may be 05, set in line 5
 """,
     "M7_coming": f"""line 18 M7
   18: 00 C ProbeAckData TtoN size=6 source=00 address=00000000 data={30 * '0'}07 corrupt=0
@@ -192,6 +194,7 @@ STORIES = {
   a GrantData of the block is under way since:
   15: 00 D GrantData toT size=6 source=00 sink=01 denied=0 data={30 * '0'}09 corrupt=0
   no store before it reached these bytes
+  byte 00000000 is 07, and may be 09, set in line 15
 """,
     "M7_dropped": f"""line 9 M7
   9: 00 C Release TtoN size=6 source=00 address=00000000 data=- corrupt=0
@@ -199,6 +202,7 @@ STORIES = {
   6: 00 D GrantData toT size=6 source=00 sink=00 denied=0 data={32 * '0'} corrupt=0
   the last stores to these bytes:
   8: link 00 stores 1 byte at 00000000: 05
+  byte 00000000 of the copy was stored, and may be 05, set in line 8; that of memory wasn't, and may be 00, set in line 6
 """,
 }
 # Lines of no commit, with their faults, and headers in which a mark isn't at its place.
@@ -332,7 +336,7 @@ ROWS = [
     ("seq 10 10 120 | sed '11s/0$/x/;12s/$/ /' >link.times; tltool explain --times link.times wrong_report.trace | grep -c time", 0, "2\n", ""),
     ("(seq 10 10 110; printf 120) >link.times; tltool explain --times link.times wrong_report.trace | grep -c 'time 1[12]0'", 0, "2\n", ""),
     ("seq 10 10 120 >link.times; tltool explain --times link.times wide/wrong_report.trace | sed -n 's/.*corrupt=0//p;s/.*the Probe,/the Probe,/p'", 0, " (time 50)\nthe Probe, of line 5 (time 40):\n (time 40)\n", ""),
-    ("seq 10 10 120 >link.times; tltool explain --coherent --times link.times rules/M6.trace | grep -c 'time [235]0)$\\|time 40)$'", 0, "3\n", ""),
+    ("seq 10 10 120 >link.times; tltool explain --coherent --times link.times rules/M6.trace | grep -c 'time [235]0)$\\|time 40)$'", 0, "4\n", ""),
     ("seq 10 10 120 >link.times; sed '3s/ 00000000/ line 2/' two_caches.trace >fault.trace; tltool explain --times link.times fault.trace | grep time", 1, "", ""),
     ("seq 10 10 120 >link.times; tltool explain --times link.times two_caches.trace", 0, f"clean 29\n  nothing is pending at the end\n{CLEAN_MEANS}", ""),
     ("tltool explain --times none.times wrong_report.trace", 3, "", "tltool: cannot open none.times\n"),

@@ -209,21 +209,7 @@ static void more_names_than_numbers(void) {
 }
 
 #ifdef REFUSALS
-/* The n-th piece of memory that is wanted, counted from 0, is refused. */
-static long until_refusal = -1;
-static int refused;
-extern void *__real_malloc(size_t size);
-extern void *__real_realloc(void *at, size_t size);
-
-static int refuses(void) {
-  if (until_refusal < 0) return 0;
-  if (until_refusal-- > 0) return 0;
-  refused = 1;
-  return 1;
-}
-
-void *__wrap_malloc(size_t size) { return refuses() ? NULL : __real_malloc(size); }
-void *__wrap_realloc(void *at, size_t size) { return refuses() ? NULL : __real_realloc(at, size); }
+#include "refusals.h"
 
 static void a_trace_with_refusals(uint8_t width) {
   for (long n = 0; n < 40; n++) {

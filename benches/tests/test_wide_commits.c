@@ -234,21 +234,7 @@ static void a_far_address_of_a_narrow_link(void) {
 }
 
 #ifdef REFUSALS
-/* The n-th piece of memory that is wanted, counted from 0, is refused. */
-static long until_refusal = -1;
-static int refused;
-extern void *__real_malloc(size_t size);
-extern void *__real_realloc(void *at, size_t size);
-
-static int refuses(void) {
-  if (until_refusal < 0) return 0;
-  if (until_refusal-- > 0) return 0;
-  refused = 1;
-  return 1;
-}
-
-void *__wrap_malloc(size_t size) { return refuses() ? NULL : __real_malloc(size); }
-void *__wrap_realloc(void *at, size_t size) { return refuses() ? NULL : __real_realloc(at, size); }
+#include "refusals.h"
 
 /* Stores and loads of two blocks, each of which is done at the second try if memory was refused. Between both another commit and
    a beat are a bad argument if the first has begun; a judge that another one is taken by isn't asked further. */

@@ -82,6 +82,8 @@ impl<const W: usize> CopyFollower<W> {
         requires { IsWidth W }
         ensures grounds { IfOk result (λ kept. IfSome kept (λ f. KnowsGrounds f.grounds may levels.now [])) }
         ensures values { IfOk result (λ kept. IfSome kept (λ f. KnowsCopy f.record may levels.now complete.now [])) }
+        ensures subject { IfOk result (λ kept. IfSome kept (λ f. (f.record.link ≡ subject.link)
+            × (f.record.block ≡ subject.block))) }
     {
         let record = CopyRecord::new(alloc, subject.link, subject.block, levels, complete, may)?;
         let Some(record) = record else {

@@ -4,9 +4,9 @@ use Rattle.std.proofs.lemmas.List.Folds.{list_any-append}
 use Rattle.std.specs.List.{filter, list_any}
 use Rattle.std.specs.Prelude.{◌==◌, ◌||◌}
 use Rattle.tl_command.specs.statement.LibertyWords.{SpellsLiberties, all_liberties, joined}
-use Rattle.tl_engine.specs.declared.status.Status.{Status}
-use Rattle.tl_engine.specs.statement.LinksHeader.{NamesLinks, fourth_front}
-use Rattle.tl_engine.specs.statement.Trace.{levels_text, trace_word}
+use Rattle.tl_lines.specs.declared.status.Status.{Status}
+use Rattle.tl_lines.specs.statement.LinksHeader.{NamesLinks, fourth_front}
+use Rattle.tl_lines.specs.statement.Trace.{levels_text, trace_word}
 use Rattle.tl_params.specs.declared.header.Version.{Version}
 use Rattle.tl_params.specs.declared.header.Version.TheVariants.{First, Second, Third}
 use Rattle.tl_params.specs.declared.level.Level.{Level}

@@ -3,19 +3,19 @@ use Rattle.std.proofs.Common.{◌≡◌, ◌∙◌, ◌+◌, ◌-◌, ℕ, Bool,
 use Rattle.std.proofs.Common.{length, refl, ap, sym, subst, arith, append_assoc, inl, inr}
 use Rattle.std.specs.Prelude.{IfOk, Option, Some, None, Result, Ok, Err}
 use Rattle.tl_beat.specs.declared.fault.LineFault.TheVariants.{F1}
-use Rattle.tl_engine.proofs.Judged.{said_at_end}
-use Rattle.tl_engine.proofs.OneText.{is_width_of}
-use Rattle.tl_engine.specs.code.GivenUp.{IsKnown}
-use Rattle.tl_engine.specs.code.Judging.{Finishes, IsTotal, Judges, KnowsFor, Stops}
-use Rattle.tl_engine.specs.code.Watching.{end_by}
-use Rattle.tl_engine.specs.declared.fault.Fault.{Fault}
-use Rattle.tl_engine.specs.declared.fault.Fault.TheVariants.{Line}
-use Rattle.tl_engine.specs.declared.status.Status.{Status}
-use Rattle.tl_engine.specs.declared.status.Status.TheVariants.{Clean, Broken}
-use Rattle.tl_engine.specs.statement.Fault.{fault_text}
-use Rattle.tl_engine.specs.statement.JudgedSo.{said_by}
-use Rattle.tl_engine.specs.statement.Lines.{IsOpen}
-use Rattle.tl_engine.specs.statement.Width.{bytes_of}
+use Rattle.tl_lines.proofs.Judged.{said_at_end}
+use Rattle.tl_lines.proofs.OneText.{is_width_of}
+use Rattle.tl_lines.specs.code.GivenUp.{IsKnown}
+use Rattle.tl_lines.specs.code.Judging.{Finishes, IsTotal, Judges, KnowsFor, Stops}
+use Rattle.tl_lines.specs.code.Watching.{end_by}
+use Rattle.tl_lines.specs.declared.fault.Fault.{Fault}
+use Rattle.tl_lines.specs.declared.fault.Fault.TheVariants.{Line}
+use Rattle.tl_lines.specs.declared.status.Status.{Status}
+use Rattle.tl_lines.specs.declared.status.Status.TheVariants.{Clean, Broken}
+use Rattle.tl_lines.specs.statement.Fault.{fault_text}
+use Rattle.tl_lines.specs.statement.JudgedSo.{said_by}
+use Rattle.tl_lines.specs.statement.Lines.{IsOpen}
+use Rattle.tl_lines.specs.statement.Width.{bytes_of}
 use Rattle.tl_params.specs.declared.liberties.Liberties.{Liberties}
 use Rattle.tl_params.specs.declared.width.Width.TheVariants as width
 use Rattle.tl_wide_lines.proofs.TraceJudged.{none-waits, trace-so-far, trace-total, waits-none}

@@ -8,10 +8,10 @@ use Rattle.tl_beat.proofs.SpelledLines.{ends_with_byte-line}
 use Rattle.tl_command.proofs.LibertyWords.{liberties_again, liberties_taken, word-short}
 use Rattle.tl_command.specs.code.LibertyReading.{liberties_at}
 use Rattle.tl_command.specs.statement.LibertyWords.{LacksComma, SpellsLiberties}
-use Rattle.tl_engine.proofs.LinksHeaders.{front-short, front_again, front_taken}
-use Rattle.tl_engine.specs.code.HeadReading.{front_at}
-use Rattle.tl_engine.specs.statement.LinksHeader.{fourth_front}
-use Rattle.tl_engine.specs.statement.Lines.{IsOpen}
+use Rattle.tl_lines.proofs.LinksHeaders.{front-short, front_again, front_taken}
+use Rattle.tl_lines.specs.code.HeadReading.{front_at}
+use Rattle.tl_lines.specs.statement.LinksHeader.{fourth_front}
+use Rattle.tl_lines.specs.statement.Lines.{IsOpen}
 use Rattle.tl_params.proofs.Headers.{is_end-taken, level-short, level_taken, more_levels}
 use Rattle.tl_params.proofs.Options.{some_pair}
 use Rattle.tl_params.proofs.UpTo.{all-so, up_to-end, up_to-step}

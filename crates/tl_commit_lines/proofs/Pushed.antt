@@ -9,8 +9,8 @@ use Rattle.tl_commits.specs.declared.rule.CommitBreach.{CommitBreach}
 use Rattle.tl_commits.specs.statement.Breaches.{broken_event}
 use Rattle.tl_commits.specs.statement.Events.{Events, beats_of}
 use Rattle.tl_commits.specs.statement.Knows.{IsEvent, KnowsCommits}
-use Rattle.tl_engine.specs.declared.fault.Fault.{Fault}
-use Rattle.tl_engine.specs.declared.fault.Fault.TheVariants.{Line, Rule as Breaks}
+use Rattle.tl_lines.specs.declared.fault.Fault.{Fault}
+use Rattle.tl_lines.specs.declared.fault.Fault.TheVariants.{Line, Rule as Breaks}
 use Rattle.tl_events.specs.declared.commit.Commit.{Commit}
 use Rattle.tl_events.specs.declared.commit.Event.{Event}
 use Rattle.tl_events.specs.declared.commit.Event.TheVariants as event

@@ -12,7 +12,7 @@ ghost use Rattle.tl_commit_lines.specs.statement.MarkedHeader.{some_marked};
 
 use arrayvec::ArrayVec;
 use tl_command::liberties::front_liberties;
-use tl_engine::links_header::front;
+use tl_lines::links_header::front;
 use tl_params::config::MOST_CLIENTS;
 use tl_params::header::{front_level, is_end};
 use tl_params::level::Level;

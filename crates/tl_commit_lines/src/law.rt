@@ -3,8 +3,8 @@
 ghost use Rattle.std.specs.Prelude.{◌≡◌, ◌∷◌, ℕ, Bool, List};
 ghost use Rattle.tl_beat.specs.statement.Width.{IsWidth};
 ghost use Rattle.tl_commits.specs.statement.Events.{Events};
-ghost use Rattle.tl_engine.specs.declared.status.Status.{Status};
-ghost use Rattle.tl_engine.specs.statement.LinksHeader.{NamesLinks};
+ghost use Rattle.tl_lines.specs.declared.status.Status.{Status};
+ghost use Rattle.tl_lines.specs.statement.LinksHeader.{NamesLinks};
 ghost use Rattle.tl_params.specs.declared.level.Level.{Level};
 ghost use Rattle.tl_params.specs.declared.liberties.Liberties.{Liberties};
 ghost use Rattle.tl_params.specs.declared.width.Width.{Width};

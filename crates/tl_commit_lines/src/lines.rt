@@ -1,7 +1,7 @@
 //! Judges a recorded trace with or without commits, each link by itself or all together.
 
 ghost use Rattle.std.specs.Prelude.{◌≡◌, ℕ, Bool, List, [], IfOk, None, is_some, true, ⊤};
-ghost use Rattle.tl_engine.specs.code.Judging.{Judges};
+ghost use Rattle.tl_lines.specs.code.Judging.{Judges};
 ghost use Rattle.tl_wide_lines.specs.code.WideWatching.{waits};
 ghost use Rattle.tl_commit_lines.specs.code.EventWatching.{BeginsMarked, KnowsEventLines, WatchesLine};
 ghost use Rattle.tl_commit_lines.specs.code.EventWatching.{events_judged_for};
@@ -11,9 +11,9 @@ use crate::header::read_marked_for;
 use crate::judge::EventJudge;
 use std::alloc::{AllocError, Global};
 use tl_beat::fault::LineFault;
-use tl_engine::fault::Fault;
-use tl_engine::line_handler::LineHandler;
-use tl_engine::monitor_lines::append_end;
+use tl_lines::fault::Fault;
+use tl_lines::line_handler::LineHandler;
+use tl_lines::monitor_lines::append_end;
 use tl_params::liberties::Liberties;
 use tl_params::width::Width;
 use tl_wide_lines::lines::TraceLines;

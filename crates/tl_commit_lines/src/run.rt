@@ -1,14 +1,14 @@
 //! Runs a monitor over a recorded trace with or without commits.
 
 ghost use Rattle.std.specs.Prelude.{IfErr, IfOk, OnErr};
-ghost use Rattle.tl_engine.specs.statement.Run.{GivesUpFor, FailsAt, RunsTo};
+ghost use Rattle.tl_lines.specs.statement.Run.{GivesUpFor, FailsAt, RunsTo};
 ghost use Rattle.tl_commit_lines.specs.statement.JudgedEvents.{CommitsSoFar, JudgedCommits};
 
 use crate::lines::EventLines;
 use std::alloc::Global;
 use std::io::{Read, Write};
-use tl_engine::engine::handle_input;
-use tl_engine::status::{Status, ToolFault};
+use tl_lines::engine::handle_input;
+use tl_lines::status::{Status, ToolFault};
 use tl_params::liberties::Liberties;
 
 /// Judges a recorded trace, each link by itself or all together: reads the input to its end or to the first line at

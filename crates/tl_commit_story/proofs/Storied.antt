@@ -5,15 +5,15 @@ use Rattle.std.specs.Io.KnownBytes.{Consumes}
 use Rattle.tl_commit_lines.proofs.EventsJudged.{commits-so-far, events-have-text}
 use Rattle.tl_commit_lines.specs.code.EventWatching.{KnowsEventLines, events_judged_for}
 use Rattle.tl_commit_lines.specs.statement.JudgedEvents.{CommitsSoFar, JudgedCommits}
-use Rattle.tl_engine.specs.code.GivenUp.{IsKnown}
-use Rattle.tl_engine.specs.code.Judging.{Ends, Finishes, IsTotal, Judges, KnowsFor, Stops}
-use Rattle.tl_engine.specs.code.Progress.{HasAll}
-use Rattle.tl_engine.specs.declared.fault.Fault.{Fault}
-use Rattle.tl_engine.specs.declared.status.Status.{Status}
-use Rattle.tl_engine.specs.declared.status.Status.TheVariants.{Clean, Broken}
-use Rattle.tl_engine.specs.statement.Fault.{fault_text}
-use Rattle.tl_engine.specs.statement.Lines.{lines_of}
-use Rattle.tl_engine.specs.statement.Run.{RunsTo}
+use Rattle.tl_lines.specs.code.GivenUp.{IsKnown}
+use Rattle.tl_lines.specs.code.Judging.{Ends, Finishes, IsTotal, Judges, KnowsFor, Stops}
+use Rattle.tl_lines.specs.code.Progress.{HasAll}
+use Rattle.tl_lines.specs.declared.fault.Fault.{Fault}
+use Rattle.tl_lines.specs.declared.status.Status.{Status}
+use Rattle.tl_lines.specs.declared.status.Status.TheVariants.{Clean, Broken}
+use Rattle.tl_lines.specs.statement.Fault.{fault_text}
+use Rattle.tl_lines.specs.statement.Lines.{lines_of}
+use Rattle.tl_lines.specs.statement.Run.{RunsTo}
 use Rattle.tl_params.specs.declared.liberties.Liberties.{Liberties}
 use Rattle.tl_commit_lines.specs.statement.MarkedHeader.{NamesMarked}
 use Rattle.tl_commit_story.specs.code.Replaying.{EndsStory, HasTold, KnowsStory, ReadsLast, ReadsLine}

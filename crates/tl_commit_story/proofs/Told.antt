@@ -10,7 +10,7 @@ use Rattle.tl_commit_story.specs.code.Stored.{last_in, piece_in}
 use Rattle.tl_commit_story.specs.statement.Cached.{Stored}
 use Rattle.tl_beat.specs.declared.beat.Link.{Link}
 use Rattle.tl_commits.specs.statement.Events.{Events}
-use Rattle.tl_engine.specs.declared.fault.Fault.{Fault}
+use Rattle.tl_lines.specs.declared.fault.Fault.{Fault}
 use Rattle.tl_events.specs.declared.commit.Event.{Event}
 use Rattle.tl_commit_story.specs.statement.Words.{event_text, sentence_of}
 use Rattle.tl_commit_story.specs.statement.Grounds.{front_of, number_or, store_words, stored_words, stores_from}

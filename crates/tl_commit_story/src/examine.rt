@@ -3,7 +3,7 @@
 ghost use Rattle.std.specs.Prelude.{◌≡◌, [], IfErr, IfOk};
 ghost use Rattle.tl_commit_lines.specs.code.EventWatching.{KnowsEventLines, events_judged_for};
 ghost use Rattle.tl_commit_lines.specs.statement.JudgedEvents.{CommitsSoFar, JudgedCommits};
-ghost use Rattle.tl_engine.specs.statement.Unexplained.{IsUnjudged};
+ghost use Rattle.tl_reasons.specs.statement.Unexplained.{IsUnjudged};
 ghost use Rattle.tl_commit_story.specs.statement.Explained.{ReachesEvents};
 
 use crate::asked::AskedBlocks;
@@ -11,15 +11,15 @@ use std::alloc::{AllocError, Global};
 use std::io::Read;
 use tl_commit_lines::header::read_marked_for;
 use tl_commit_lines::lines::EventLines;
-use tl_engine::engine::handle_input;
-use tl_engine::explain::in_memory;
-use tl_engine::explain_fault::ExplainFault;
-use tl_engine::fault::Fault;
-use tl_engine::line_handler::LineHandler;
-use tl_engine::status::Status;
 use tl_explain::told::Spelling;
+use tl_lines::engine::handle_input;
+use tl_lines::fault::Fault;
+use tl_lines::line_handler::LineHandler;
+use tl_lines::status::Status;
 use tl_params::liberties::Liberties;
 use tl_params::width::Width;
+use tl_reasons::explain::in_memory;
+use tl_reasons::explain_fault::ExplainFault;
 
 /// The facts that were found in a trace with commits.
 #[derive(Clone, Copy)]

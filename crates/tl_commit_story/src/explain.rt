@@ -3,10 +3,10 @@
 ghost use Rattle.std.specs.Prelude.{◌≡◌, ◌≢◌, ◌+◌, [], ℕ, List, Bool, IfErr, IfOk, IfSome, OnOk, Option, true};
 ghost use Rattle.std.specs.Io.KnownBytes.{Appends};
 ghost use Rattle.tl_beat.specs.statement.Width.{IsWidth};
-ghost use Rattle.tl_engine.specs.declared.explain_fault.ExplainFault.{ExplainFault};
-ghost use Rattle.tl_engine.specs.declared.status.Status.{Status};
-ghost use Rattle.tl_engine.specs.declared.status.ToolFault.{ToolFault};
-ghost use Rattle.tl_engine.specs.statement.Fault.{fault_text};
+ghost use Rattle.tl_reasons.specs.declared.explain_fault.ExplainFault.{ExplainFault};
+ghost use Rattle.tl_lines.specs.declared.status.Status.{Status};
+ghost use Rattle.tl_lines.specs.declared.status.ToolFault.{ToolFault};
+ghost use Rattle.tl_lines.specs.statement.Fault.{fault_text};
 ghost use Rattle.tl_commit_lines.specs.code.EventWatching.{events_judged_for};
 ghost use Rattle.tl_commit_story.specs.code.Replaying.{KnowsStory};
 ghost use Rattle.tl_params.specs.declared.liberties.Liberties.{Liberties};
@@ -23,16 +23,16 @@ use std::alloc::{AllocError, Global};
 use std::io::{Read, Write};
 use tl_beat::fault::LineFault;
 use tl_commit_lines::lines::EventLines;
-use tl_engine::engine::judge_input;
-use tl_engine::explain::write_both;
-use tl_engine::explain_fault::ExplainFault;
-use tl_engine::fault::{Fault, append_fault};
-use tl_engine::lines::Lines;
-use tl_engine::status::Status;
 use tl_events::event::read_event;
 use tl_explain::told::Spelling;
+use tl_lines::engine::judge_input;
+use tl_lines::fault::{Fault, append_fault};
+use tl_lines::lines::Lines;
+use tl_lines::status::Status;
 use tl_params::liberties::Liberties;
 use tl_params::width::Width;
+use tl_reasons::explain::write_both;
+use tl_reasons::explain_fault::ExplainFault;
 
 /// Whether two texts are the same.
 fn is_same(one: &[u8], other: &[u8]) -> bool

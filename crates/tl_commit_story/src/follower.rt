@@ -11,9 +11,9 @@ use std::alloc::{AllocError, Global};
 use tl_beat::beat::Link;
 use tl_commit_lines::header::MarkedLevel;
 use tl_commit_lines::judge::{complete_of, levels_of};
-use tl_engine::fault::Fault;
 use tl_events::commit::Event;
 use tl_explain::turns::Subject;
+use tl_lines::fault::Fault;
 use tl_params::liberties::Liberties;
 
 /// Keeps the facts of a trace's events that the grounds for its first fault need.

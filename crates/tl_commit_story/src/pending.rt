@@ -10,12 +10,12 @@ use std::alloc::{AllocError, Global};
 use tl_beat::beat::{Beat, Link};
 use tl_commit_lines::header::read_marked_for;
 use tl_commit_lines::judge::levels_of;
-use tl_engine::fault::Fault;
-use tl_engine::line_handler::LineHandler;
 use tl_events::commit::Event;
 use tl_events::event::read_event;
 use tl_explain::ledger::Ledger;
 use tl_explain::wording::AsRecorded;
+use tl_lines::fault::Fault;
+use tl_lines::line_handler::LineHandler;
 use tl_monitor::monitor::Monitor;
 use tl_params::liberties::Liberties;
 

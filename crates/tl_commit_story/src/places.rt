@@ -4,9 +4,9 @@ ghost use Rattle.std.specs.Prelude.{◌≡◌, ◌+◌, ◌≤◌, ◌%◌, ◌^
 ghost use Rattle.tl_commit_story.specs.statement.Cached;
 
 use tl_beat::beat::{Beat, Link};
-use tl_engine::explain::subject_of;
 use tl_events::commit::{Commit, Event, Piece};
 use tl_explain::turns::Subject;
+use tl_lines::subject::subject_of;
 use tl_rules::key::block_at;
 
 /// The number of bytes in a block.

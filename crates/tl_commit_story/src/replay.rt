@@ -2,8 +2,8 @@
 
 use crate::follower::Follower;
 use std::alloc::Global;
-use tl_engine::fault::Fault;
 use tl_explain::turns::Subject;
+use tl_lines::fault::Fault;
 use tl_params::liberties::Liberties;
 
 /// How far the lines have been read again.

@@ -2,7 +2,7 @@
 
 ghost use Rattle.std.specs.Prelude.{◌≡◌, [], true, IfOk, None, OnOk};
 ghost use Rattle.tl_beat.specs.statement.Width.{IsWidth};
-ghost use Rattle.tl_engine.specs.statement.Width.{bytes_of};
+ghost use Rattle.tl_lines.specs.statement.Width.{bytes_of};
 ghost use Rattle.tl_commit_story.specs.code.Replaying.{Begins, HasReasons, Reads, ReadsLast};
 ghost use Rattle.tl_commit_story.specs.code.Replaying.{ReadsLine, ReadsOn, TakesLine};
 
@@ -12,8 +12,8 @@ use crate::sentences::append_rule;
 use crate::words::append_event;
 use std::alloc::{AllocError, Global};
 use tl_commit_lines::header::read_marked_for;
-use tl_engine::fault::Fault;
 use tl_events::event::read_event;
+use tl_lines::fault::Fault;
 use tl_params::width::Width;
 
 /// The number of bytes of a beat.

@@ -5,9 +5,9 @@ ghost use Rattle.tl_commit_story.specs.statement.Words;
 
 use std::alloc::AllocError;
 use tl_beat::fault::LineFault;
-use tl_engine::commit_rules::append_commit_sentence;
-use tl_engine::fault::Fault;
 use tl_explain::named::{append_memory_sentence, append_sentence};
+use tl_lines::fault::Fault;
+use tl_reasons::commit_rules::append_commit_sentence;
 
 /// Appends the sentence of the rule that a fault breaks, nothing for another fault.
 pub fn append_rule(fault: Fault, out: &mut Vec<u8>) -> Result<(), AllocError>

@@ -5,8 +5,8 @@ ghost use Rattle.tl_beat.specs.statement.Width.{IsWidth, IsWidth-prop};
 use crate::replay::Replay;
 use std::alloc::AllocError;
 use tl_commit_lines::lines::EventLines;
-use tl_engine::fault::Fault;
-use tl_engine::line_handler::LineHandler;
+use tl_lines::fault::Fault;
+use tl_lines::line_handler::LineHandler;
 
 /// Judges the lines of a trace with commits, and reads them again.
 #[derive(Drop)]

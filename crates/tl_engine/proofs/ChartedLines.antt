@@ -34,31 +34,31 @@ use Rattle.tl_memory.proofs.messages.LinkTables.{link-there}
 use Rattle.tl_monitor.specs.statement.Knows.{KnowsUnder, begins_on, fault_under}
 use Rattle.tl_engine.specs.code.Charting.{EndsChart, EndsCharting, EndsJudge, IsBegun, KnowsChart, KnowsCharting}
 use Rattle.tl_engine.specs.code.Charting.{GathersLine, KnowsJudge, fault_of_chart, gatherer_in}
-use Rattle.tl_engine.specs.code.Judging.{Ends, Finishes, Judges, Stops}
-use Rattle.tl_engine.specs.statement.Lines.{IsOpen, lines_of}
-use Rattle.tl_engine.specs.code.Progress.{HasAll}
-use Rattle.tl_engine.specs.statement.Run.{EndsAs}
-use Rattle.tl_engine.specs.code.LinkWatching.{KnowsTrace}
-use Rattle.tl_engine.specs.code.TraceJudging.{KnowsBeats}
-use Rattle.tl_engine.specs.code.Watching.{end_by}
-use Rattle.tl_engine.specs.declared.trace_judge.TraceJudge.TheVariants.{OfLinks}
+use Rattle.tl_lines.specs.code.Judging.{Ends, Finishes, Judges, Stops}
+use Rattle.tl_lines.specs.statement.Lines.{IsOpen, lines_of}
+use Rattle.tl_lines.specs.code.Progress.{HasAll}
+use Rattle.tl_lines.specs.statement.Run.{EndsAs}
+use Rattle.tl_lines.specs.code.LinkWatching.{KnowsTrace}
+use Rattle.tl_lines.specs.code.TraceJudging.{KnowsBeats}
+use Rattle.tl_lines.specs.code.Watching.{end_by}
+use Rattle.tl_lines.specs.declared.trace_judge.TraceJudge.TheVariants.{OfLinks}
 use Rattle.tl_engine.specs.declared.charting.ChartJudge.{ChartJudge}
 use Rattle.tl_engine.specs.declared.charting.ChartJudge.TheVariants.{Waiting, Four, Eight, Sixteen}
 use Rattle.tl_engine.specs.declared.charting.ChartLines.{ChartLines}
 use Rattle.tl_engine.specs.declared.charting.Charting.{Charting}
-use Rattle.tl_engine.specs.declared.fault.Fault.{Fault}
-use Rattle.tl_engine.specs.declared.fault.Fault.TheVariants.{Header, Line, Rule as Breaks}
-use Rattle.tl_engine.specs.declared.status.Status.{Status}
-use Rattle.tl_engine.specs.declared.status.Status.TheVariants.{Clean, Broken}
+use Rattle.tl_lines.specs.declared.fault.Fault.{Fault}
+use Rattle.tl_lines.specs.declared.fault.Fault.TheVariants.{Header, Line, Rule as Breaks}
+use Rattle.tl_lines.specs.declared.status.Status.{Status}
+use Rattle.tl_lines.specs.declared.status.Status.TheVariants.{Clean, Broken}
 use Rattle.tl_engine.specs.statement.Charted.{Charts, Draws, DrawsAfter, IsCharted, is_broken}
-use Rattle.tl_engine.specs.statement.Fault.{fault_name, fault_text}
-use Rattle.tl_engine.specs.statement.Judged.{JudgedAfter, JudgedBy, clean_text}
-use Rattle.tl_engine.specs.statement.JudgedLinks.{JudgedLinks, faults_by, faults_under}
-use Rattle.tl_engine.specs.statement.LinksHeader.{NamesAllowed}
-use Rattle.tl_engine.specs.statement.Width.{bytes_of}
-use Rattle.tl_engine.proofs.Decoded.{open_fault}
-use Rattle.tl_engine.proofs.JudgedLines.{end_so, open_so}
-use Rattle.tl_engine.proofs.JudgedTraces.{bad_line, header_unread, header_unseen}
+use Rattle.tl_lines.specs.statement.Fault.{fault_name, fault_text}
+use Rattle.tl_lines.specs.statement.Judged.{JudgedAfter, JudgedBy, clean_text}
+use Rattle.tl_lines.specs.statement.JudgedLinks.{JudgedLinks, faults_by, faults_under}
+use Rattle.tl_lines.specs.statement.LinksHeader.{NamesAllowed}
+use Rattle.tl_lines.specs.statement.Width.{bytes_of}
+use Rattle.tl_lines.proofs.Decoded.{open_fault}
+use Rattle.tl_lines.proofs.JudgedLines.{end_so, open_so}
+use Rattle.tl_lines.proofs.JudgedTraces.{bad_line, header_unread, header_unseen}
 use Rattle.tl_monitor.proofs.Within.{begins_within}
 
 -- ---- a line that is read

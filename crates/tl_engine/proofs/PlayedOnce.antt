@@ -14,10 +14,10 @@ use Rattle.tl_params.specs.statement.Header.{width_of}
 use Rattle.tl_schedule.proofs.WholeLines.{said_read}
 use Rattle.tl_schedule.proofs.Headers.{spelled_read}
 use Rattle.tl_coherence.specs.statement.Log.{Log}
-use Rattle.tl_engine.specs.declared.status.Status.{Status}
+use Rattle.tl_lines.specs.declared.status.Status.{Status}
 use Rattle.tl_engine.specs.statement.Played.{HeadsSchedule, Played, PlayedAfter, Plays, header_text}
-use Rattle.tl_engine.specs.statement.Width.{bytes_of}
-use Rattle.tl_engine.proofs.OneText.{AreOne, is_width_of}
+use Rattle.tl_lines.specs.statement.Width.{bytes_of}
+use Rattle.tl_lines.proofs.OneText.{AreOne, is_width_of}
 use Rattle.tl_engine.proofs.Played.{drained-once}
 use Rattle.tl_engine.proofs.Playing.{schedule_of}
 

@@ -26,21 +26,21 @@ use Rattle.tl_coherence.specs.statement.Log.{Log, IsLog, system_after}
 use Rattle.tl_coherence.specs.statement.Movable.{drained, next_delivery, with_delivery}
 use Rattle.tl_world.proofs.Happened.{given-more}
 use Rattle.tl_coherence.proofs.bound.Settling.{drain, given-delivering}
-use Rattle.tl_engine.specs.declared.fault.Fault.{Fault}
-use Rattle.tl_engine.specs.declared.fault.Fault.TheVariants.{Header, Event as NoEvent}
+use Rattle.tl_lines.specs.declared.fault.Fault.{Fault}
+use Rattle.tl_lines.specs.declared.fault.Fault.TheVariants.{Header, Event as NoEvent}
 use Rattle.tl_engine.specs.declared.play.Player.{Player}
 use Rattle.tl_engine.specs.declared.run_lines.RunLines.{RunLines}
 use Rattle.tl_engine.specs.declared.run_lines.RunLines.TheVariants.{Waiting, Four, Eight, Sixteen}
-use Rattle.tl_engine.specs.declared.status.Status.{Status}
-use Rattle.tl_engine.specs.declared.status.Status.TheVariants.{Clean, Broken}
-use Rattle.tl_engine.specs.statement.Fault.{fault_text}
-use Rattle.tl_engine.specs.code.Judging.{Finishes, IsTotal, Judges, Stops}
-use Rattle.tl_engine.specs.statement.Lines.{IsOpen}
+use Rattle.tl_lines.specs.declared.status.Status.{Status}
+use Rattle.tl_lines.specs.declared.status.Status.TheVariants.{Clean, Broken}
+use Rattle.tl_lines.specs.statement.Fault.{fault_text}
+use Rattle.tl_lines.specs.code.Judging.{Finishes, IsTotal, Judges, Stops}
+use Rattle.tl_lines.specs.statement.Lines.{IsOpen}
 use Rattle.tl_engine.specs.statement.Played.{HeadsSchedule, Played, PlayedAfter, Plays, deliveries_text, event_text}
 use Rattle.tl_engine.specs.statement.Played.{header_text, number_text, outcome_after}
 use Rattle.tl_engine.specs.code.Playing.{HasPlayed, KnowsPlay, KnowsSchedule, Opens, PlaysLine, form_of}
-use Rattle.tl_engine.specs.statement.Width.{bytes_of}
-use Rattle.tl_engine.proofs.OneText.{is_width_of}
+use Rattle.tl_lines.specs.statement.Width.{bytes_of}
+use Rattle.tl_lines.proofs.OneText.{is_width_of}
 use Rattle.tl_engine.proofs.ShortHeaders.{header-unopened}
 use Rattle.tl_engine.proofs.SaidLines.{open-fault, open-none, says-or-not, typed-spelled}
 

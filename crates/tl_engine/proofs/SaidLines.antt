@@ -20,7 +20,7 @@ use Rattle.tl_schedule.specs.statement.EventLine.{SpellsEvent, SpellsLine, asked
 use Rattle.tl_schedule.specs.statement.EventLine.{payload_of}
 use Rattle.tl_schedule.specs.code.EventReading.{event_at, line_at}
 use Rattle.tl_schedule.proofs.WholeLines.{read_said, said_read}
-use Rattle.tl_engine.specs.statement.Lines.{IsOpen}
+use Rattle.tl_lines.specs.statement.Lines.{IsOpen}
 
 -- ---- sizes
 

@@ -14,7 +14,7 @@ use Rattle.tl_params.specs.statement.Header.{level_text, version_text}
 use Rattle.tl_params.specs.statement.Range.{is_from_to}
 use Rattle.tl_params.proofs.Headers.{level-short, version-short}
 use Rattle.tl_schedule.specs.statement.Schedule.{clients_text, schedule_line, schedule_word}
-use Rattle.tl_engine.specs.statement.Lines.{IsOpen}
+use Rattle.tl_lines.specs.statement.Lines.{IsOpen}
 use Rattle.tl_engine.specs.statement.Played.{HeadsSchedule}
 use Rattle.tl_beat.proofs.SpelledLines.{ends_with_byte-line}
 

@@ -4,21 +4,21 @@ use Rattle.std.proofs.lemmas.List.{append-nil}
 use Rattle.tl_command.specs.declared.command.Command.TheVariants.{Decode, Run}
 use Rattle.tl_params.specs.declared.width.Width.{Width}
 use Rattle.std.specs.Prelude.{Bool, ◌⊎◌, ◌++◌}
-use Rattle.tl_engine.specs.declared.beat_judge.BeatJudge.{BeatJudge}
-use Rattle.tl_engine.specs.declared.monitor_lines.MonitorLines.{MonitorLines}
-use Rattle.tl_engine.specs.declared.monitor_lines.MonitorLines.TheVariants as watching
+use Rattle.tl_lines.specs.declared.beat_judge.BeatJudge.{BeatJudge}
+use Rattle.tl_lines.specs.declared.monitor_lines.MonitorLines.{MonitorLines}
+use Rattle.tl_lines.specs.declared.monitor_lines.MonitorLines.TheVariants as watching
 use Rattle.tl_engine.specs.declared.play.Player.{Player}
 use Rattle.tl_engine.specs.declared.run_lines.RunLines.{RunLines}
 use Rattle.tl_engine.specs.declared.run_lines.RunLines.TheVariants as playing
-use Rattle.tl_engine.specs.declared.status.Status.TheVariants.{Clean}
+use Rattle.tl_lines.specs.declared.status.Status.TheVariants.{Clean}
 use Rattle.tl_engine.specs.code.Playing.{KnowsPlay, KnowsSchedule, form_of}
-use Rattle.tl_engine.specs.code.Watching.{KnowsLines, KnowsTrace, is_together}
-use Rattle.tl_engine.specs.statement.JudgedSo.{JudgedSo, said_by}
-use Rattle.tl_engine.specs.statement.Decoded.{Decodes, DecodesBefore}
-use Rattle.tl_engine.specs.statement.Judged.{JudgedAfter}
+use Rattle.tl_lines.specs.code.Watching.{KnowsLines, KnowsTrace, is_together}
+use Rattle.tl_lines.specs.statement.JudgedSo.{JudgedSo, said_by}
+use Rattle.tl_lines.specs.statement.Decoded.{Decodes, DecodesBefore}
+use Rattle.tl_lines.specs.statement.Judged.{JudgedAfter}
 use Rattle.tl_engine.specs.statement.Played.{PlayedAfter}
 use Rattle.tl_engine.specs.statement.Told.{text_so_far}
-use Rattle.tl_engine.specs.statement.Width.{bytes_of}
+use Rattle.tl_lines.specs.statement.Width.{bytes_of}
 
 pub decoded_so_far : (width : Width) (lines : List (List ℕ)) (text : List ℕ) → DecodesBefore (bytes_of width) lines text
     → text_so_far (Decode width) lines text

@@ -3,17 +3,17 @@ use Rattle.std.proofs.Common.{ℕ, List, refl}
 use Rattle.tl_command.specs.declared.command.Command.{Command}
 use Rattle.tl_command.specs.declared.command.Command.TheVariants.{Coherent, Decode, Explain, Monitor, Run}
 use Rattle.tl_params.specs.declared.width.Width.TheVariants.{Four, Eight, Sixteen}
-use Rattle.tl_engine.specs.statement.JudgedSo.{faults_by, said_by}
-use Rattle.tl_engine.specs.declared.status.Status.{Status}
-use Rattle.tl_engine.specs.statement.Coherent.{coherent_text, faults_together}
-use Rattle.tl_engine.specs.statement.Judged.{clean_text, faults_of_links}
+use Rattle.tl_lines.specs.statement.JudgedSo.{faults_by, said_by}
+use Rattle.tl_lines.specs.declared.status.Status.{Status}
+use Rattle.tl_lines.specs.statement.Coherent.{coherent_text, faults_together}
+use Rattle.tl_lines.specs.statement.Judged.{clean_text, faults_of_links}
 use Rattle.tl_engine.specs.statement.Told.{text_told}
-use Rattle.tl_engine.specs.statement.Width.{bytes_of}
-use Rattle.tl_engine.proofs.Decoded.{decodes, judged_line}
-use Rattle.tl_engine.proofs.Headers.{header_or_none}
-use Rattle.tl_engine.proofs.JudgedTraces.{judged_whole}
-use Rattle.tl_engine.specs.statement.Trace.{SpellsHeader}
-use Rattle.tl_engine.proofs.OneText.{AreOne, decodes_once, is_width_of, judged_once}
+use Rattle.tl_lines.specs.statement.Width.{bytes_of}
+use Rattle.tl_lines.proofs.Decoded.{decodes, judged_line}
+use Rattle.tl_lines.proofs.Headers.{header_or_none}
+use Rattle.tl_lines.proofs.JudgedTraces.{judged_whole}
+use Rattle.tl_lines.specs.statement.Trace.{SpellsHeader}
+use Rattle.tl_lines.proofs.OneText.{AreOne, decodes_once, is_width_of, judged_once}
 use Rattle.tl_engine.proofs.PlayedOnce.{played-once}
 use Rattle.tl_engine.proofs.Playing.{played-whole}
 

@@ -2,11 +2,11 @@
 use Rattle.std.proofs.Common.{ℕ, List, ap}
 use Rattle.std.specs.Prelude.{option_map}
 use Rattle.tl_coherence.proofs.flow.FlowTraces.{delivered-unbroken}
-use Rattle.tl_engine.specs.declared.fault.Fault.TheVariants.{Rule as Breaks}
+use Rattle.tl_lines.specs.declared.fault.Fault.TheVariants.{Rule as Breaks}
 use Rattle.tl_command.specs.declared.command.RunForm.TheVariants as form
-use Rattle.tl_engine.specs.declared.status.Status.{Status}
+use Rattle.tl_lines.specs.declared.status.Status.{Status}
 use Rattle.tl_engine.specs.laws.Clean.{IsClean, IsUpTo}
-use Rattle.tl_engine.specs.statement.Judged.{clean_text, faults_of_links}
+use Rattle.tl_lines.specs.statement.Judged.{clean_text, faults_of_links}
 use Rattle.tl_engine.specs.statement.Played.{Played}
 use Rattle.tl_engine.proofs.TraceQuiet.{AreQuiet, trace-quiet}
 

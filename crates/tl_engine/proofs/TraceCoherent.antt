@@ -15,9 +15,9 @@ use Rattle.tl_together.specs.declared.breach.Breach.{Breach}
 use Rattle.tl_together.specs.statement.Coherence.{breach_from, breach_or, broken_together, first_breach}
 use Rattle.tl_true_bytes.proofs.Together.{concord}
 use Rattle.tl_command.specs.declared.command.RunForm.TheVariants as form
-use Rattle.tl_engine.specs.declared.status.Status.{Status}
+use Rattle.tl_lines.specs.declared.status.Status.{Status}
 use Rattle.tl_engine.specs.laws.Clean.{IsCoherent, IsUpTo}
-use Rattle.tl_engine.specs.statement.Coherent.{coherent_text, fault_of_breach, faults_together}
+use Rattle.tl_lines.specs.statement.Coherent.{coherent_text, fault_of_breach, faults_together}
 use Rattle.tl_engine.specs.statement.Played.{Played}
 use Rattle.tl_engine.proofs.TraceQuiet.{AreQuiet, trace-quiet}
 

@@ -38,22 +38,22 @@ use Rattle.tl_coherence.proofs.lines.Delivered.{are-in_range}
 use Rattle.tl_coherence.proofs.flow.Flows.{asked-still}
 use Rattle.tl_coherence.proofs.flow.FlowTraces.{levelled, taken}
 use Rattle.tl_world.proofs.Happened.{given-more}
-use Rattle.tl_engine.specs.declared.fault.Fault.TheVariants.{Event as NoEvent}
-use Rattle.tl_engine.specs.declared.status.Status.{Status}
-use Rattle.tl_engine.specs.declared.status.Status.TheVariants.{Clean, Broken}
+use Rattle.tl_lines.specs.declared.fault.Fault.TheVariants.{Event as NoEvent}
+use Rattle.tl_lines.specs.declared.status.Status.{Status}
+use Rattle.tl_lines.specs.declared.status.Status.TheVariants.{Clean, Broken}
 use Rattle.tl_engine.specs.laws.Clean.{IsUpTo}
-use Rattle.tl_engine.specs.statement.Fault.{fault_text}
-use Rattle.tl_engine.specs.statement.Judged.{Faults, JudgedAfter, JudgedBy}
-use Rattle.tl_engine.specs.statement.Lines.{lines_of}
+use Rattle.tl_lines.specs.statement.Fault.{fault_text}
+use Rattle.tl_lines.specs.statement.Judged.{Faults, JudgedAfter, JudgedBy}
+use Rattle.tl_lines.specs.statement.Lines.{lines_of}
 use Rattle.tl_engine.specs.statement.Played.{HeadsSchedule, Played, PlayedAfter, Plays, deliveries_text, delivery_text}
 use Rattle.tl_engine.specs.statement.Played.{outcome_after}
-use Rattle.tl_engine.specs.statement.Trace.{SpellsHeader, header_line, levels_text, trace_word}
-use Rattle.tl_engine.specs.statement.Width.{bytes_of}
-use Rattle.tl_engine.proofs.InputLines.{lines_of-line}
-use Rattle.tl_engine.proofs.OneText.{is_width_of}
+use Rattle.tl_lines.specs.statement.Trace.{SpellsHeader, header_line, levels_text, trace_word}
+use Rattle.tl_lines.specs.statement.Width.{bytes_of}
+use Rattle.tl_lines.proofs.InputLines.{lines_of-line}
+use Rattle.tl_lines.proofs.OneText.{is_width_of}
 use Rattle.tl_engine.proofs.Playing.{given-first, header-fits}
 use Rattle.tl_engine.proofs.SaidLines.{ranged-spelled, typed-spelled}
-use Rattle.tl_engine.proofs.Unended.{lacks-beat, lacks-header}
+use Rattle.tl_lines.proofs.Unended.{lacks-beat, lacks-header}
 use Rattle.tl_engine.proofs.Writable.{delivered-writable}
 
 -- No beat that is delivered is at fault behind what was delivered before it.

@@ -1,16 +1,2 @@
 pub mod Charting
-pub mod Examining
-pub mod Explaining
-pub mod GivenUp
-pub mod Judging
 pub mod Playing
-pub mod Progress
-pub mod Replaying
-pub mod Run
-pub mod Testifying
-pub mod TraceReading
-pub mod Tracing
-pub mod Watching
-pub mod HeadReading
-pub mod LinkWatching
-pub mod TraceJudging

@@ -3,22 +3,22 @@
 ghost use Rattle.std.specs.Prelude.{◌≡◌, ◌≢◌, ◌++◌, ◌-◌, [], ℕ, List, IfErr, IfOk, codes, false, length, take};
 ghost use Rattle.std.specs.Io.KnownBytes.{Appends, Consumes};
 ghost use Rattle.tl_engine.specs.code.Charting.{EndsChart};
-ghost use Rattle.tl_engine.specs.statement.Lines.{lines_of};
-ghost use Rattle.tl_engine.specs.statement.Run.{EndsAs};
+ghost use Rattle.tl_lines.specs.statement.Lines.{lines_of};
+ghost use Rattle.tl_lines.specs.statement.Run.{EndsAs};
 ghost use Rattle.tl_engine.specs.statement.Charted.{Charts, GivesUpCharting, IsCharted, is_broken};
-ghost use Rattle.tl_engine.specs.statement.JudgedLinks.{JudgedLinks};
-ghost use Rattle.tl_engine.specs.declared.status.ToolFault.{ToolFault};
+ghost use Rattle.tl_lines.specs.statement.JudgedLinks.{JudgedLinks};
+ghost use Rattle.tl_lines.specs.declared.status.ToolFault.{ToolFault};
 
 use crate::charting::ChartLines;
-use crate::engine::judge_input;
-use crate::lines::Lines;
-use crate::output::write_all;
-use crate::status::{Status, ToolFault};
 use std::alloc::{AllocError, Global};
 use std::io::{Read, Write};
 use tl_chart::chart::{Verdict, append_chart};
 pub use tl_chart::window::Window;
 use tl_command::chart::Range;
+use tl_lines::engine::judge_input;
+use tl_lines::lines::Lines;
+use tl_lines::output::write_all;
+use tl_lines::status::{Status, ToolFault};
 use tl_params::liberties::Liberties;
 
 /// The window of a chart: the first 200 messages if no lines are given, otherwise at most 2,000.

@@ -7,7 +7,7 @@ ghost use Rattle.tl_params.specs.statement.Liberties.{liberties_of};
 ghost use Rattle.tl_engine.specs.laws.Clean.{IsClean, IsCoherent, IsUpTo};
 ghost use Rattle.tl_engine.specs.statement.CommitsHeader.{liberties_text};
 ghost use Rattle.tl_engine.specs.statement.Told.{text_told};
-ghost use Rattle.tl_engine.specs.declared.status.Status.{Status};
+ghost use Rattle.tl_lines.specs.declared.status.Status.{Status};
 ghost use Rattle.tl_command.specs.declared.command.Command.{Command};
 ghost use Rattle.tl_command.specs.declared.command.Command.TheVariants.{Run};
 ghost use Rattle.tl_command.specs.declared.command.RunForm.{RunForm};

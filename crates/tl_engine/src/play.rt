@@ -15,7 +15,6 @@ ghost use Rattle.tl_world.specs.statement.Answered.{answered};
 ghost use Rattle.tl_engine.specs.statement.Played.{number_text};
 ghost use Rattle.tl_engine.specs.code.Playing.{Drains, Happens, HasPlayed, PlaysLine, PlaysOn, Writes};
 
-use crate::fault::Fault;
 use crate::trace_header::world_of;
 use std::alloc::{AllocError, Global};
 use tl_beat::beat::Link;
@@ -25,6 +24,7 @@ use tl_client::operation::Op;
 use tl_client::reply::Reply;
 use tl_coherence::event::{Event, Outcome};
 use tl_command::command::RunForm;
+use tl_lines::fault::Fault;
 use tl_manager::bits::BitDirectory;
 use tl_rules::config::Config;
 use tl_schedule::commit::{append_asked_commit, append_commits};

@@ -3,15 +3,15 @@
 ghost use Rattle.std.specs.Prelude.{◌≡◌, IfOk, ⊤};
 ghost use Rattle.tl_engine.specs.declared.run_lines.RunLines.{RunLines};
 ghost use Rattle.tl_engine.specs.statement.Played.{Played};
-ghost use Rattle.tl_engine.specs.code.Judging.{Judges};
+ghost use Rattle.tl_lines.specs.code.Judging.{Judges};
 ghost use Rattle.tl_engine.specs.code.Playing.{KnowsSchedule, Opens, form_of};
 
-use crate::fault::Fault;
-use crate::line_handler::LineHandler;
 use crate::play::{Player, play, player_of};
 use crate::trace_header::append_header;
 use std::alloc::{AllocError, Global};
 use tl_command::command::RunForm;
+use tl_lines::fault::Fault;
+use tl_lines::line_handler::LineHandler;
 use tl_params::width::Width;
 use tl_schedule::header::read_schedule;
 use tl_schedule::line::EventFault;

@@ -1,17 +1,17 @@
 //! Runs a command over an input.
 
 ghost use Rattle.std.specs.Prelude.{◌≡◌, ℕ, List, IfErr, IfOk, OnErr};
-ghost use Rattle.tl_engine.specs.statement.Run.{GivesUpFor, FailsAt, RunsTo};
+ghost use Rattle.tl_lines.specs.statement.Run.{GivesUpFor, FailsAt, RunsTo};
 ghost use Rattle.tl_engine.specs.statement.Told.{text_so_far, text_told};
 
-use crate::decoder::Decoder;
-use crate::engine::handle_input;
-use crate::monitor_lines::MonitorLines;
 use crate::run_lines::RunLines;
-use crate::status::{Status, ToolFault};
 use std::alloc::Global;
 use std::io::{Read, Write};
 use tl_command::command::{Command, RunForm, Width};
+use tl_lines::decoder::Decoder;
+use tl_lines::engine::handle_input;
+use tl_lines::monitor_lines::MonitorLines;
+use tl_lines::status::{Status, ToolFault};
 
 /// Runs a command: reads the input to its end or to the first line at fault, and writes the command's text of it. For
 /// `explain` that is only the verdict, since its reasons need a second reading. The memory of `decode` doesn't grow

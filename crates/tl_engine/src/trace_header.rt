@@ -7,7 +7,7 @@ ghost use Rattle.tl_params.specs.statement.Header.{level_text, profile_text, ver
 ghost use Rattle.tl_engine.specs.statement.CommitsHeader.{commits_header_line, level_shown, levels_shown, liberties_text};
 ghost use Rattle.tl_engine.specs.statement.Played.{header_text};
 ghost use Rattle.tl_engine.specs.statement.PlayableWorld.{HasHappened};
-ghost use Rattle.tl_engine.specs.statement.Trace.{header_line};
+ghost use Rattle.tl_lines.specs.statement.Trace.{header_line};
 
 use std::alloc::{AllocError, Global};
 use tl_client::any::AnyClient;

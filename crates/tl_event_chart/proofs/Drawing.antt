@@ -6,11 +6,11 @@ use Rattle.std.specs.Prelude.{IfOk, Option, Some, None, Result, Ok, Err}
 use Rattle.tl_chart.specs.declared.note.Note.{Note}
 use Rattle.tl_chart.specs.declared.window.Window.{Window}
 use Rattle.tl_commit_lines.specs.code.EventWatching.{KnowsEventLines}
-use Rattle.tl_engine.specs.code.Judging.{Ends, Finishes, Judges, Stops}
-use Rattle.tl_engine.specs.code.Progress.{HasAll}
-use Rattle.tl_engine.specs.declared.fault.Fault.{Fault}
-use Rattle.tl_engine.specs.declared.status.Status.{Status}
-use Rattle.tl_engine.specs.declared.status.Status.TheVariants.{Clean, Broken}
+use Rattle.tl_lines.specs.code.Judging.{Ends, Finishes, Judges, Stops}
+use Rattle.tl_lines.specs.code.Progress.{HasAll}
+use Rattle.tl_lines.specs.declared.fault.Fault.{Fault}
+use Rattle.tl_lines.specs.declared.status.Status.{Status}
+use Rattle.tl_lines.specs.declared.status.Status.TheVariants.{Clean, Broken}
 use Rattle.tl_event_chart.proofs.Narrowing.{narrows-on}
 use Rattle.tl_event_chart.specs.code.Drawing.{Draws, DrawsLine, EndsCharted, HasNotes, KnowsCharted, MayNote, Narrows}
 use Rattle.tl_event_chart.specs.declared.canvas.Canvas.{Canvas}

@@ -12,13 +12,13 @@ use Rattle.tl_chart.specs.statement.Chart.{IsChartBeside}
 use Rattle.tl_commit_lines.specs.statement.JudgedEvents.{JudgedCommits, JudgedEvents}
 use Rattle.tl_commits.specs.statement.Events.{Events}
 use Rattle.tl_engine.proofs.ChartedLines.{verdict_ended}
-use Rattle.tl_engine.specs.declared.fault.Fault.{Fault}
-use Rattle.tl_engine.specs.declared.status.Status.{Status}
+use Rattle.tl_lines.specs.declared.fault.Fault.{Fault}
+use Rattle.tl_lines.specs.declared.status.Status.{Status}
 use Rattle.tl_engine.specs.statement.Charted.{is_broken}
-use Rattle.tl_engine.specs.statement.Fault.{fault_name, fault_text}
-use Rattle.tl_engine.specs.statement.Judged.{clean_text}
-use Rattle.tl_engine.specs.statement.Lines.{lines_of}
-use Rattle.tl_engine.specs.statement.Run.{EndsAs}
+use Rattle.tl_lines.specs.statement.Fault.{fault_name, fault_text}
+use Rattle.tl_lines.specs.statement.Judged.{clean_text}
+use Rattle.tl_lines.specs.statement.Lines.{lines_of}
+use Rattle.tl_lines.specs.statement.Run.{EndsAs}
 use Rattle.tl_event_chart.specs.code.Drawing.{HasNotes}
 use Rattle.tl_event_chart.specs.declared.canvas.Canvas.{Canvas}
 use Rattle.tl_event_chart.specs.statement.EventCharted.{ChartsEvents, IsChartedBeside}

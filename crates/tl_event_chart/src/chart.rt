@@ -4,11 +4,11 @@ ghost use Rattle.std.specs.Prelude.{◌≡◌, ◌≢◌, ◌++◌, ◌-◌, [],
 ghost use Rattle.std.specs.Io.KnownBytes.{Appends, Consumes};
 ghost use Rattle.tl_chart.specs.declared.window.Window.{Window};
 ghost use Rattle.tl_commit_lines.specs.statement.JudgedEvents.{JudgedCommits};
-ghost use Rattle.tl_engine.specs.code.Progress.{HasAll};
-ghost use Rattle.tl_engine.specs.declared.status.ToolFault.{ToolFault};
+ghost use Rattle.tl_lines.specs.code.Progress.{HasAll};
+ghost use Rattle.tl_lines.specs.declared.status.ToolFault.{ToolFault};
 ghost use Rattle.tl_engine.specs.statement.Charted.{is_broken};
-ghost use Rattle.tl_engine.specs.statement.Lines.{lines_of};
-ghost use Rattle.tl_engine.specs.statement.Run.{EndsAs};
+ghost use Rattle.tl_lines.specs.statement.Lines.{lines_of};
+ghost use Rattle.tl_lines.specs.statement.Run.{EndsAs};
 ghost use Rattle.tl_event_chart.specs.statement.EventCharted.{ChartsEvents, GivesUpChartingEvents, IsChartedBeside};
 ghost use Rattle.tl_event_chart.specs.code.Drawing.{HasNotes};
 
@@ -18,11 +18,11 @@ use std::alloc::{AllocError, Global};
 use std::io::{Read, Write};
 use tl_chart::chart::{Verdict, append_chart_beside};
 use tl_chart::window::Window;
-use tl_engine::engine::judge_input;
-use tl_engine::line_handler::LineHandler;
-use tl_engine::lines::Lines;
-use tl_engine::output::write_all;
-use tl_engine::status::{Status, ToolFault};
+use tl_lines::engine::judge_input;
+use tl_lines::line_handler::LineHandler;
+use tl_lines::lines::Lines;
+use tl_lines::output::write_all;
+use tl_lines::status::{Status, ToolFault};
 use tl_params::liberties::Liberties;
 
 /// Judges the lines of a reader's input by a handler that has seen none. Returns the handler, and the status; the text

@@ -11,7 +11,7 @@ use std::alloc::{AllocError, Global};
 use tl_chart::window::Window;
 use tl_commit_lines::header::{CommitHeader, read_marked_for};
 use tl_commit_lines::judge::levels_of;
-use tl_engine::links_header::LinksHeader;
+use tl_lines::links_header::LinksHeader;
 use tl_monitor::monitor::Monitor;
 use tl_params::level::Level;
 use tl_params::liberties::Liberties;

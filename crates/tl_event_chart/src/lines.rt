@@ -9,8 +9,8 @@ use crate::following::{Following, begin};
 use std::alloc::{AllocError, Global};
 use tl_chart::window::Window;
 use tl_commit_lines::lines::EventLines;
-use tl_engine::fault::Fault;
-use tl_engine::line_handler::LineHandler;
+use tl_lines::fault::Fault;
+use tl_lines::line_handler::LineHandler;
 use tl_params::liberties::Liberties;
 
 /// Judges the lines of a trace, each link by itself, and draws them.

@@ -3,8 +3,8 @@ use Rattle.std.proofs.Common.{◌≡◌, ◌∙◌, ℕ, true, false, ap, subst,
 use Rattle.std.specs.Prelude.{not, slice_get, List, Option, Some}
 use Rattle.tl_beat.specs.declared.beat.Beat.{Beat}
 use Rattle.tl_beat.specs.declared.beat.Link.{Link}
-use Rattle.tl_engine.proofs.Explaining.{same_link}
-use Rattle.tl_engine.specs.statement.Explained.{broken_alone, is_of_order}
+use Rattle.tl_reasons.proofs.Explaining.{same_link}
+use Rattle.tl_reasons.specs.statement.Explained.{broken_alone, is_of_order}
 use Rattle.tl_evidence.specs.code.Guilty.{HasReason, IsGuilty}
 use Rattle.tl_evidence.specs.statement.Convicted.{IsConvicted}
 use Rattle.tl_explain.specs.declared.recorder.Recorder.{Recorder}

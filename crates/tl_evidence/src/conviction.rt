@@ -2,13 +2,12 @@
 
 ghost use Rattle.std.specs.Prelude.{◌≡◌, IfOk, Some, true};
 ghost use Rattle.tl_beat.specs.statement.Width.{IsWidth};
-ghost use Rattle.tl_engine.specs.statement.Explained.{broken_alone};
+ghost use Rattle.tl_reasons.specs.statement.Explained.{broken_alone};
 ghost use Rattle.tl_evidence.specs.code.Guilty.{HasReason, IsGuilty};
 ghost use Rattle.tl_explain.specs.statement.Reasons.{IsSubject};
 
 use std::alloc::AllocError;
 use tl_beat::beat::{Beat, Link};
-use tl_engine::explain::{is_illegal, is_legality};
 use tl_explain::reason::find_reason_under;
 use tl_explain::recorder::Recorder;
 use tl_explain::turns::Subject;
@@ -17,6 +16,7 @@ use tl_explain::{legal, tell};
 use tl_params::key::block_at;
 use tl_params::level::Level;
 use tl_params::liberties::Liberties;
+use tl_reasons::explain::{is_illegal, is_legality};
 use tl_rules::rule::Rule;
 
 /// Whether the subject is that of a verdict on the beat.

@@ -2,8 +2,8 @@
 use Rattle.std.specs.Prelude.{ℕ, Bool, List, ◌++◌, Option}
 use Rattle.std.specs.Io.KnownBytes.{Appends, Consumes}
 use Rattle.tl_command.specs.declared.command.Command.{Command}
-use Rattle.tl_engine.specs.declared.status.Status.{Status}
-use Rattle.tl_engine.specs.statement.Lines.{lines_of}
+use Rattle.tl_lines.specs.declared.status.Status.{Status}
+use Rattle.tl_lines.specs.statement.Lines.{lines_of}
 use Rattle.tl_engine.specs.statement.Told.{text_told}
 use Rattle.tl_params.specs.statement.Liberties.{no_liberties}
 use Rattle.tl_wide_event_lines.specs.statement.JudgedWideEvents.{JudgedAny}

@@ -10,13 +10,13 @@ use std::io::{Read, Write};
 use std::process::ExitCode;
 use std::{fs, io};
 use tl_engine::command::{Command, RunForm};
-use tl_engine::explain::explain_input;
-use tl_engine::explain_fault::ExplainFault;
-use tl_engine::named::tell_named;
-use tl_engine::output::write_all;
-use tl_engine::status::{Status, ToolFault};
 use tl_engine::tool::run_tool;
+use tl_lines::output::write_all;
+use tl_lines::status::{Status, ToolFault};
 use tl_params::liberties::Liberties;
+use tl_reasons::explain::explain_input;
+use tl_reasons::explain_fault::ExplainFault;
+use tl_reasons::named::tell_named;
 use tl_wide_event_lines::run::run_any;
 
 /// The traces, by their names in data/.

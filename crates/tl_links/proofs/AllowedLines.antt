@@ -8,17 +8,17 @@ use Rattle.tl_beat.specs.declared.beat.Link.{Link}
 use Rattle.tl_beat.specs.declared.fault.LineFault.{LineFault}
 use Rattle.tl_beat.specs.declared.fault.LineFault.TheVariants.{F1}
 use Rattle.tl_beat.specs.statement.Line.{Spells, line_fault}
-use Rattle.tl_engine.proofs.Decoded.{open_fault}
-use Rattle.tl_engine.proofs.LinksHeaders.{open_links}
-use Rattle.tl_engine.specs.code.Judging.{Ends, EndsHere, Judges}
-use Rattle.tl_engine.specs.statement.Lines.{IsOpen}
-use Rattle.tl_engine.specs.code.Progress.{HasAll}
-use Rattle.tl_engine.specs.code.Run.{Stands}
-use Rattle.tl_engine.specs.declared.fault.Fault.{Fault}
-use Rattle.tl_engine.specs.declared.status.Status.{Status}
-use Rattle.tl_engine.specs.declared.status.Status.TheVariants.{Clean, Broken}
-use Rattle.tl_engine.specs.statement.LinksHeader.{NamesAllowed}
-use Rattle.tl_engine.specs.statement.Width.{bytes_of}
+use Rattle.tl_lines.proofs.Decoded.{open_fault}
+use Rattle.tl_lines.proofs.LinksHeaders.{open_links}
+use Rattle.tl_lines.specs.code.Judging.{Ends, EndsHere, Judges}
+use Rattle.tl_lines.specs.statement.Lines.{IsOpen}
+use Rattle.tl_lines.specs.code.Progress.{HasAll}
+use Rattle.tl_lines.specs.code.Run.{Stands}
+use Rattle.tl_lines.specs.declared.fault.Fault.{Fault}
+use Rattle.tl_lines.specs.declared.status.Status.{Status}
+use Rattle.tl_lines.specs.declared.status.Status.TheVariants.{Clean, Broken}
+use Rattle.tl_lines.specs.statement.LinksHeader.{NamesAllowed}
+use Rattle.tl_lines.specs.statement.Width.{bytes_of}
 use Rattle.tl_links.specs.code.Allowing.{EndsLines, KnowsBeats, KnowsLines, KnowsTrace, KnowsWatching, TakesBeat, Watches}
 use Rattle.tl_links.specs.code.Allowing.{found_by, found_in}
 use Rattle.tl_links.specs.declared.allow_lines.AllowLines.{AllowLines}

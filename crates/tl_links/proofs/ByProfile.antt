@@ -3,16 +3,16 @@ use Rattle.std.proofs.Common.{◌≡◌, ℕ, List, [], ◌∷◌, false, true, 
 use Rattle.std.specs.Prelude.{option_map}
 use Rattle.tl_beat.specs.declared.beat.Beat.{Beat}
 use Rattle.tl_beat.specs.declared.beat.Link.{Link}
-use Rattle.tl_engine.specs.declared.fault.Fault.TheVariants.{Rule as Breaks}
-use Rattle.tl_engine.specs.declared.status.Status.{Status}
-use Rattle.tl_engine.specs.statement.Coherent.{JudgedTogether, coherent_text, faults_together}
-use Rattle.tl_engine.specs.statement.Judged.{Faults, FaultsOf, Judged, JudgedAfter, JudgedBy, clean_text}
-use Rattle.tl_engine.specs.statement.Judged.{faults_of_links}
-use Rattle.tl_engine.specs.statement.Trace.{SpellsHeader}
-use Rattle.tl_engine.specs.statement.Width.{bytes_of}
-use Rattle.tl_engine.proofs.LinksHeaders.{versions_apart}
-use Rattle.tl_engine.specs.statement.LinksHeader.{NamesAllowed}
-use Rattle.tl_engine.specs.statement.JudgedLinks.{JudgedLinks, faults_by}
+use Rattle.tl_lines.specs.declared.fault.Fault.TheVariants.{Rule as Breaks}
+use Rattle.tl_lines.specs.declared.status.Status.{Status}
+use Rattle.tl_lines.specs.statement.Coherent.{JudgedTogether, coherent_text, faults_together}
+use Rattle.tl_lines.specs.statement.Judged.{Faults, FaultsOf, Judged, JudgedAfter, JudgedBy, clean_text}
+use Rattle.tl_lines.specs.statement.Judged.{faults_of_links}
+use Rattle.tl_lines.specs.statement.Trace.{SpellsHeader}
+use Rattle.tl_lines.specs.statement.Width.{bytes_of}
+use Rattle.tl_lines.proofs.LinksHeaders.{versions_apart}
+use Rattle.tl_lines.specs.statement.LinksHeader.{NamesAllowed}
+use Rattle.tl_lines.specs.statement.JudgedLinks.{JudgedLinks, faults_by}
 use Rattle.tl_params.specs.declared.level.Level.{Level}
 use Rattle.tl_params.specs.declared.liberties.Liberties.{Liberties}
 use Rattle.tl_params.specs.declared.profile.Profile.{Profile}

@@ -1,7 +1,7 @@
 //! Names the liberties that would allow the first beat at fault of a trace.
 
 ghost use Rattle.std.specs.Prelude.{◌≡◌, ◌≢◌, ◌++◌, List, IfErr, IfOk, OnOk};
-ghost use Rattle.tl_engine.specs.declared.status.ToolFault.{ToolFault};
+ghost use Rattle.tl_lines.specs.declared.status.ToolFault.{ToolFault};
 ghost use Rattle.tl_links.specs.statement.Allowed.{FindsAllowed, allowed_line};
 ghost use Rattle.tl_params.specs.declared.liberties.Liberty.{Liberty};
 
@@ -9,9 +9,9 @@ use crate::allow_lines::AllowLines;
 use std::alloc::{AllocError, Global};
 use std::io::Read;
 use tl_allowed::text::append_allowance;
-use tl_engine::engine::judge_input;
-use tl_engine::lines::Lines;
-use tl_engine::status::ToolFault;
+use tl_lines::engine::judge_input;
+use tl_lines::lines::Lines;
+use tl_lines::status::ToolFault;
 use tl_params::liberties::{Liberties, Liberty};
 
 /// Appends the line that names these liberties; nothing if there are none. After an error only a front of it may be

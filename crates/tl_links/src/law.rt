@@ -1,11 +1,11 @@
 //! A law of headers that name no liberties.
 
 ghost use Rattle.std.specs.Prelude.{◌∷◌, ℕ, List, false, true};
-ghost use Rattle.tl_engine.specs.declared.status.Status.{Status};
-ghost use Rattle.tl_engine.specs.statement.Coherent.{JudgedTogether};
-ghost use Rattle.tl_engine.specs.statement.Judged.{Judged};
-ghost use Rattle.tl_engine.specs.statement.Trace.{SpellsHeader};
-ghost use Rattle.tl_engine.specs.statement.JudgedLinks.{JudgedLinks};
+ghost use Rattle.tl_lines.specs.declared.status.Status.{Status};
+ghost use Rattle.tl_lines.specs.statement.Coherent.{JudgedTogether};
+ghost use Rattle.tl_lines.specs.statement.Judged.{Judged};
+ghost use Rattle.tl_lines.specs.statement.Trace.{SpellsHeader};
+ghost use Rattle.tl_lines.specs.statement.JudgedLinks.{JudgedLinks};
 ghost use Rattle.tl_params.specs.declared.level.Level.{Level};
 ghost use Rattle.tl_params.specs.declared.profile.Profile.{Profile};
 ghost use Rattle.tl_params.specs.declared.width.Width.{Width};

@@ -1,14 +1,14 @@
 //! Runs a monitor over an input whose header names the liberties of the links.
 
 ghost use Rattle.std.specs.Prelude.{IfErr, IfOk, OnErr};
-ghost use Rattle.tl_engine.specs.statement.Run.{GivesUpFor, FailsAt, RunsTo};
-ghost use Rattle.tl_engine.specs.statement.JudgedLinks.{JudgedLinks, LinksSoFar};
+ghost use Rattle.tl_lines.specs.statement.Run.{GivesUpFor, FailsAt, RunsTo};
+ghost use Rattle.tl_lines.specs.statement.JudgedLinks.{JudgedLinks, LinksSoFar};
 
 use std::alloc::Global;
 use std::io::{Read, Write};
-use tl_engine::engine::handle_input;
-use tl_engine::link_lines::LinkLines;
-use tl_engine::status::{Status, ToolFault};
+use tl_lines::engine::handle_input;
+use tl_lines::link_lines::LinkLines;
+use tl_lines::status::{Status, ToolFault};
 use tl_params::liberties::Liberties;
 
 /// Judges a recorded trace, each link by itself or all together. Reads the input to its end or to the first line at

@@ -15,8 +15,8 @@ use Rattle.tl_params.specs.declared.header.Version.{Version}
 use Rattle.tl_params.specs.statement.Config.{all_sources_fit, blocks_fit, clients_fit, config_fault, trackers_fit}
 use Rattle.tl_params.specs.statement.Header.{profile_of}
 use Rattle.tl_command.specs.declared.random.Options.{Options}
-use Rattle.tl_engine.proofs.Parts.{part_more}
-use Rattle.tl_engine.specs.statement.Parts.{AppendsPart}
+use Rattle.tl_lines.proofs.Parts.{part_more}
+use Rattle.tl_lines.specs.statement.Parts.{AppendsPart}
 use Rattle.tl_engine.specs.statement.Played.{HeadsSchedule}
 use Rattle.tl_random.specs.code.Begun.{IsBegun}
 use Rattle.tl_schedule.specs.declared.line.Line.TheVariants as line_of

@@ -3,7 +3,7 @@
 ghost use Rattle.std.specs.Prelude.{◌≡◌, ◌+◌, ◌<◌, [], ℕ, List, OnOk, OnErr, Option};
 ghost use Rattle.tl_beat.specs.statement.Width.{IsWidth};
 ghost use Rattle.tl_params.specs.statement.Header.{width_of};
-ghost use Rattle.tl_engine.specs.statement.Width.{bytes_of};
+ghost use Rattle.tl_lines.specs.statement.Width.{bytes_of};
 ghost use Rattle.tl_random.specs.code.Begun.{IsBegun};
 ghost use Rattle.tl_random.specs.statement.Random.{WritesPart, WritesSchedule};
 
@@ -12,8 +12,8 @@ use crate::header::append_schedule_header;
 use std::alloc::Global;
 use std::io::Write;
 use tl_command::random::Options;
-use tl_engine::output::write_all;
-use tl_engine::status::ToolFault;
+use tl_lines::output::write_all;
+use tl_lines::status::ToolFault;
 use tl_params::width::Width;
 
 /// The number of bytes of lines that are gathered before they are written.

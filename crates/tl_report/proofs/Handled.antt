@@ -8,19 +8,19 @@ use Rattle.tl_command.specs.declared.search.Aim.{Aim}
 use Rattle.tl_params.specs.declared.level.Level.{Level}
 use Rattle.tl_params.specs.declared.liberties.Liberties.{Liberties}
 use Rattle.tl_params.specs.declared.width.Width.{Width}
-use Rattle.tl_engine.specs.code.Judging.{Ends, EndsHere, Finishes, Judges, Stops}
-use Rattle.tl_engine.specs.statement.Lines.{IsOpen, lines_of}
-use Rattle.tl_engine.specs.code.Progress.{HasAll}
-use Rattle.tl_engine.specs.code.Run.{Stands}
-use Rattle.tl_engine.specs.statement.Run.{EndsAs}
-use Rattle.tl_engine.specs.declared.fault.Fault.{Fault}
-use Rattle.tl_engine.specs.declared.links_header.LinksHeader.{LinksHeader}
-use Rattle.tl_engine.specs.declared.status.Status.{Status}
-use Rattle.tl_engine.specs.declared.status.Status.TheVariants.{Clean, Broken}
-use Rattle.tl_engine.specs.statement.LinksHeader.{NamesAllowed}
-use Rattle.tl_engine.specs.statement.Width.{bytes_of}
-use Rattle.tl_engine.proofs.Decoded.{open_fault}
-use Rattle.tl_engine.proofs.LinksHeaders.{open_allowed}
+use Rattle.tl_lines.specs.code.Judging.{Ends, EndsHere, Finishes, Judges, Stops}
+use Rattle.tl_lines.specs.statement.Lines.{IsOpen, lines_of}
+use Rattle.tl_lines.specs.code.Progress.{HasAll}
+use Rattle.tl_lines.specs.code.Run.{Stands}
+use Rattle.tl_lines.specs.statement.Run.{EndsAs}
+use Rattle.tl_lines.specs.declared.fault.Fault.{Fault}
+use Rattle.tl_lines.specs.declared.links_header.LinksHeader.{LinksHeader}
+use Rattle.tl_lines.specs.declared.status.Status.{Status}
+use Rattle.tl_lines.specs.declared.status.Status.TheVariants.{Clean, Broken}
+use Rattle.tl_lines.specs.statement.LinksHeader.{NamesAllowed}
+use Rattle.tl_lines.specs.statement.Width.{bytes_of}
+use Rattle.tl_lines.proofs.Decoded.{open_fault}
+use Rattle.tl_lines.proofs.LinksHeaders.{open_allowed}
 use Rattle.tl_commit_lines.proofs.JudgedLines.{open-event}
 use Rattle.tl_commit_lines.proofs.MarkedHeaders.{open_marked}
 use Rattle.tl_commit_lines.specs.declared.header.CommitHeader.{CommitHeader}

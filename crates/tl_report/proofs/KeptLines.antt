@@ -3,7 +3,7 @@ use Rattle.std.proofs.Common.{◌≡◌, ◌≤◌, ◌<◌, ◌+◌, ◌∙◌,
 use Rattle.std.proofs.lemmas.List.{map-append, reverse-append, reverse-reverse, take-append-drop, take_all, take_more}
 use Rattle.std.specs.Prelude.{IfOk, Option, Some, None, Result, Ok, Err, map, reverse}
 use Rattle.tl_command.specs.declared.search.Aim.{Aim}
-use Rattle.tl_engine.specs.declared.fault.Fault.{Fault}
+use Rattle.tl_lines.specs.declared.fault.Fault.{Fault}
 use Rattle.tl_report.proofs.WideTaken.{newest-last}
 use Rattle.tl_report.specs.code.KeptJudging.{AreGood, BeginsKept, IsKeptFor, JudgesAgain, Keeps, Restores}
 use Rattle.tl_report.specs.code.KeptJudging.{StartsKept, TakesLine, kept_ways}

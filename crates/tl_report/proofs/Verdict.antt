@@ -7,11 +7,11 @@ use Rattle.tl_params.specs.declared.level.Level.{Level}
 use Rattle.tl_params.specs.declared.liberties.Liberties.{Liberties}
 use Rattle.tl_params.specs.declared.width.Width.{Width}
 use Rattle.tl_rules.specs.statement.Conformance.{Trace}
-use Rattle.tl_engine.specs.statement.JudgedSo.{said_by}
-use Rattle.tl_engine.specs.declared.fault.Fault.{Fault}
-use Rattle.tl_engine.specs.statement.Judged.{IsAtFault as IsAtFaultBy, JudgedAfter, JudgedBy}
-use Rattle.tl_engine.specs.statement.JudgedLinks.{faults_by}
-use Rattle.tl_engine.specs.statement.LinksHeader.{NamesAllowed}
+use Rattle.tl_lines.specs.statement.JudgedSo.{said_by}
+use Rattle.tl_lines.specs.declared.fault.Fault.{Fault}
+use Rattle.tl_lines.specs.statement.Judged.{IsAtFault as IsAtFaultBy, JudgedAfter, JudgedBy}
+use Rattle.tl_lines.specs.statement.JudgedLinks.{faults_by}
+use Rattle.tl_lines.specs.statement.LinksHeader.{NamesAllowed}
 use Rattle.tl_commit_lines.proofs.AsBefore.{links-apart, wide-apart}
 use Rattle.tl_commit_lines.specs.statement.JudgedEvents.{IsEventAtFault, JudgedEvents}
 use Rattle.tl_commits.specs.statement.Events.{Events}

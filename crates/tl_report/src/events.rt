@@ -8,8 +8,8 @@ use crate::taken::event_cell_of;
 use std::alloc::{AllocError, Global};
 use tl_commit_lines::header::CommitHeader;
 use tl_commit_lines::judge::EventJudge;
-use tl_engine::fault::Fault;
 use tl_events::event::read_event;
+use tl_lines::fault::Fault;
 
 /// A judge of lines of events: beats of `W` bytes, which are 4, 8 or 16, and commits.
 #[derive(Drop)]

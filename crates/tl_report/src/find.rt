@@ -2,7 +2,7 @@
 
 ghost use Rattle.std.specs.Prelude.{◌≡◌, ◌≢◌, ℕ, List, IfErr, IfOk};
 ghost use Rattle.std.specs.Io.KnownBytes.{Appends};
-ghost use Rattle.tl_engine.specs.declared.status.ToolFault.{ToolFault};
+ghost use Rattle.tl_lines.specs.declared.status.ToolFault.{ToolFault};
 ghost use Rattle.tl_report.specs.declared.findings.Finding.{Finding};
 ghost use Rattle.tl_report.specs.statement.Said.{GivesUpSearching, Searches, all_text, status_of};
 
@@ -12,10 +12,10 @@ use crate::search_lines::SearchLines;
 use std::alloc::Global;
 use std::io::{Read, Write};
 use tl_command::search::Aim;
-use tl_engine::engine::judge_input;
-use tl_engine::lines::Lines;
-use tl_engine::output::write_all;
-use tl_engine::status::{Status, ToolFault};
+use tl_lines::engine::judge_input;
+use tl_lines::lines::Lines;
+use tl_lines::output::write_all;
+use tl_lines::status::{Status, ToolFault};
 
 /// Searches the input of a reader, to its end or to the last line at fault that is looked for. A line of more than 256
 /// bytes is the last that is read. The error is `Read` or `Memory`.

@@ -5,7 +5,7 @@ ghost use Rattle.tl_report.specs.statement.Taken.{AreCounted, most_cells};
 
 use crate::taken::CELLS;
 use std::alloc::{AllocError, Global};
-use tl_engine::fault::Fault;
+use tl_lines::fault::Fault;
 
 /// A line at fault.
 #[derive(Clone, Copy, Debug, PartialEq, Eq)]

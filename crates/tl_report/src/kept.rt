@@ -7,7 +7,7 @@ use crate::line_judge::{Judged, LineJudge};
 use crate::taker::Taker;
 use std::alloc::{AllocError, Global};
 use tl_command::search::Aim;
-use tl_engine::fault::Fault;
+use tl_lines::fault::Fault;
 
 /// The items that a judge has taken, in their order, and the links that their header names. A second judge that takes
 /// them has the same knowledge.

@@ -4,7 +4,7 @@ ghost use Rattle.std.specs.Prelude.{◌≡◌, IfOk};
 ghost use Rattle.tl_report.specs.code.LineJudging.{IsInTable, JudgesLine, Ways};
 
 use std::alloc::AllocError;
-use tl_engine::fault::Fault;
+use tl_lines::fault::Fault;
 
 /// The answer of a judge to a line.
 #[derive(Clone, Copy, Debug, PartialEq, Eq)]

@@ -7,9 +7,9 @@ use crate::line_judge::{Judged, LineJudge};
 use crate::taken::cell_of;
 use std::alloc::{AllocError, Global};
 use tl_beat::read::read_line;
-use tl_engine::fault::Fault;
-use tl_engine::links_header::LinksHeader;
-use tl_engine::trace_judge::TraceJudge;
+use tl_lines::fault::Fault;
+use tl_lines::links_header::LinksHeader;
+use tl_lines::trace_judge::TraceJudge;
 
 /// A judge of lines of beats of `W` bytes: 4, 8 or 16.
 #[derive(Drop)]

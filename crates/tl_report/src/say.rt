@@ -6,9 +6,9 @@ ghost use Rattle.tl_report.specs.statement.Said.{all_text, count_text, faults_te
 use crate::findings::{Finding, Findings};
 use itoa::Buffer;
 use std::alloc::AllocError;
-use tl_engine::fault::append_fault;
-use tl_engine::monitor_lines::append_end;
-use tl_engine::status::Status;
+use tl_lines::fault::append_fault;
+use tl_lines::monitor_lines::append_end;
+use tl_lines::status::Status;
 
 /// Appends `line N X` for each line at fault.
 fn append_faults(faults: &[Finding], out: &mut Vec<u8>) -> Result<(), AllocError>

@@ -1,7 +1,7 @@
 //! Judges the lines of a trace and records those at fault, whose beats aren't taken.
 
 ghost use Rattle.std.specs.Prelude.{◌≡◌, IfOk};
-ghost use Rattle.tl_engine.specs.declared.status.Status.{Status};
+ghost use Rattle.tl_lines.specs.declared.status.Status.{Status};
 ghost use Rattle.tl_report.specs.code.Searching.{EndsWith, IsBegun, IsElsewhereSame, Notes, SearchJudges, SearchesLine};
 ghost use Rattle.tl_report.specs.statement.Found.{is_open};
 
@@ -10,8 +10,8 @@ use crate::line_judge::{Judged, LineJudge};
 use std::alloc::{AllocError, Global};
 use tl_beat::fault::LineFault;
 use tl_command::search::Aim;
-use tl_engine::fault::Fault;
-use tl_engine::status::Status;
+use tl_lines::fault::Fault;
+use tl_lines::status::Status;
 
 /// A judge of the lines of a trace, and the findings so far.
 #[derive(Drop)]

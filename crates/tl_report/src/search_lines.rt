@@ -2,7 +2,7 @@
 
 ghost use Rattle.std.specs.Prelude.{◌≡◌, [], IfOk};
 ghost use Rattle.tl_beat.specs.statement.Width.{IsWidth};
-ghost use Rattle.tl_engine.specs.declared.status.Status.{Status};
+ghost use Rattle.tl_lines.specs.declared.status.Status.{Status};
 ghost use Rattle.tl_report.specs.code.EventJudging.{event_ways};
 ghost use Rattle.tl_report.specs.code.Searching.{Begins, EndsLines, HasFound, KnowsLines, StartsSearch, TellsLines, aim_of};
 ghost use Rattle.tl_report.specs.code.NarrowJudging.{narrow_ways};
@@ -25,11 +25,11 @@ use std::mem;
 use tl_beat::fault::LineFault;
 use tl_command::search::Aim;
 use tl_commit_lines::header::{CommitHeader, read_marked_for};
-use tl_engine::fault::Fault;
-use tl_engine::line_handler::LineHandler;
-use tl_engine::links_header::LinksHeader;
-use tl_engine::status::Status;
-use tl_engine::trace_judge::read_for;
+use tl_lines::fault::Fault;
+use tl_lines::line_handler::LineHandler;
+use tl_lines::links_header::LinksHeader;
+use tl_lines::status::Status;
+use tl_lines::trace_judge::read_for;
 use tl_params::width::Width;
 use tl_wide::width::WideWidth;
 use tl_wide_event_lines::header::read_wide_marked_for;

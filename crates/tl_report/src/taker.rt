@@ -6,7 +6,7 @@ ghost use Rattle.tl_report.specs.statement.Taken.{most_cells};
 
 use std::alloc::{AllocError, Global};
 use tl_beat::fault::LineFault;
-use tl_engine::fault::Fault;
+use tl_lines::fault::Fault;
 
 /// Judges the items of a wide trace in turn: beats, or beats and commits. `L` has the links that a header names. An item at
 /// fault leaves its names in the judge, and those of its parts that were taken.

@@ -13,7 +13,7 @@ use std::alloc::{AllocError, Global};
 use tl_beat::beat::Link;
 use tl_beat::fault::LineFault;
 use tl_commit_lines::header::CommitHeader;
-use tl_engine::fault::Fault;
+use tl_lines::fault::Fault;
 use tl_wide_event_lines::judge::WideEventJudge;
 use tl_wide_events::commit::WideEvent;
 use tl_wide_events::event::read_wide_event;

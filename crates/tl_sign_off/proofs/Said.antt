@@ -2,8 +2,8 @@
 use Rattle.std.proofs.Common.{◌≡◌, ◌++◌, ◌∙◌, ℕ, List, append_assoc, codes, refl, sym}
 use Rattle.std.specs.Prelude.{OnOk, Result, Ok, Err}
 use Rattle.tl_explain.specs.statement.Sentences.{memory_rule_line, rule_line}
-use Rattle.tl_engine.specs.declared.fault.Fault.TheVariants.{CommitRule, MemoryRule, Rule}
-use Rattle.tl_engine.specs.statement.CommitSentences.{commit_rule_line}
+use Rattle.tl_lines.specs.declared.fault.Fault.TheVariants.{CommitRule, MemoryRule, Rule}
+use Rattle.tl_reasons.specs.statement.CommitSentences.{commit_rule_line}
 use Rattle.tl_events.specs.declared.rule.CommitRule as of_commits
 use Rattle.tl_params.specs.declared.rule.Rule as of_link
 use Rattle.tl_params.specs.declared.memory_rule.MemoryRule as of_memory

@@ -4,12 +4,12 @@ use Rattle.std.specs.Prelude.{IfOk, Option, Result, Ok, Err}
 use Rattle.std.specs.Io.KnownBytes.{Consumes, IsAtEnd}
 use Rattle.std.proofs.KnownBytes.{Consumes-trans}
 use Rattle.std.proofs.lemmas.List.{append-nil}
-use Rattle.tl_engine.specs.statement.Lines.{lines_of}
-use Rattle.tl_engine.specs.code.Progress.{EndsWithin, Feeds, FinishesInput, HasAll, Progress}
-use Rattle.tl_engine.specs.declared.lines.Lines.{Lines}
-use Rattle.tl_engine.specs.declared.status.Status.{Status}
-use Rattle.tl_engine.specs.declared.status.Status.TheVariants.{Broken, Clean}
-use Rattle.tl_engine.specs.declared.status.ToolFault.{ToolFault}
+use Rattle.tl_lines.specs.statement.Lines.{lines_of}
+use Rattle.tl_lines.specs.code.Progress.{EndsWithin, Feeds, FinishesInput, HasAll, Progress}
+use Rattle.tl_lines.specs.declared.lines.Lines.{Lines}
+use Rattle.tl_lines.specs.declared.status.Status.{Status}
+use Rattle.tl_lines.specs.declared.status.Status.TheVariants.{Broken, Clean}
+use Rattle.tl_lines.specs.declared.status.ToolFault.{ToolFault}
 use Rattle.sha2.specs.Sha256.{sha256}
 use Rattle.tl_command.specs.declared.search.Aim.{Aim}
 use Rattle.tl_report.specs.code.Searching.{EndsLines, HasFound, KnowsLines, TellsLines, aim_of}

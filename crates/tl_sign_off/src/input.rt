@@ -2,12 +2,12 @@
 
 ghost use Rattle.std.specs.Prelude.{◌≡◌, ◌++◌, ℕ, [], List, OnOk, IfErr, length, take};
 ghost use Rattle.sha2.specs.Sha256.{sha256};
-ghost use Rattle.tl_engine.specs.declared.status.ToolFault.{ToolFault};
+ghost use Rattle.tl_lines.specs.declared.status.ToolFault.{ToolFault};
 ghost use Rattle.tl_sign_off.specs.code.Noting.{IsNoted};
 
 use arrayvec::ArrayVec;
 use sha2::{Digest, Sha256};
-use tl_engine::status::ToolFault;
+use tl_lines::status::ToolFault;
 
 /// The number of bytes that are kept from the front of an input: as many as a line of a trace may have.
 const FRONT: usize = 256;

@@ -2,8 +2,8 @@
 
 ghost use Rattle.std.specs.Prelude.{◌≡◌, ◌≢◌, ◌++◌, [], ℕ, List, IfErr, IfOk};
 ghost use Rattle.std.specs.Io.KnownBytes.{Consumes, IsAtEnd};
-ghost use Rattle.tl_engine.specs.declared.status.ToolFault.{ToolFault};
-ghost use Rattle.tl_engine.specs.code.Progress.{Progress};
+ghost use Rattle.tl_lines.specs.declared.status.ToolFault.{ToolFault};
+ghost use Rattle.tl_lines.specs.code.Progress.{Progress};
 ghost use Rattle.tl_report.specs.code.Searching.{KnowsLines, aim_of};
 ghost use Rattle.tl_sign_off.specs.code.Noting.{IsJudged, IsJudgedWhole, IsNoted};
 ghost use Rattle.tl_sign_off.specs.statement.Account.{IsOf};
@@ -13,9 +13,9 @@ use crate::input::Notes;
 use std::alloc::Global;
 use std::io::Read;
 use tl_command::search::Aim;
-use tl_engine::engine::{new_chunk, next_piece};
-use tl_engine::lines::Lines;
-use tl_engine::status::{Status, ToolFault};
+use tl_lines::engine::{new_chunk, next_piece};
+use tl_lines::lines::Lines;
+use tl_lines::status::{Status, ToolFault};
 use tl_report::search_lines::SearchLines;
 
 /// Judges the lines that end in a piece, unless an earlier line has ended the search.

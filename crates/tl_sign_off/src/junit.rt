@@ -12,7 +12,7 @@ use crate::sentence::sentence_text;
 use crate::xml::{append_attribute, append_element, append_empty_element, append_number};
 use itoa::Buffer;
 use std::alloc::{AllocError, Global};
-use tl_engine::fault::Fault;
+use tl_lines::fault::Fault;
 use tl_report::findings::Finding;
 
 /// Appends a property.

@@ -15,7 +15,7 @@ use crate::message::{channel_name, message_name};
 use crate::sentence::sentence_text;
 use serde_json::{Value, json};
 use std::alloc::{AllocError, Global};
-use tl_engine::fault::Fault;
+use tl_lines::fault::Fault;
 use tl_report::findings::Finding;
 
 /// The version, as `tltool --version` writes it.

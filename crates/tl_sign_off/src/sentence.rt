@@ -1,14 +1,14 @@
 //! The sentence of a fault.
 
 ghost use Rattle.std.specs.Prelude.{◌≡◌, ◌++◌, codes, IfOk, OnOk};
-ghost use Rattle.tl_engine.specs.statement.Fault.{fault_name};
+ghost use Rattle.tl_lines.specs.statement.Fault.{fault_name};
 ghost use Rattle.tl_sign_off.specs.statement.Sentence.{line_sentence, sentence_of};
 
 use std::alloc::{AllocError, Global};
 use tl_beat::fault::LineFault;
-use tl_engine::commit_rules::append_commit_sentence;
-use tl_engine::fault::Fault;
 use tl_explain::named::{append_memory_sentence, append_sentence};
+use tl_lines::fault::Fault;
+use tl_reasons::commit_rules::append_commit_sentence;
 
 /// The condition of a fault that is no rule.
 fn line_sentence(fault: Fault) -> &'static str

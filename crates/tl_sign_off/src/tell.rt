@@ -12,10 +12,10 @@ use crate::judge::judge_whole;
 use std::alloc::{AllocError, Global};
 use std::io::{Read, Write};
 use tl_command::search::Inquiry;
-use tl_engine::fault::append_fault;
-use tl_engine::monitor_lines::append_end;
-use tl_engine::output::write_all;
-use tl_engine::status::ToolFault;
+use tl_lines::fault::append_fault;
+use tl_lines::monitor_lines::append_end;
+use tl_lines::output::write_all;
+use tl_lines::status::ToolFault;
 use tl_report::findings::Findings;
 use tl_report::say::append_all;
 

@@ -4,9 +4,9 @@ use crate::expect::{holds, holds_in, same, same_in};
 use std::fmt::Write as _;
 use std::test::Fail;
 use tl_engine::command::{Command, RunForm, Width};
-use tl_engine::output::write_open_fault;
-use tl_engine::status::{Status, ToolFault, exit_of};
 use tl_engine::tool::run_tool;
+use tl_lines::output::write_open_fault;
+use tl_lines::status::{Status, ToolFault, exit_of};
 use tl_play::device::{Narrow, Slow};
 
 /// The command that reads beats of eight bytes.

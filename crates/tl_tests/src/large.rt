@@ -10,8 +10,8 @@ use std::io::{self, Read, Write};
 use std::process::Abort;
 use std::test::Fail;
 use tl_engine::command::{Command, RunForm};
-use tl_engine::status::Status;
 use tl_engine::tool::run_tool;
+use tl_lines::status::Status;
 use tl_play::device::{Narrow, Slow};
 
 const COUNT: usize = 5000;

@@ -5,12 +5,12 @@ use Rattle.std.proofs.lemmas.List.{append-nil}
 use Rattle.std.specs.List.{flat_map}
 use Rattle.std.specs.Prelude.{Option, bytes_eq, decimal, if◌then◌else◌, ⊤}
 use Rattle.std.specs.Io.KnownBytes.{Consumes}
-use Rattle.tl_engine.specs.code.Judging.{Ends, GoesOn}
-use Rattle.tl_engine.specs.code.Progress.{HasAll}
-use Rattle.tl_engine.specs.declared.status.Status.{Status}
-use Rattle.tl_engine.specs.declared.status.Status.TheVariants.{Broken, Clean}
-use Rattle.tl_engine.specs.statement.Lines.{IsOpen, lines_of}
-use Rattle.tl_engine.specs.statement.Run.{EndsAs}
+use Rattle.tl_lines.specs.code.Judging.{Ends, GoesOn}
+use Rattle.tl_lines.specs.code.Progress.{HasAll}
+use Rattle.tl_lines.specs.declared.status.Status.{Status}
+use Rattle.tl_lines.specs.declared.status.Status.TheVariants.{Broken, Clean}
+use Rattle.tl_lines.specs.statement.Lines.{IsOpen, lines_of}
+use Rattle.tl_lines.specs.statement.Run.{EndsAs}
 use Rattle.tl_times.specs.code.Splitting.{AreUntimed, are_cited, cited}
 use Rattle.tl_times.specs.code.Timing.{AreNoted, AreTimed, EndsTimes, KnowsTimes, cites, said}
 use Rattle.tl_times.specs.declared.piece.Piece.{Piece}

@@ -2,7 +2,7 @@
 
 ghost use Rattle.std.specs.Prelude.{◌≡◌, ◌≢◌, ◌++◌, ⊤, ℕ, List, IfErr, OnOk};
 ghost use Rattle.std.specs.List.{flat_map};
-ghost use Rattle.tl_engine.specs.declared.status.ToolFault.{ToolFault};
+ghost use Rattle.tl_lines.specs.declared.status.ToolFault.{ToolFault};
 ghost use Rattle.tl_times.specs.code.Timing.{AreNoted, EndsTimes, KnowsTimes, cites, said};
 ghost use Rattle.tl_times.specs.statement.Timed.{ReadsTimes, number_in, timed};
 
@@ -11,11 +11,11 @@ use crate::pieces::{digits, pieces_of};
 use itoa::Buffer;
 use std::alloc::{AllocError, Global};
 use std::io::Read;
-use tl_engine::engine::judge_input;
-use tl_engine::fault::Fault;
-use tl_engine::line_handler::LineHandler;
-use tl_engine::lines::Lines;
-use tl_engine::status::ToolFault;
+use tl_lines::engine::judge_input;
+use tl_lines::fault::Fault;
+use tl_lines::line_handler::LineHandler;
+use tl_lines::lines::Lines;
+use tl_lines::status::ToolFault;
 
 /// The number of the first line of a trace that has a time: the header has none.
 const FIRST: u64 = 2;

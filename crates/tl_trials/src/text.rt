@@ -9,8 +9,8 @@ use std::alloc::Global;
 use std::io::{ErrorKind, Write};
 use std::{fs, io};
 use tl_engine::command::Command;
-use tl_engine::status::exit_of;
 use tl_engine::tool::run_tool;
+use tl_lines::status::exit_of;
 use tl_play::device::{Narrow, Slow};
 
 /// The files, by their names in data/.

@@ -14,22 +14,22 @@ use Rattle.tl_cover.specs.declared.covering.Covering.{Covering}
 use Rattle.tl_cover.proofs.Answered.{cells_covered}
 use Rattle.tl_cover.specs.declared.row.Row.{Row}
 use Rattle.tl_cover.specs.statement.Covers.{Covers}
-use Rattle.tl_engine.proofs.Decoded.{open_fault}
-use Rattle.tl_engine.proofs.Judged.{said_at_end}
-use Rattle.tl_engine.proofs.JudgedTraces.{all_judged, bad_line, header_unread, header_unseen}
-use Rattle.tl_engine.proofs.LinksHeaders.{open_allowed}
-use Rattle.tl_engine.specs.code.Judging.{Ends, EndsHere, Finishes, Judges, Stops}
-use Rattle.tl_engine.specs.statement.Lines.{IsOpen}
-use Rattle.tl_engine.specs.code.Watching.{KnowsTraceOf, end_by}
-use Rattle.tl_engine.specs.statement.JudgedSo.{said_by}
-use Rattle.tl_engine.specs.declared.fault.Fault.{Fault}
-use Rattle.tl_engine.specs.declared.fault.Fault.TheVariants.{Header, Line, Rule as Breaks}
-use Rattle.tl_engine.specs.declared.status.Status.TheVariants.{Clean, Broken}
-use Rattle.tl_engine.specs.statement.Fault.{fault_text}
-use Rattle.tl_engine.specs.statement.Judged.{IsAtFault, JudgedAfter, JudgedBy}
-use Rattle.tl_engine.specs.statement.JudgedLinks.{JudgedLinks, faults_by}
-use Rattle.tl_engine.specs.statement.LinksHeader.{NamesAllowed}
-use Rattle.tl_engine.specs.statement.Width.{bytes_of}
+use Rattle.tl_lines.proofs.Decoded.{open_fault}
+use Rattle.tl_lines.proofs.Judged.{said_at_end}
+use Rattle.tl_lines.proofs.JudgedTraces.{all_judged, bad_line, header_unread, header_unseen}
+use Rattle.tl_lines.proofs.LinksHeaders.{open_allowed}
+use Rattle.tl_lines.specs.code.Judging.{Ends, EndsHere, Finishes, Judges, Stops}
+use Rattle.tl_lines.specs.statement.Lines.{IsOpen}
+use Rattle.tl_lines.specs.code.Watching.{KnowsTraceOf, end_by}
+use Rattle.tl_lines.specs.statement.JudgedSo.{said_by}
+use Rattle.tl_lines.specs.declared.fault.Fault.{Fault}
+use Rattle.tl_lines.specs.declared.fault.Fault.TheVariants.{Header, Line, Rule as Breaks}
+use Rattle.tl_lines.specs.declared.status.Status.TheVariants.{Clean, Broken}
+use Rattle.tl_lines.specs.statement.Fault.{fault_text}
+use Rattle.tl_lines.specs.statement.Judged.{IsAtFault, JudgedAfter, JudgedBy}
+use Rattle.tl_lines.specs.statement.JudgedLinks.{JudgedLinks, faults_by}
+use Rattle.tl_lines.specs.statement.LinksHeader.{NamesAllowed}
+use Rattle.tl_lines.specs.statement.Width.{bytes_of}
 use Rattle.tl_monitor.proofs.Knowing.{broken_by, unbroken}
 use Rattle.tl_monitor.specs.declared.fault.MonitorFault.TheVariants as monitor
 use Rattle.tl_monitor.specs.statement.Knows.{fault_under}

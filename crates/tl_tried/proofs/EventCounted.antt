@@ -9,12 +9,12 @@ use Rattle.tl_commit_lines.proofs.JudgedLines.{header-known, line-stops, line-ta
 use Rattle.tl_commit_lines.specs.declared.header.MarkedLevel.{MarkedLevel}
 use Rattle.tl_commit_lines.specs.statement.JudgedEvents.{JudgedCommits}
 use Rattle.tl_commit_lines.specs.statement.MarkedHeader.{NamesMarked}
-use Rattle.tl_engine.specs.declared.fault.Fault.{Fault}
-use Rattle.tl_engine.specs.declared.fault.Fault.TheVariants.{Line}
-use Rattle.tl_engine.specs.declared.status.Status.TheVariants.{Broken}
-use Rattle.tl_engine.specs.statement.Fault.{fault_text}
-use Rattle.tl_engine.specs.statement.Lines.{IsOpen}
-use Rattle.tl_engine.specs.statement.Width.{bytes_of}
+use Rattle.tl_lines.specs.declared.fault.Fault.{Fault}
+use Rattle.tl_lines.specs.declared.fault.Fault.TheVariants.{Line}
+use Rattle.tl_lines.specs.declared.status.Status.TheVariants.{Broken}
+use Rattle.tl_lines.specs.statement.Fault.{fault_text}
+use Rattle.tl_lines.specs.statement.Lines.{IsOpen}
+use Rattle.tl_lines.specs.statement.Width.{bytes_of}
 use Rattle.tl_events.specs.declared.commit.Event.{Event}
 use Rattle.tl_events.specs.statement.EventLine.{SpellsEvent, event_fault}
 use Rattle.tl_params.specs.declared.liberties.Liberties.{Liberties}

@@ -5,10 +5,10 @@ use Rattle.std.specs.Io.KnownBytes.{Consumes}
 use Rattle.std.specs.Prelude.{Option}
 use Rattle.tl_command.specs.declared.cover.CoverForm.{CoverForm}
 use Rattle.tl_cover.specs.declared.row.Row.{Row}
-use Rattle.tl_engine.specs.statement.Lines.{lines_of}
-use Rattle.tl_engine.specs.code.Progress.{HasAll}
-use Rattle.tl_engine.specs.statement.Run.{EndsAs}
-use Rattle.tl_engine.specs.declared.status.Status.{Status}
+use Rattle.tl_lines.specs.statement.Lines.{lines_of}
+use Rattle.tl_lines.specs.code.Progress.{HasAll}
+use Rattle.tl_lines.specs.statement.Run.{EndsAs}
+use Rattle.tl_lines.specs.declared.status.Status.{Status}
 use Rattle.tl_params.specs.declared.liberties.Liberties.{Liberties}
 use Rattle.tl_tried.proofs.CommitsCounted.{counted-at-end}
 use Rattle.tl_tried.specs.code.EventFollowing.{EndsCommits, KnowsCommits, found_of_commits}

@@ -9,11 +9,11 @@ use Rattle.tl_beat.specs.declared.fault.LineFault.TheVariants.{F1}
 use Rattle.tl_cover.specs.declared.row.Row.{Row}
 use Rattle.tl_cover.specs.statement.Covered.{covered}
 use Rattle.tl_cover.specs.statement.Covers.{Covers, cells_in, rows_in}
-use Rattle.tl_engine.specs.statement.Lines.{IsOpen}
-use Rattle.tl_engine.specs.declared.fault.Fault.{Fault}
-use Rattle.tl_engine.specs.declared.fault.Fault.TheVariants.{Beyond}
-use Rattle.tl_engine.specs.declared.status.Status.TheVariants.{Broken}
-use Rattle.tl_engine.specs.statement.Fault.{fault_text}
+use Rattle.tl_lines.specs.statement.Lines.{IsOpen}
+use Rattle.tl_lines.specs.declared.fault.Fault.{Fault}
+use Rattle.tl_lines.specs.declared.fault.Fault.TheVariants.{Beyond}
+use Rattle.tl_lines.specs.declared.status.Status.TheVariants.{Broken}
+use Rattle.tl_lines.specs.statement.Fault.{fault_text}
 use Rattle.tl_params.specs.declared.level.Level.{Level}
 use Rattle.tl_params.specs.declared.liberties.Liberties.{Liberties}
 use Rattle.tl_rules.specs.statement.Conformance.{Trace}

@@ -13,11 +13,11 @@ use Rattle.tl_commits.specs.statement.Events.{Events, beats_of}
 use Rattle.tl_cover.specs.declared.row.Row.{Row}
 use Rattle.tl_cover.specs.statement.Covered.{covered}
 use Rattle.tl_cover.specs.statement.Covers.{Covers, rows_in}
-use Rattle.tl_engine.specs.declared.fault.Fault.{Fault}
-use Rattle.tl_engine.specs.declared.fault.Fault.TheVariants.{Beyond, Line}
-use Rattle.tl_engine.specs.declared.status.Status.TheVariants.{Broken}
-use Rattle.tl_engine.specs.statement.Fault.{fault_text}
-use Rattle.tl_engine.specs.statement.Lines.{IsOpen}
+use Rattle.tl_lines.specs.declared.fault.Fault.{Fault}
+use Rattle.tl_lines.specs.declared.fault.Fault.TheVariants.{Beyond, Line}
+use Rattle.tl_lines.specs.declared.status.Status.TheVariants.{Broken}
+use Rattle.tl_lines.specs.statement.Fault.{fault_text}
+use Rattle.tl_lines.specs.statement.Lines.{IsOpen}
 use Rattle.tl_events.specs.declared.commit.Event.{Event}
 use Rattle.tl_events.specs.declared.commit.Event.TheVariants as narrow
 use Rattle.tl_params.specs.declared.liberties.Liberties.{Liberties}

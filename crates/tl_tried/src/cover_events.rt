@@ -2,8 +2,8 @@
 //! begin.
 
 ghost use Rattle.std.specs.Prelude.{◌≡◌, [], false, IfOk, None, Ok, Some};
-ghost use Rattle.tl_engine.specs.code.Judging.{Ends, Judges};
-ghost use Rattle.tl_engine.specs.declared.fault.Fault.{Fault};
+ghost use Rattle.tl_lines.specs.code.Judging.{Ends, Judges};
+ghost use Rattle.tl_lines.specs.declared.fault.Fault.{Fault};
 ghost use Rattle.tl_tried.specs.code.EventFollowing.{BeginsAny, BeginsEvents, BeginsMarked, EndsCommits, KnowsCommits};
 ghost use Rattle.tl_tried.specs.code.EventFollowing.{BeginsWideEvents, ReadsNext, events_found_by, found_of_commits};
 ghost use Rattle.tl_wide_event_lines.specs.statement.JudgedWideEvents.{JudgedAny};
@@ -15,9 +15,9 @@ use std::alloc::{AllocError, Global};
 use tl_beat::fault::LineFault;
 use tl_commit_lines::header::read_marked_for;
 use tl_cover::row::Row;
-use tl_engine::fault::Fault;
-use tl_engine::line_handler::LineHandler;
-use tl_engine::monitor_lines::append_end;
+use tl_lines::fault::Fault;
+use tl_lines::line_handler::LineHandler;
+use tl_lines::monitor_lines::append_end;
 use tl_params::liberties::Liberties;
 use tl_params::width::Width;
 use tl_wide::width::WideWidth;

@@ -11,11 +11,11 @@ use tl_beat::fault::LineFault;
 use tl_beat::read::read_line;
 use tl_cover::covering::Covering;
 use tl_cover::row::Row;
-use tl_engine::fault::Fault;
-use tl_engine::line_handler::LineHandler;
-use tl_engine::links_header::LinksHeader;
-use tl_engine::monitor_lines::append_end;
-use tl_engine::trace_judge::read_for;
+use tl_lines::fault::Fault;
+use tl_lines::line_handler::LineHandler;
+use tl_lines::links_header::LinksHeader;
+use tl_lines::monitor_lines::append_end;
+use tl_lines::trace_judge::read_for;
 use tl_monitor::fault::MonitorFault;
 use tl_params::liberties::Liberties;
 use tl_params::width::Width;
@@ -136,7 +136,7 @@ impl CoverLines {
 
 impl LineHandler for CoverLines {
     ghost use Rattle.std.specs.Prelude.{false};
-    ghost use Rattle.tl_engine.specs.statement.JudgedLinks.{JudgedLinks};
+    ghost use Rattle.tl_lines.specs.statement.JudgedLinks.{JudgedLinks};
     ghost use Rattle.tl_params.specs.declared.liberties.Liberties.{Liberties};
 
     ghost knows = { KnowsLines };

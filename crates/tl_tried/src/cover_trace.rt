@@ -2,8 +2,8 @@
 //! begin.
 
 ghost use Rattle.std.specs.Prelude.{◌≡◌, [], false, IfOk, None, Ok, Some};
-ghost use Rattle.tl_engine.specs.code.Judging.{Ends, Judges};
-ghost use Rattle.tl_engine.specs.declared.fault.Fault.{Fault};
+ghost use Rattle.tl_lines.specs.code.Judging.{Ends, Judges};
+ghost use Rattle.tl_lines.specs.declared.fault.Fault.{Fault};
 ghost use Rattle.tl_tried.specs.code.WideFollowing.{BeginsHere, BeginsWide, EndsTrace, KnowsCover, TakesLine};
 ghost use Rattle.tl_tried.specs.code.WideFollowing.{found_of_trace, waiting_in, wide_found_by};
 ghost use Rattle.tl_wide_lines.specs.statement.JudgedTrace.{JudgedTrace};
@@ -13,9 +13,9 @@ use crate::wide_covering::WideCovering;
 use std::alloc::{AllocError, Global};
 use tl_beat::fault::LineFault;
 use tl_cover::row::Row;
-use tl_engine::fault::Fault;
-use tl_engine::line_handler::LineHandler;
-use tl_engine::monitor_lines::append_end;
+use tl_lines::fault::Fault;
+use tl_lines::line_handler::LineHandler;
+use tl_lines::monitor_lines::append_end;
 use tl_params::liberties::Liberties;
 use tl_wide::width::WideWidth;
 use tl_wide_lines::header::read_wide_for;

@@ -14,9 +14,9 @@ use tl_commit_lines::header::CommitHeader;
 use tl_commit_lines::judge::levels_of;
 use tl_cover::covering::Covering;
 use tl_cover::row::{Row, one_more};
-use tl_engine::fault::Fault;
 use tl_events::commit::Event;
 use tl_events::event::read_event;
+use tl_lines::fault::Fault;
 
 /// The covering of the beats of `W` bytes of a trace with commits.
 #[derive(Drop)]

@@ -12,8 +12,8 @@ use crate::tried::Tried;
 use std::alloc::{AllocError, Global};
 use std::io::Write;
 use tl_command::cover::CoverForm;
-use tl_engine::output::write_all;
-use tl_engine::status::{Status, ToolFault};
+use tl_lines::output::write_all;
+use tl_lines::status::{Status, ToolFault};
 use tl_tables::tables::append_tables;
 
 /// Whether a line is at fault.

@@ -2,9 +2,9 @@
 
 ghost use Rattle.std.specs.Prelude.{◌≡◌, ◌≢◌, ◌++◌, [], ℕ, List, OnOk, IfErr, IfOk, false};
 ghost use Rattle.std.specs.Io.KnownBytes.{Consumes};
-ghost use Rattle.tl_engine.specs.statement.Lines.{lines_of};
-ghost use Rattle.tl_engine.specs.statement.Run.{EndsAs};
-ghost use Rattle.tl_engine.specs.declared.status.ToolFault.{ToolFault};
+ghost use Rattle.tl_lines.specs.statement.Lines.{lines_of};
+ghost use Rattle.tl_lines.specs.statement.Run.{EndsAs};
+ghost use Rattle.tl_lines.specs.declared.status.ToolFault.{ToolFault};
 ghost use Rattle.tl_tried.specs.code.EventFollowing.{found_of_commits};
 ghost use Rattle.tl_tried.specs.statement.Tried.{IsTried};
 ghost use Rattle.tl_tried.specs.statement.WideEventCovered.{AnyCovered};
@@ -14,9 +14,9 @@ use crate::cover_events::CoverEvents;
 use std::alloc::{AllocError, Global};
 use std::io::Read;
 use tl_cover::row::Row;
-use tl_engine::engine::judge_input;
-use tl_engine::lines::Lines;
-use tl_engine::status::{Status, ToolFault};
+use tl_lines::engine::judge_input;
+use tl_lines::lines::Lines;
+use tl_lines::status::{Status, ToolFault};
 use tl_params::liberties::Liberties;
 
 /// The result for a trace: its verdict, and its situations up to its first line at fault.

@@ -4,8 +4,8 @@ use Rattle.tl_commit_lines.proofs.AsBefore.{fifth-header-without, has_plus, link
 use Rattle.tl_commit_lines.specs.declared.header.MarkedLevel.{MarkedLevel}
 use Rattle.tl_commit_lines.specs.statement.JudgedEvents.{JudgedCommits}
 use Rattle.tl_commit_lines.specs.statement.MarkedHeader.{SpellsMarked}
-use Rattle.tl_engine.specs.declared.status.Status.{Status}
-use Rattle.tl_engine.specs.statement.LinksHeader.{NamesLinks, fourth_front}
+use Rattle.tl_lines.specs.declared.status.Status.{Status}
+use Rattle.tl_lines.specs.statement.LinksHeader.{NamesLinks, fourth_front}
 use Rattle.tl_params.specs.declared.level.Level.{Level}
 use Rattle.tl_params.specs.declared.liberties.Liberties.{Liberties}
 use Rattle.tl_params.specs.declared.width.Width.{Width}

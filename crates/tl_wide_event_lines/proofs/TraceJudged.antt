@@ -9,17 +9,17 @@ use Rattle.tl_commit_lines.specs.declared.lines.EventLines.{EventLines}
 use Rattle.tl_commit_lines.specs.declared.lines.EventLinks.{EventLinks}
 use Rattle.tl_commit_lines.specs.declared.lines.EventLinks.TheVariants as narrow_links
 use Rattle.tl_commit_lines.specs.statement.JudgedEvents.{CommitsSoFar, JudgedCommits}
-use Rattle.tl_engine.proofs.Judged.{said_at_end}
-use Rattle.tl_engine.specs.code.GivenUp.{IsKnown}
-use Rattle.tl_engine.specs.code.Judging.{Finishes, IsTotal, Judges, KnowsFor, Stops}
-use Rattle.tl_engine.specs.code.Watching.{end_by}
-use Rattle.tl_engine.specs.declared.fault.Fault.{Fault}
-use Rattle.tl_engine.specs.declared.fault.Fault.TheVariants.{Line}
-use Rattle.tl_engine.specs.declared.status.Status.{Status}
-use Rattle.tl_engine.specs.declared.status.Status.TheVariants.{Clean, Broken}
-use Rattle.tl_engine.specs.statement.Fault.{fault_text}
-use Rattle.tl_engine.specs.statement.JudgedSo.{said_by}
-use Rattle.tl_engine.specs.statement.Lines.{IsOpen}
+use Rattle.tl_lines.proofs.Judged.{said_at_end}
+use Rattle.tl_lines.specs.code.GivenUp.{IsKnown}
+use Rattle.tl_lines.specs.code.Judging.{Finishes, IsTotal, Judges, KnowsFor, Stops}
+use Rattle.tl_lines.specs.code.Watching.{end_by}
+use Rattle.tl_lines.specs.declared.fault.Fault.{Fault}
+use Rattle.tl_lines.specs.declared.fault.Fault.TheVariants.{Line}
+use Rattle.tl_lines.specs.declared.status.Status.{Status}
+use Rattle.tl_lines.specs.declared.status.Status.TheVariants.{Clean, Broken}
+use Rattle.tl_lines.specs.statement.Fault.{fault_text}
+use Rattle.tl_lines.specs.statement.JudgedSo.{said_by}
+use Rattle.tl_lines.specs.statement.Lines.{IsOpen}
 use Rattle.tl_params.specs.declared.liberties.Liberties.{Liberties}
 use Rattle.tl_wide.specs.declared.width.WideWidth.TheVariants as width
 use Rattle.tl_wide.specs.statement.Width.{wide_bytes_of}

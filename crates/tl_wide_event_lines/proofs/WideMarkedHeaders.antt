@@ -4,7 +4,7 @@ use Rattle.std.specs.Prelude.{◌⊎◌, Option, Some, None}
 use Rattle.tl_commit_lines.proofs.MarkedHeaders.{LinksOrNone, links_open, links_or_none}
 use Rattle.tl_commit_lines.specs.declared.header.MarkedLevel.{MarkedLevel}
 use Rattle.tl_commit_lines.specs.statement.MarkedHeader.{SpellsLinks}
-use Rattle.tl_engine.specs.statement.Lines.{IsOpen}
+use Rattle.tl_lines.specs.statement.Lines.{IsOpen}
 use Rattle.tl_params.proofs.Options.{some_pair}
 use Rattle.tl_params.specs.declared.liberties.Liberties.{Liberties}
 use Rattle.tl_params.specs.statement.Liberties.{united}

@@ -2,7 +2,7 @@
 //! together.
 
 ghost use Rattle.std.specs.Prelude.{◌≡◌, ℕ, Bool, List, [], IfOk, None, true, ⊤};
-ghost use Rattle.tl_engine.specs.code.Judging.{Judges};
+ghost use Rattle.tl_lines.specs.code.Judging.{Judges};
 ghost use Rattle.tl_wide_lines.specs.code.WideWatching.{waits};
 ghost use Rattle.tl_wide_event_lines.specs.code.EventWatching.{BeginsWideMarked, JudgesLine, KnowsAnyLines};
 ghost use Rattle.tl_wide_event_lines.specs.code.EventWatching.{any_judged_for};
@@ -13,9 +13,9 @@ use crate::judge::WideEventJudge;
 use std::alloc::{AllocError, Global};
 use tl_beat::fault::LineFault;
 use tl_commit_lines::lines::EventLines;
-use tl_engine::fault::Fault;
-use tl_engine::line_handler::LineHandler;
-use tl_engine::monitor_lines::append_end;
+use tl_lines::fault::Fault;
+use tl_lines::line_handler::LineHandler;
+use tl_lines::monitor_lines::append_end;
 use tl_params::liberties::Liberties;
 use tl_wide::width::WideWidth;
 

@@ -1,14 +1,14 @@
 //! Runs a monitor over a recorded trace of any version, with or without commits.
 
 ghost use Rattle.std.specs.Prelude.{IfErr, IfOk, OnErr};
-ghost use Rattle.tl_engine.specs.statement.Run.{GivesUpFor, FailsAt, RunsTo};
+ghost use Rattle.tl_lines.specs.statement.Run.{GivesUpFor, FailsAt, RunsTo};
 ghost use Rattle.tl_wide_event_lines.specs.statement.JudgedWideEvents.{AnySoFar, JudgedAny};
 
 use crate::lines::WideEventLines;
 use std::alloc::Global;
 use std::io::{Read, Write};
-use tl_engine::engine::handle_input;
-use tl_engine::status::{Status, ToolFault};
+use tl_lines::engine::handle_input;
+use tl_lines::status::{Status, ToolFault};
 use tl_params::liberties::Liberties;
 
 /// Judges a recorded trace, each link by itself or all together: reads the input to its end or to the first line at

@@ -1,8 +1,8 @@
 -- A trace with a header of another version is judged as before.
 use Rattle.std.proofs.Common.{ℕ, Bool, List, ◌∷◌, inl, inr}
-use Rattle.tl_engine.specs.declared.status.Status.{Status}
-use Rattle.tl_engine.specs.statement.JudgedLinks.{JudgedLinks}
-use Rattle.tl_engine.specs.statement.LinksHeader.{NamesLinks}
+use Rattle.tl_lines.specs.declared.status.Status.{Status}
+use Rattle.tl_lines.specs.statement.JudgedLinks.{JudgedLinks}
+use Rattle.tl_lines.specs.statement.LinksHeader.{NamesLinks}
 use Rattle.tl_params.specs.declared.level.Level.{Level}
 use Rattle.tl_params.specs.declared.liberties.Liberties.{Liberties}
 use Rattle.tl_params.specs.declared.width.Width.{Width}

@@ -6,10 +6,10 @@ use Rattle.std.proofs.lemmas.Grind.{flat_map-append}
 use Rattle.std.specs.Prelude.{◌⊎◌, ◌||◌, IsTrue, Some}
 use Rattle.tl_beat.specs.declared.beat.Link.{Link}
 use Rattle.tl_beat.specs.declared.fault.LineFault.{LineFault}
-use Rattle.tl_engine.specs.declared.fault.Fault.TheVariants.{Line}
-use Rattle.tl_engine.specs.declared.status.Status.{Status}
-use Rattle.tl_engine.specs.declared.status.Status.TheVariants.{Clean, Broken}
-use Rattle.tl_engine.specs.statement.Fault.{fault_text}
+use Rattle.tl_lines.specs.declared.fault.Fault.TheVariants.{Line}
+use Rattle.tl_lines.specs.declared.status.Status.{Status}
+use Rattle.tl_lines.specs.declared.status.Status.TheVariants.{Clean, Broken}
+use Rattle.tl_lines.specs.statement.Fault.{fault_text}
 use Rattle.tl_wide.specs.declared.beat.WideBeat.{WideBeat}
 use Rattle.tl_wide.specs.statement.Line.{WideSpells, wide_line_fault}
 use Rattle.tl_wide.specs.statement.Width.{IsWideWidth}

@@ -7,10 +7,10 @@ use Rattle.std.proofs.lemmas.List.{append-nil, length-map}
 use Rattle.std.specs.Prelude.{if◌then◌else◌, nat_lt, option_map, Option, Some, None}
 use Rattle.tl_beat.specs.declared.beat.Beat.{Beat}
 use Rattle.tl_beat.specs.declared.beat.Link.{Link}
-use Rattle.tl_engine.specs.declared.fault.Fault.{Fault}
-use Rattle.tl_engine.specs.declared.fault.Fault.TheVariants as fault
-use Rattle.tl_engine.specs.statement.Coherent.{fault_of_breach}
-use Rattle.tl_engine.specs.statement.JudgedLinks.{faults_by}
+use Rattle.tl_lines.specs.declared.fault.Fault.{Fault}
+use Rattle.tl_lines.specs.declared.fault.Fault.TheVariants as fault
+use Rattle.tl_lines.specs.statement.Coherent.{fault_of_breach}
+use Rattle.tl_lines.specs.statement.JudgedLinks.{faults_by}
 use Rattle.tl_params.specs.declared.level.Level.{Level}
 use Rattle.tl_params.specs.declared.liberties.Liberties.{Liberties}
 use Rattle.tl_params.specs.declared.rule.Rule.{Rule}

@@ -4,10 +4,10 @@ use Rattle.std.specs.Prelude.{Option, Some, None}
 use Rattle.tl_beat.specs.declared.beat.Beat.{Beat}
 use Rattle.tl_beat.specs.declared.beat.Link.{Link}
 use Rattle.tl_beat.specs.statement.Width.{IsWidth}
-use Rattle.tl_engine.specs.code.TraceJudging.{JudgesBeat, KnowsBeats}
-use Rattle.tl_engine.specs.declared.fault.Fault.{Fault}
-use Rattle.tl_engine.specs.declared.trace_judge.TraceJudge.{TraceJudge}
-use Rattle.tl_engine.specs.statement.JudgedLinks.{faults_by}
+use Rattle.tl_lines.specs.code.TraceJudging.{JudgesBeat, KnowsBeats}
+use Rattle.tl_lines.specs.declared.fault.Fault.{Fault}
+use Rattle.tl_lines.specs.declared.trace_judge.TraceJudge.{TraceJudge}
+use Rattle.tl_lines.specs.statement.JudgedLinks.{faults_by}
 use Rattle.tl_params.specs.declared.level.Level.{Level}
 use Rattle.tl_params.specs.declared.liberties.Liberties.{Liberties}
 use Rattle.tl_rules.specs.statement.Conformance.{Trace}

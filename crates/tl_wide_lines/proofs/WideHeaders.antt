@@ -6,14 +6,14 @@ use Rattle.std.specs.Io.BufRead.{ends_with_byte}
 use Rattle.std.specs.Prelude.{◌⊎◌, Option, Some, None}
 use Rattle.tl_beat.proofs.SpelledLines.{ends_with_byte-line}
 use Rattle.tl_command.proofs.LibertyWords.{word-short}
-use Rattle.tl_engine.proofs.Judged.{levels-short}
-use Rattle.tl_engine.proofs.Headers.{header_again}
-use Rattle.tl_engine.proofs.LinksHeaders.{NamedOrNone, fourth_at, named_or_none, tail}
-use Rattle.tl_engine.specs.code.HeadReading.{front_at}
-use Rattle.tl_engine.specs.statement.Lines.{IsOpen}
-use Rattle.tl_engine.specs.code.TraceReading.{header_at}
-use Rattle.tl_engine.specs.statement.LinksHeader.{NamesLinks, SpellsNamed}
-use Rattle.tl_engine.specs.statement.Trace.{levels_text}
+use Rattle.tl_lines.proofs.Judged.{levels-short}
+use Rattle.tl_lines.proofs.Headers.{header_again}
+use Rattle.tl_lines.proofs.LinksHeaders.{NamedOrNone, fourth_at, named_or_none, tail}
+use Rattle.tl_lines.specs.code.HeadReading.{front_at}
+use Rattle.tl_lines.specs.statement.Lines.{IsOpen}
+use Rattle.tl_lines.specs.code.TraceReading.{header_at}
+use Rattle.tl_lines.specs.statement.LinksHeader.{NamesLinks, SpellsNamed}
+use Rattle.tl_lines.specs.statement.Trace.{levels_text}
 use Rattle.tl_params.proofs.Headers.{after_taken}
 use Rattle.tl_params.proofs.Options.{some_pair}
 use Rattle.tl_params.specs.code.HeaderReading.{after_word}

@@ -5,7 +5,7 @@ use Rattle.tl_beat.specs.declared.beat.Link.{Link}
 use Rattle.tl_beat.specs.declared.opcode.OpA.TheVariants as a
 use Rattle.tl_beat.specs.declared.opcode.OpD.TheVariants as d
 use Rattle.tl_burst.specs.statement.Messages.{unfinished}
-use Rattle.tl_engine.specs.declared.fault.Fault.TheVariants.{Rule}
+use Rattle.tl_lines.specs.declared.fault.Fault.TheVariants.{Rule}
 use Rattle.tl_params.specs.declared.level.Level.TheVariants as level
 use Rattle.tl_params.specs.declared.rule.Rule.TheVariants.{H2}
 use Rattle.tl_params.specs.statement.Liberties.{no_liberties}

@@ -1,15 +1,15 @@
 //! Decodes lines of wide beats.
 
 ghost use Rattle.std.specs.Prelude.{IfErr, IfOk, OnErr};
-ghost use Rattle.tl_engine.specs.statement.Run.{GivesUpFor, FailsAt, RunsTo};
+ghost use Rattle.tl_lines.specs.statement.Run.{GivesUpFor, FailsAt, RunsTo};
 ghost use Rattle.tl_wide.specs.statement.Width.{wide_bytes_of};
 ghost use Rattle.tl_wide_lines.specs.statement.WideDecoded.{DecodedSoFar, DecodedWide};
 
 use crate::decoder::WideDecoder;
 use std::alloc::Global;
 use std::io::{Read, Write};
-use tl_engine::engine::handle_input;
-use tl_engine::status::{Status, ToolFault};
+use tl_lines::engine::handle_input;
+use tl_lines::status::{Status, ToolFault};
 use tl_wide::width::WideWidth;
 
 /// Decodes beat lines of this width: reads the input to its end or to the first line that spells no wide beat, and

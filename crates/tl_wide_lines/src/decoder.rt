@@ -7,8 +7,8 @@ ghost use Rattle.tl_wide_lines.specs.statement.WideDecoded.{DecodedWide};
 use crate::text::append_wide_text;
 use std::alloc::AllocError;
 use tl_beat::fault::LineFault;
-use tl_engine::fault::Fault;
-use tl_engine::line_handler::LineHandler;
+use tl_lines::fault::Fault;
+use tl_lines::line_handler::LineHandler;
 use tl_wide::beat::{WideBeat, WideBeatE};
 use tl_wide::read::read_wide_into;
 

@@ -8,7 +8,7 @@ ghost use Rattle.tl_wide.specs.declared.width.WideWidth.{WideWidth};
 ghost use Rattle.tl_wide_lines.specs.code.HeadReading.{ReadsWide, wide_front_at};
 ghost use Rattle.tl_wide_lines.specs.statement.WideHeader.{IsWideHeader, SpellsFifth};
 
-use tl_engine::links_header::{LinksHeader, read_named};
+use tl_lines::links_header::{LinksHeader, read_named};
 use tl_params::liberties::Liberties;
 use tl_params::width::Width;
 use tl_wide::width::WideWidth;

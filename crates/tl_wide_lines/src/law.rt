@@ -1,9 +1,9 @@
 //! Laws: the verdict on a narrow trace is as it was, and the verdict on a wide trace is unique.
 
 ghost use Rattle.std.specs.Prelude.{◌≡◌, ◌∷◌, ℕ, Bool, List};
-ghost use Rattle.tl_engine.specs.declared.status.Status.{Status};
-ghost use Rattle.tl_engine.specs.statement.JudgedLinks.{JudgedLinks};
-ghost use Rattle.tl_engine.specs.statement.LinksHeader.{NamesLinks};
+ghost use Rattle.tl_lines.specs.declared.status.Status.{Status};
+ghost use Rattle.tl_lines.specs.statement.JudgedLinks.{JudgedLinks};
+ghost use Rattle.tl_lines.specs.statement.LinksHeader.{NamesLinks};
 ghost use Rattle.tl_params.specs.declared.level.Level.{Level};
 ghost use Rattle.tl_params.specs.declared.liberties.Liberties.{Liberties};
 ghost use Rattle.tl_params.specs.declared.width.Width.{Width};

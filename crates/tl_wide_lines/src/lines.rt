@@ -1,7 +1,7 @@
 //! Judges a recorded trace whose header may be of any version, each link by itself or all together.
 
 ghost use Rattle.std.specs.Prelude.{◌≡◌, ◌∷◌, List, ℕ, [], IfOk, None, ⊤};
-ghost use Rattle.tl_engine.specs.code.Judging.{Judges};
+ghost use Rattle.tl_lines.specs.code.Judging.{Judges};
 ghost use Rattle.tl_wide_lines.specs.code.WideWatching.{BeginsHere, BeginsWide, JudgesLine, KnowsTraceLines};
 ghost use Rattle.tl_wide_lines.specs.code.WideWatching.{trace_judged_for, waits};
 ghost use Rattle.tl_wide_lines.specs.statement.JudgedTrace.{JudgedTrace};
@@ -10,11 +10,11 @@ use crate::header::read_wide_for;
 use crate::judge::{Clue, WideJudge};
 use std::alloc::{AllocError, Global};
 use tl_beat::fault::LineFault;
-use tl_engine::fault::Fault;
-use tl_engine::follow::Alone;
-use tl_engine::line_handler::LineHandler;
-use tl_engine::link_lines::{LinkJudge, LinkLines};
-use tl_engine::monitor_lines::append_end;
+use tl_lines::fault::Fault;
+use tl_lines::follow::Alone;
+use tl_lines::line_handler::LineHandler;
+use tl_lines::link_lines::{LinkJudge, LinkLines};
+use tl_lines::monitor_lines::append_end;
 use tl_params::liberties::Liberties;
 use tl_wide::width::WideWidth;
 

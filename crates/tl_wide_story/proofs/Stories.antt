@@ -1,9 +1,9 @@
 -- A story knows what its replay knows.
 use Rattle.std.proofs.Common.{◌≡◌, ℕ, List}
 use Rattle.std.specs.Prelude.{Option, Some, None, ⊤}
-use Rattle.tl_engine.specs.code.Judging.{Judges}
-use Rattle.tl_engine.specs.declared.fault.Fault.{Fault}
-use Rattle.tl_engine.specs.declared.status.Status.{Status}
+use Rattle.tl_lines.specs.code.Judging.{Judges}
+use Rattle.tl_lines.specs.declared.fault.Fault.{Fault}
+use Rattle.tl_lines.specs.declared.status.Status.{Status}
 use Rattle.tl_wide_story.specs.code.WideReplaying.{KnowsReplay}
 use Rattle.tl_wide_story.specs.declared.replay.WideReplay.{WideReplay}
 use Rattle.tl_wide_story.specs.declared.story.WideStory.{WideStory}

@@ -1,14 +1,14 @@
 -- What the two readings of a wide trace bring.
 use Rattle.std.proofs.Common.{◌≡◌, ◌+◌, ℕ, Bool, false, List, []}
 use Rattle.std.specs.Prelude.{Option, Some}
-use Rattle.tl_engine.specs.code.GivenUp.{IsKnown}
-use Rattle.tl_engine.specs.code.Judging.{IsTotal, KnowsFor}
-use Rattle.tl_engine.specs.declared.fault.Fault.{Fault}
-use Rattle.tl_engine.specs.declared.fault.Fault.TheVariants as fault
-use Rattle.tl_engine.specs.declared.status.Status.{Status}
-use Rattle.tl_engine.specs.declared.status.Status.TheVariants.{Broken}
-use Rattle.tl_engine.specs.statement.Fault.{fault_text}
-use Rattle.tl_engine.specs.statement.Run.{RunsTo}
+use Rattle.tl_lines.specs.code.GivenUp.{IsKnown}
+use Rattle.tl_lines.specs.code.Judging.{IsTotal, KnowsFor}
+use Rattle.tl_lines.specs.declared.fault.Fault.{Fault}
+use Rattle.tl_lines.specs.declared.fault.Fault.TheVariants as fault
+use Rattle.tl_lines.specs.declared.status.Status.{Status}
+use Rattle.tl_lines.specs.declared.status.Status.TheVariants.{Broken}
+use Rattle.tl_lines.specs.statement.Fault.{fault_text}
+use Rattle.tl_lines.specs.statement.Run.{RunsTo}
 use Rattle.tl_params.specs.declared.liberties.Liberties.{Liberties}
 use Rattle.tl_wide_story.specs.code.WideReplaying.{is_rule}
 use Rattle.tl_wide_lines.proofs.TraceJudged.{trace-so-far, trace-total}

@@ -7,13 +7,13 @@ use Rattle.std.specs.Result.{is_err}
 use Rattle.std.specs.Io.KnownBytes.{Consumes}
 use Rattle.tl_beat.specs.declared.beat.Beat.{Beat}
 use Rattle.tl_beat.specs.declared.beat.Link.{Link}
-use Rattle.tl_engine.specs.code.Progress.{HasAll}
-use Rattle.tl_engine.specs.declared.fault.Fault.{Fault}
-use Rattle.tl_engine.specs.declared.fault.Fault.TheVariants as fault
-use Rattle.tl_engine.specs.declared.status.Status.{Status}
-use Rattle.tl_engine.specs.declared.status.Status.TheVariants.{Broken, Clean}
-use Rattle.tl_engine.specs.statement.Fault.{fault_text}
-use Rattle.tl_engine.specs.statement.Lines.{lines_of}
+use Rattle.tl_lines.specs.code.Progress.{HasAll}
+use Rattle.tl_lines.specs.declared.fault.Fault.{Fault}
+use Rattle.tl_lines.specs.declared.fault.Fault.TheVariants as fault
+use Rattle.tl_lines.specs.declared.status.Status.{Status}
+use Rattle.tl_lines.specs.declared.status.Status.TheVariants.{Broken, Clean}
+use Rattle.tl_lines.specs.statement.Fault.{fault_text}
+use Rattle.tl_lines.specs.statement.Lines.{lines_of}
 use Rattle.tl_evidence.proofs.Guilt.{convicted_on}
 use Rattle.tl_evidence.specs.code.Guilty as guilty
 use Rattle.tl_explain.specs.code.Recorded.{IsRecordUnder}

@@ -5,7 +5,7 @@ ghost use Rattle.tl_beat.specs.statement.Width.{IsWidth};
 use std::alloc::{AllocError, Global};
 use tl_allowed::text::append_allowance;
 use tl_beat::beat::{Beat, Link};
-use tl_engine::links_header::LinksHeader;
+use tl_lines::links_header::LinksHeader;
 use tl_monitor::fault::MonitorFault;
 use tl_monitor::monitor::Monitor;
 use tl_params::liberties::Liberty;

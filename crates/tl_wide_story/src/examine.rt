@@ -1,21 +1,21 @@
 //! Judges a wide trace, and notes the facts from which the explanation of its first fault starts.
 
 ghost use Rattle.std.specs.Prelude.{◌≡◌, ◌≢◌, ◌+◌, [], IfErr, IfOk, None, OnOk, true, ⊤};
-ghost use Rattle.tl_engine.specs.statement.Fault.{fault_text};
+ghost use Rattle.tl_lines.specs.statement.Fault.{fault_text};
 ghost use Rattle.tl_wide_lines.specs.code.WideWatching.{KnowsTraceLines, trace_judged_for};
-ghost use Rattle.tl_engine.specs.statement.Unexplained.{IsUnjudged};
+ghost use Rattle.tl_reasons.specs.statement.Unexplained.{IsUnjudged};
 ghost use Rattle.tl_wide_lines.specs.statement.JudgedTrace.{JudgedTrace, TraceSoFar};
 ghost use Rattle.tl_wide_story.specs.statement.WideExplained.{ReachesWide};
 
 use std::alloc::{AllocError, Global};
 use std::io::Read;
-use tl_engine::engine::handle_input;
-use tl_engine::explain::in_memory;
-use tl_engine::explain_fault::ExplainFault;
-use tl_engine::fault::{Fault, append_fault};
-use tl_engine::line_handler::LineHandler;
-use tl_engine::status::Status;
+use tl_lines::engine::handle_input;
+use tl_lines::fault::{Fault, append_fault};
+use tl_lines::line_handler::LineHandler;
+use tl_lines::status::Status;
 use tl_params::liberties::Liberties;
+use tl_reasons::explain::in_memory;
+use tl_reasons::explain_fault::ExplainFault;
 use tl_wide::width::WideWidth;
 use tl_wide_lines::header::read_wide_for;
 use tl_wide_lines::judge::Clue;

@@ -8,8 +8,8 @@ ghost use Rattle.tl_wide_story.specs.statement.WideExplained.{wide_beat_line, wi
 use itoa::Buffer;
 use std::alloc::AllocError;
 use tl_beat::beat::Link;
-use tl_engine::fault::Fault;
 use tl_explain::named::{append_memory_sentence, append_sentence};
+use tl_lines::fault::Fault;
 use tl_wide::beat::WideBeat;
 use tl_wide_lines::text::append_wide_text;
 

@@ -7,8 +7,8 @@ ghost use Rattle.tl_wide_story.specs.code.WideReplaying.{IsGuilty};
 use crate::replay::WideReplay;
 use std::alloc::AllocError;
 use tl_beat::beat::{Beat, Link};
-use tl_engine::fault::Fault;
 use tl_evidence::conviction::tell_conviction;
+use tl_lines::fault::Fault;
 use tl_rules::rule::Rule;
 
 /// Forgets the words of a rule after the first `before` bytes, if they show a mask that is in no line: that of a part of more

@@ -8,7 +8,7 @@ use crate::pending_beats::PendingBeats;
 use crate::places::WidePlaces;
 use std::alloc::{AllocError, Global};
 use tl_beat::beat::{Beat, Link};
-use tl_engine::links_header::LinksHeader;
+use tl_lines::links_header::LinksHeader;
 use tl_rules::memory_rule::MemoryRule;
 
 /// A question about a wide trace.

@@ -5,7 +5,7 @@ ghost use Rattle.tl_beat.specs.statement.Width.{IsWidth};
 use crate::places::WidePlaces;
 use std::alloc::{AllocError, Global};
 use tl_beat::beat::{Beat, Link};
-use tl_engine::links_header::LinksHeader;
+use tl_lines::links_header::LinksHeader;
 use tl_rules::memory_rule::MemoryRule;
 use tl_together::breach::Breach;
 use tl_together::fault::JudgeFault;

@@ -4,11 +4,11 @@ ghost use Rattle.tl_beat.specs.statement.Width.{IsWidth};
 
 use std::alloc::{AllocError, Global};
 use tl_beat::beat::{Beat, Link};
-use tl_engine::follow::Follow;
-use tl_engine::links_header::LinksHeader;
-use tl_engine::trace_judge::TraceJudge;
 use tl_explain::ledger::Ledger;
 use tl_explain::wording::Wording;
+use tl_lines::follow::Follow;
+use tl_lines::links_header::LinksHeader;
+use tl_lines::trace_judge::TraceJudge;
 
 /// Lists the messages that are pending after the beats of a trace.
 #[derive(Drop)]

@@ -5,8 +5,8 @@ ghost use Rattle.tl_wide_lines.specs.code.WideDecoding.{is_wide_width};
 
 use crate::citation::WideWording;
 use std::alloc::Global;
-use tl_engine::fault::Fault;
 use tl_explain::recorder::Recorder;
+use tl_lines::fault::Fault;
 use tl_params::level::Level;
 use tl_params::liberties::Liberties;
 use tl_wide::narrow::Narrower;

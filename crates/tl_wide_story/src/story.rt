@@ -6,8 +6,8 @@ ghost use Rattle.tl_wide_story.specs.code.WideReplaying.{EndsReplay, KnowsReplay
 use crate::lesson::Lesson;
 use crate::replay::WideReplay;
 use std::alloc::AllocError;
-use tl_engine::fault::Fault;
-use tl_engine::line_handler::LineHandler;
+use tl_lines::fault::Fault;
+use tl_lines::line_handler::LineHandler;
 
 /// Explains the line at fault by a replay and a lesson.
 #[derive(Drop)]

@@ -1,10 +1,10 @@
 -- What was given up while the liberties were written that would allow what was found.
 use Rattle.std.proofs.Common.{◌≡◌, ◌++◌, ◌∙◌, List, [], ℕ, ap, subst, inr}
 use Rattle.std.specs.Prelude.{Option, Err}
-use Rattle.tl_engine.specs.statement.Parts.{AppendsShort}
-use Rattle.tl_engine.specs.declared.status.ToolFault.{ToolFault}
-use Rattle.tl_engine.specs.declared.status.ToolFault.TheVariants.{Write}
-use Rattle.tl_engine.specs.statement.Exit.{exit_status}
+use Rattle.tl_lines.specs.statement.Parts.{AppendsShort}
+use Rattle.tl_lines.specs.declared.status.ToolFault.{ToolFault}
+use Rattle.tl_lines.specs.declared.status.ToolFault.TheVariants.{Write}
+use Rattle.tl_lines.specs.statement.Exit.{exit_status}
 use Rattle.tl_links.specs.statement.Allowed.{FindsAllowed, allowed_line}
 use Rattle.tl_params.specs.declared.liberties.Liberties.{Liberties}
 use Rattle.tl_params.specs.declared.liberties.Liberty.{Liberty}

@@ -3,9 +3,9 @@ use Rattle.std.proofs.Common.{◌≡◌, List, ℕ, refl}
 use Rattle.std.specs.Prelude.{Bool, Option, Result}
 use Rattle.tl_command.specs.declared.command.Command.{Command}
 use Rattle.tl_command.specs.declared.command.Command.TheVariants.{Coherent, Decode, Explain, Monitor, Run}
-use Rattle.tl_engine.specs.declared.status.Status.{Status}
-use Rattle.tl_engine.specs.declared.status.ToolFault.{ToolFault}
-use Rattle.tl_engine.specs.statement.Exit.{exit_status}
+use Rattle.tl_lines.specs.declared.status.Status.{Status}
+use Rattle.tl_lines.specs.declared.status.ToolFault.{ToolFault}
+use Rattle.tl_lines.specs.statement.Exit.{exit_status}
 use Rattle.tl_engine.specs.statement.Told.{text_so_far, text_told}
 use Rattle.tl_params.specs.declared.liberties.Liberties.{Liberties}
 use Rattle.tltool.specs.Ended.{EndsAs, IsOutcome}

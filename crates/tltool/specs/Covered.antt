@@ -2,9 +2,9 @@
 use Rattle.std.specs.Prelude.{◌≡◌, ◌⊎◌, ◌++◌, ◌∷◌, [], ℕ, List, length, Option, Result, Err, IfErr, IfOk}
 use Rattle.std.specs.Io.KnownBytes.{Appends}
 use Rattle.tl_command.specs.declared.cover.CoverForm.{CoverForm}
-use Rattle.tl_engine.specs.declared.status.Status.{Status}
-use Rattle.tl_engine.specs.declared.status.ToolFault.{ToolFault}
-use Rattle.tl_engine.specs.statement.Exit.{exit_status}
+use Rattle.tl_lines.specs.declared.status.Status.{Status}
+use Rattle.tl_lines.specs.declared.status.ToolFault.{ToolFault}
+use Rattle.tl_lines.specs.statement.Exit.{exit_status}
 use Rattle.tl_params.specs.statement.Liberties.{no_liberties}
 use Rattle.tl_tried.specs.declared.tried.Tried.{Tried}
 use Rattle.tl_tried.specs.statement.Told.{Names, told}

@@ -14,20 +14,20 @@ use Rattle.tl_params.specs.statement.Header.{width_of}
 use Rattle.tl_words.specs.declared.words.WordsFault.{WordsFault}
 use Rattle.tl_words.specs.declared.words.WordsFault.TheVariants as words
 use Rattle.tl_words.specs.Refused.{status_of_usage}
-use Rattle.tl_engine.specs.declared.explain_fault.ExplainFault.{ExplainFault}
-use Rattle.tl_engine.specs.declared.status.Status.{Status}
-use Rattle.tl_engine.specs.declared.status.ToolFault.{ToolFault}
-use Rattle.tl_engine.specs.declared.status.ToolFault.TheVariants.{Memory, Write}
-use Rattle.tl_engine.specs.statement.Run.{GivesUpFor, FailsAt, RunsTo}
-use Rattle.tl_engine.specs.statement.Parts.{AppendsShort}
+use Rattle.tl_reasons.specs.declared.explain_fault.ExplainFault.{ExplainFault}
+use Rattle.tl_lines.specs.declared.status.Status.{Status}
+use Rattle.tl_lines.specs.declared.status.ToolFault.{ToolFault}
+use Rattle.tl_lines.specs.declared.status.ToolFault.TheVariants.{Memory, Write}
+use Rattle.tl_lines.specs.statement.Run.{GivesUpFor, FailsAt, RunsTo}
+use Rattle.tl_lines.specs.statement.Parts.{AppendsShort}
 use Rattle.tl_engine.specs.statement.Charted.{Charts, GivesUpCharting}
-use Rattle.tl_engine.specs.statement.Exit.{exit_status}
-use Rattle.tl_engine.specs.statement.Explained.{Explains}
+use Rattle.tl_lines.specs.statement.Exit.{exit_status}
+use Rattle.tl_reasons.specs.statement.Explained.{Explains}
 use Rattle.tl_engine.specs.statement.Told.{text_so_far, text_told}
-use Rattle.tl_engine.specs.statement.Unexplained.{GivesUpExplaining, Reaches}
-use Rattle.tl_engine.specs.statement.Width.{bytes_of}
+use Rattle.tl_reasons.specs.statement.Unexplained.{GivesUpExplaining, Reaches}
+use Rattle.tl_lines.specs.statement.Width.{bytes_of}
 use Rattle.tl_links.specs.statement.Allowed.{FindsAllowed, allowed_line}
-use Rattle.tl_engine.specs.statement.JudgedLinks.{JudgedLinks, LinksSoFar}
+use Rattle.tl_lines.specs.statement.JudgedLinks.{JudgedLinks, LinksSoFar}
 use Rattle.tl_random.specs.statement.Random.{WritesPart, WritesSchedule}
 use Rattle.tl_report.specs.declared.findings.Finding.{Finding}
 use Rattle.tl_report.specs.statement.Said.{GivesUpSearching, Searches, all_text, status_of}

@@ -3,9 +3,9 @@ use Rattle.std.specs.Prelude.{◌≡◌, ◌++◌, ℕ, Bool, true, false, List,
 use Rattle.std.specs.Prelude.{if◌then◌else◌, is_ok}
 use Rattle.std.specs.Io.KnownBytes.{Appends, Consumes, IsAtEnd}
 use Rattle.tl_command.specs.declared.search.Inquiry.{Inquiry}
-use Rattle.tl_engine.specs.declared.status.ToolFault.{ToolFault}
-use Rattle.tl_engine.specs.declared.status.ToolFault.TheVariants.{Write}
-use Rattle.tl_engine.specs.statement.Exit.{exit_status}
+use Rattle.tl_lines.specs.declared.status.ToolFault.{ToolFault}
+use Rattle.tl_lines.specs.declared.status.ToolFault.TheVariants.{Write}
+use Rattle.tl_lines.specs.statement.Exit.{exit_status}
 use Rattle.tl_report.specs.declared.findings.Finding.{Finding}
 use Rattle.tl_report.specs.statement.Said.{status_of}
 use Rattle.tl_sign_off.specs.declared.account.Account.{Account}

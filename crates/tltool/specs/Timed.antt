@@ -1,10 +1,10 @@
 -- How the program ends that explains a trace with times.
 use Rattle.std.specs.Prelude.{◌≡◌, ◌⊎◌, ℕ, List, Option, Result, Err}
 use Rattle.std.specs.Io.KnownBytes.{Appends}
-use Rattle.tl_engine.specs.declared.status.ToolFault.{ToolFault}
-use Rattle.tl_engine.specs.declared.status.ToolFault.TheVariants.{Write}
-use Rattle.tl_engine.specs.statement.Exit.{exit_status}
-use Rattle.tl_engine.specs.statement.Parts.{AppendsShort}
+use Rattle.tl_lines.specs.declared.status.ToolFault.{ToolFault}
+use Rattle.tl_lines.specs.declared.status.ToolFault.TheVariants.{Write}
+use Rattle.tl_lines.specs.statement.Exit.{exit_status}
+use Rattle.tl_lines.specs.statement.Parts.{AppendsShort}
 use Rattle.tl_times.specs.statement.Timed.{ReadsTimes, timed}
 
 -- Why nothing more was written: `Write` means that the writer took only a front of the text. Otherwise it took nothing.

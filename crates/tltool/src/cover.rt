@@ -1,14 +1,14 @@
 //! Reports the situations of traces.
 
 ghost use Rattle.std.specs.Prelude.{◌≡◌, ◌+◌, length, ℕ, List, Option, Err, IfErr, IfOk, OnErr, OnOk};
-ghost use Rattle.tl_engine.specs.statement.Exit.{exit_status};
+ghost use Rattle.tl_lines.specs.statement.Exit.{exit_status};
 ghost use Rattle.tltool.specs.Covered.{AddsTried, EndsCovered, EndsCoveredIn, EndsTold};
 
 use crate::{told, unopened};
 use std::io::{Read, Write};
 use std::{fs, io};
 use tl_command::cover::CoverForm;
-use tl_engine::status::ToolFault;
+use tl_lines::status::ToolFault;
 use tl_params::liberties::Liberties;
 use tl_tried::tell::tell;
 use tl_tried::tried::{Tried, try_trace};

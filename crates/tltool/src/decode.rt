@@ -1,8 +1,8 @@
 //! Decodes lines of wide beats.
 
 ghost use Rattle.std.specs.Prelude.{◌≡◌, ℕ, Err, IfOk, List, OnErr, Option};
-ghost use Rattle.tl_engine.specs.declared.status.ToolFault.{ToolFault};
-ghost use Rattle.tl_engine.specs.statement.Exit.{exit_status};
+ghost use Rattle.tl_lines.specs.declared.status.ToolFault.{ToolFault};
+ghost use Rattle.tl_lines.specs.statement.Exit.{exit_status};
 ghost use Rattle.tltool.specs.Ended.{EndsDecoded};
 
 use crate::{told, unopened};

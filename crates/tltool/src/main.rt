@@ -2,7 +2,7 @@
 #![tactic(auto)]
 
 ghost use Rattle.std.specs.Prelude.{◌≡◌, IfOk, OnOk, OnErr, Err};
-ghost use Rattle.tl_engine.specs.statement.Exit.{exit_status};
+ghost use Rattle.tl_lines.specs.statement.Exit.{exit_status};
 ghost use Rattle.tltool.specs.Ended.{EndsAllowed, EndsAs, EndsDrawn, EndsExplained, EndsFound, EndsOver, IsRefused};
 ghost use Rattle.tltool.specs.Ended.{explain_status};
 
@@ -30,16 +30,16 @@ use tl_command::random::Options;
 use tl_command::search::Aim;
 use tl_command::task::Task;
 use tl_engine::command::Command;
-use tl_engine::explain::explain_input;
-use tl_engine::explain_fault::ExplainFault;
-use tl_engine::named::tell_named;
-use tl_engine::output::{write_all, write_changed, write_once, write_open_fault};
-use tl_engine::status::{Status, ToolFault, exit_of};
 use tl_engine::tool::run_tool;
+use tl_lines::output::{write_all, write_changed, write_once, write_open_fault};
+use tl_lines::status::{Status, ToolFault, exit_of};
 use tl_links::allowing::append_allowed;
 use tl_links::run::run_links;
 use tl_params::liberties::Liberties;
 use tl_random::schedule::write_schedule;
+use tl_reasons::explain::explain_input;
+use tl_reasons::explain_fault::ExplainFault;
+use tl_reasons::named::tell_named;
 use tl_report::find::find_all;
 use tl_wide_event_lines::run::run_any;
 use tl_words::words::{WordsFault, invocation, usage_status};

@@ -7,7 +7,7 @@ use crate::{told, unopened};
 use std::io::{Read, Write};
 use std::{fs, io};
 use tl_command::search::Inquiry;
-use tl_engine::status::{ToolFault, exit_of};
+use tl_lines::status::{ToolFault, exit_of};
 use tl_report::findings::Findings;
 use tl_report::say::status_of;
 use tl_sign_off::account::Account;

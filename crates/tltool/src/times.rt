@@ -5,7 +5,7 @@ ghost use Rattle.tltool.specs.Timed.{EndsTimed};
 use crate::{explain, told, unopened};
 use std::io::{Read, Write};
 use std::{fs, io};
-use tl_engine::output::write_all;
+use tl_lines::output::write_all;
 use tl_params::liberties::Liberties;
 use tl_times::times::append_timed;
 

@@ -9,9 +9,9 @@ use Rattle.tl_events.specs.declared.commit.Event.{Event}
 use Rattle.tl_events.specs.statement.EventLine.{SpellsEvent}
 use Rattle.tl_commits.specs.statement.Events.{Events, beats_of}
 use Rattle.tl_commits.specs.statement.Knows.{KnowsCommits}
-use Rattle.tl_engine.specs.declared.fault.Fault.{Fault}
-use Rattle.tl_engine.specs.declared.status.Status.{Status}
-use Rattle.tl_engine.specs.statement.Width.{bytes_of}
+use Rattle.tl_lines.specs.declared.fault.Fault.{Fault}
+use Rattle.tl_lines.specs.declared.status.Status.{Status}
+use Rattle.tl_lines.specs.statement.Width.{bytes_of}
 use Rattle.tl_wide_lines.specs.code.WideWatching.{KnowsTraceLines, trace_judged_for, waits}
 use Rattle.tl_wide_lines.specs.declared.lines.TraceLines.{TraceLines}
 use Rattle.tl_commit_lines.specs.declared.header.MarkedLevel.{MarkedLevel}

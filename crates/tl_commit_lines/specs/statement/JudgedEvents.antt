@@ -13,14 +13,14 @@ use Rattle.tl_commits.specs.declared.rule.CommitBreach.{CommitBreach}
 use Rattle.tl_commits.specs.declared.rule.CommitBreach.TheVariants.{OfBeats, OfCommits}
 use Rattle.tl_commits.specs.statement.Breaches.{broken_event}
 use Rattle.tl_commits.specs.statement.Events.{Events, beats_of}
-use Rattle.tl_engine.specs.declared.fault.Fault.{Fault}
-use Rattle.tl_engine.specs.declared.fault.Fault.TheVariants.{CommitRule, Line, Rule as Breaks}
-use Rattle.tl_engine.specs.declared.status.Status.{Status}
-use Rattle.tl_engine.specs.declared.status.Status.TheVariants.{Clean, Broken}
-use Rattle.tl_engine.specs.statement.Coherent.{fault_of_breach}
-use Rattle.tl_engine.specs.statement.Fault.{fault_text}
-use Rattle.tl_engine.specs.statement.JudgedSo.{said_by}
-use Rattle.tl_engine.specs.statement.Width.{bytes_of}
+use Rattle.tl_lines.specs.declared.fault.Fault.{Fault}
+use Rattle.tl_lines.specs.declared.fault.Fault.TheVariants.{CommitRule, Line, Rule as Breaks}
+use Rattle.tl_lines.specs.declared.status.Status.{Status}
+use Rattle.tl_lines.specs.declared.status.Status.TheVariants.{Clean, Broken}
+use Rattle.tl_lines.specs.statement.Coherent.{fault_of_breach}
+use Rattle.tl_lines.specs.statement.Fault.{fault_text}
+use Rattle.tl_lines.specs.statement.JudgedSo.{said_by}
+use Rattle.tl_lines.specs.statement.Width.{bytes_of}
 use Rattle.tl_wide_lines.specs.statement.JudgedTrace.{JudgedTrace}
 use Rattle.tl_commit_lines.specs.declared.header.MarkedLevel.{MarkedLevel}
 use Rattle.tl_commit_lines.specs.statement.MarkedHeader.{NamesMarked, complete_of, levels_of}

@@ -4,7 +4,7 @@ use Rattle.std.specs.Prelude.{Option, Some, None}
 use Rattle.std.specs.List.{list_any}
 use Rattle.arrayvec.specs.ArrayVec.{ArrayVec}
 use Rattle.tl_command.specs.statement.LibertyWords.{SpellsLiberties}
-use Rattle.tl_engine.specs.statement.LinksHeader.{fourth_front}
+use Rattle.tl_lines.specs.statement.LinksHeader.{fourth_front}
 use Rattle.tl_params.specs.declared.level.Level.{Level}
 use Rattle.tl_params.specs.declared.level.Level.TheVariants.{C}
 use Rattle.tl_params.specs.declared.liberties.Liberties.{Liberties}

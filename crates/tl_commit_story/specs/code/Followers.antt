@@ -4,7 +4,7 @@ use Rattle.tl_beat.specs.declared.beat.Link.{Link}
 use Rattle.tl_commit_lines.specs.declared.header.MarkedLevel.{MarkedLevel}
 use Rattle.tl_commit_lines.specs.statement.MarkedHeader.{complete_of, levels_of}
 use Rattle.tl_commits.specs.statement.Events.{Events}
-use Rattle.tl_engine.specs.declared.fault.Fault.{Fault}
+use Rattle.tl_lines.specs.declared.fault.Fault.{Fault}
 use Rattle.tl_events.specs.declared.commit.Event.{Event}
 use Rattle.tl_events.specs.declared.rule.CommitRule.{CommitRule}
 use Rattle.tl_evidence.specs.code.Following.{KnowsCopy}

@@ -2,8 +2,8 @@
 use Rattle.std.specs.Prelude.{◌≡◌, ◌+◌, ◌++◌, ◌∷◌, ℕ, Bool, true, false, [], List, length, Option, Some, None, ⊤}
 use Rattle.tl_beat.specs.declared.beat.Link.{Link}
 use Rattle.tl_commits.specs.statement.Events.{Events}
-use Rattle.tl_engine.specs.declared.fault.Fault.{Fault}
-use Rattle.tl_engine.specs.statement.Width.{bytes_of}
+use Rattle.tl_lines.specs.declared.fault.Fault.{Fault}
+use Rattle.tl_lines.specs.statement.Width.{bytes_of}
 use Rattle.tl_events.specs.declared.commit.Event.{Event}
 use Rattle.tl_events.specs.statement.EventLine.{SpellsEvent}
 use Rattle.tl_params.specs.declared.liberties.Liberties.{Liberties}

@@ -5,9 +5,9 @@ use Rattle.tl_beat.specs.declared.beat.Link.{Link}
 use Rattle.tl_beat.specs.declared.fault.LineFault.{LineFault}
 use Rattle.tl_beat.specs.declared.fault.LineFault.TheVariants.{F1, F2, F3, F4, F5, F6}
 use Rattle.tl_beat.specs.statement.Digits.{digits}
-use Rattle.tl_engine.specs.declared.fault.Fault.{Fault}
-use Rattle.tl_engine.specs.declared.fault.Fault.TheVariants as fault
-use Rattle.tl_engine.specs.statement.CommitSentences.{commit_rule_line}
+use Rattle.tl_lines.specs.declared.fault.Fault.{Fault}
+use Rattle.tl_lines.specs.declared.fault.Fault.TheVariants as fault
+use Rattle.tl_reasons.specs.statement.CommitSentences.{commit_rule_line}
 use Rattle.tl_events.specs.declared.commit.Commit.{Commit}
 use Rattle.tl_events.specs.declared.commit.Commit.TheVariants as commit
 use Rattle.tl_events.specs.declared.commit.Event.{Event}

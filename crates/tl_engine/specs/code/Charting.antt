@@ -16,14 +16,14 @@ use Rattle.tl_engine.specs.declared.charting.Charting.{Charting}
 use Rattle.tl_engine.specs.declared.charting.ChartJudge.{ChartJudge}
 use Rattle.tl_engine.specs.declared.charting.ChartJudge.TheVariants.{Waiting, Four, Eight, Sixteen}
 use Rattle.tl_engine.specs.declared.charting.ChartLines.{ChartLines}
-use Rattle.tl_engine.specs.declared.fault.Fault.{Fault}
-use Rattle.tl_engine.specs.declared.status.Status.{Status}
-use Rattle.tl_engine.specs.declared.status.Status.TheVariants.{Broken}
+use Rattle.tl_lines.specs.declared.fault.Fault.{Fault}
+use Rattle.tl_lines.specs.declared.status.Status.{Status}
+use Rattle.tl_lines.specs.declared.status.Status.TheVariants.{Broken}
 use Rattle.tl_engine.specs.statement.Charted.{Draws, DrawsAfter}
-use Rattle.tl_engine.specs.statement.Fault.{fault_text}
-use Rattle.tl_engine.specs.statement.Judged.{JudgedAfter, clean_text}
-use Rattle.tl_engine.specs.statement.JudgedLinks.{JudgedLinks, faults_by}
-use Rattle.tl_engine.specs.statement.LinksHeader.{NamesAllowed}
+use Rattle.tl_lines.specs.statement.Fault.{fault_text}
+use Rattle.tl_lines.specs.statement.Judged.{JudgedAfter, clean_text}
+use Rattle.tl_lines.specs.statement.JudgedLinks.{JudgedLinks, faults_by}
+use Rattle.tl_lines.specs.statement.LinksHeader.{NamesAllowed}
 
 -- a header of these links has been read, and nothing else
 pub record IsBegun {w : ℕ} (c : Charting w) (levels : List Level) (may : Liberties) : Type 0 where

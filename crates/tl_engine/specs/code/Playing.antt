@@ -16,12 +16,12 @@ use Rattle.tl_coherence.specs.declared.event.Outcome.{Outcome}
 use Rattle.tl_coherence.specs.statement.Draining.{IsDrained}
 use Rattle.tl_coherence.specs.statement.Log.{Log}
 use Rattle.tl_coherence.specs.statement.Movable.{drained}
-use Rattle.tl_engine.specs.declared.fault.Fault.{Fault}
-use Rattle.tl_engine.specs.declared.fault.Fault.TheVariants.{Event as NoEvent}
+use Rattle.tl_lines.specs.declared.fault.Fault.{Fault}
+use Rattle.tl_lines.specs.declared.fault.Fault.TheVariants.{Event as NoEvent}
 use Rattle.tl_engine.specs.declared.play.Player.{Player}
 use Rattle.tl_engine.specs.declared.run_lines.RunLines.{RunLines}
 use Rattle.tl_engine.specs.declared.run_lines.RunLines.TheVariants.{Waiting, Four, Eight, Sixteen}
-use Rattle.tl_engine.specs.declared.status.Status.{Status}
+use Rattle.tl_lines.specs.declared.status.Status.{Status}
 use Rattle.tl_engine.specs.statement.Played.{HeadsSchedule, Played, PlayedAfter, Plays, deliveries_text, event_text}
 use Rattle.tl_engine.specs.statement.Played.{outcome_after}
 use Rattle.tl_engine.specs.statement.PlayableWorld.{HasHappened}

@@ -15,17 +15,17 @@ use Rattle.tl_chart.specs.declared.arrow.Arrow.{Arrow}
 use Rattle.tl_chart.specs.declared.window.Window.{Window}
 use Rattle.tl_chart.specs.statement.Chart.{IsChart}
 use Rattle.tl_chart.specs.statement.Drawn.{Drawn, drawn, fault_drawn}
-use Rattle.tl_engine.specs.statement.Lines.{lines_of}
-use Rattle.tl_engine.specs.statement.Parts.{AppendsShort}
-use Rattle.tl_engine.specs.statement.Run.{EndsAs}
-use Rattle.tl_engine.specs.declared.fault.Fault.{Fault}
-use Rattle.tl_engine.specs.declared.status.Status.{Status}
-use Rattle.tl_engine.specs.declared.status.Status.TheVariants.{Clean, Broken}
-use Rattle.tl_engine.specs.declared.status.ToolFault.{ToolFault}
-use Rattle.tl_engine.specs.declared.status.ToolFault.TheVariants.{Write}
-use Rattle.tl_engine.specs.statement.JudgedLinks.{JudgedLinks, faults_under}
-use Rattle.tl_engine.specs.statement.LinksHeader.{NamesAllowed}
-use Rattle.tl_engine.specs.statement.Width.{bytes_of}
+use Rattle.tl_lines.specs.statement.Lines.{lines_of}
+use Rattle.tl_lines.specs.statement.Parts.{AppendsShort}
+use Rattle.tl_lines.specs.statement.Run.{EndsAs}
+use Rattle.tl_lines.specs.declared.fault.Fault.{Fault}
+use Rattle.tl_lines.specs.declared.status.Status.{Status}
+use Rattle.tl_lines.specs.declared.status.Status.TheVariants.{Clean, Broken}
+use Rattle.tl_lines.specs.declared.status.ToolFault.{ToolFault}
+use Rattle.tl_lines.specs.declared.status.ToolFault.TheVariants.{Write}
+use Rattle.tl_lines.specs.statement.JudgedLinks.{JudgedLinks, faults_under}
+use Rattle.tl_lines.specs.statement.LinksHeader.{NamesAllowed}
+use Rattle.tl_lines.specs.statement.Width.{bytes_of}
 
 -- The drawing of the line at fault after the beats of t: its beat, or nothing if it spells none.
 abbrev pub DrawsFault : {w : ℕ} → Window → List Level → Liberties → Trace w → List ℕ → Option Arrow → Type 0

@@ -6,7 +6,7 @@ use Rattle.tl_params.specs.declared.level.Level.TheVariants.{C}
 use Rattle.tl_params.specs.declared.profile.Profile.{Profile}
 use Rattle.tl_params.specs.declared.profile.Profile.TheVariants as profile
 use Rattle.tl_params.specs.statement.Header.{level_text, profile_of, width_of}
-use Rattle.tl_engine.specs.statement.LinksHeader.{fourth_front}
+use Rattle.tl_lines.specs.statement.LinksHeader.{fourth_front}
 
 -- the word for the liberties of a profile
 abbrev pub liberties_text : Profile → List ℕ

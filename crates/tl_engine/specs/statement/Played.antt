@@ -22,13 +22,13 @@ use Rattle.tl_coherence.specs.statement.Draining.{IsDrained}
 use Rattle.tl_coherence.specs.statement.Log.{Log, system_after}
 use Rattle.tl_coherence.specs.statement.Movable.{drained, next_delivery, with_delivery}
 use Rattle.tl_coherence.specs.statement.Step.{stepped}
-use Rattle.tl_engine.specs.declared.fault.Fault.TheVariants.{Header, Event as NoEvent}
-use Rattle.tl_engine.specs.declared.status.Status.{Status}
-use Rattle.tl_engine.specs.declared.status.Status.TheVariants.{Clean, Broken}
+use Rattle.tl_lines.specs.declared.fault.Fault.TheVariants.{Header, Event as NoEvent}
+use Rattle.tl_lines.specs.declared.status.Status.{Status}
+use Rattle.tl_lines.specs.declared.status.Status.TheVariants.{Clean, Broken}
 use Rattle.tl_engine.specs.statement.CommitsHeader.{commits_header_line}
-use Rattle.tl_engine.specs.statement.Fault.{fault_text}
-use Rattle.tl_engine.specs.statement.Trace.{header_line}
-use Rattle.tl_engine.specs.statement.Width.{bytes_of}
+use Rattle.tl_lines.specs.statement.Fault.{fault_text}
+use Rattle.tl_lines.specs.statement.Trace.{header_line}
+use Rattle.tl_lines.specs.statement.Width.{bytes_of}
 
 -- ---- the text, as outcomes, as a trace, or as a trace with commits
 

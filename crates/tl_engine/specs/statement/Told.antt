@@ -2,14 +2,14 @@
 use Rattle.std.specs.Prelude.{◌≡◌, ◌⊎◌, ◌-◌, ℕ, List, [], ◌++◌, length}
 use Rattle.tl_command.specs.declared.command.Command.{Command}
 use Rattle.tl_command.specs.declared.command.Command.TheVariants.{Coherent, Decode, Explain, Monitor, Run}
-use Rattle.tl_engine.specs.statement.JudgedSo.{JudgedSo, said_by}
-use Rattle.tl_engine.specs.declared.status.Status.{Status}
-use Rattle.tl_engine.specs.declared.status.Status.TheVariants.{Clean}
-use Rattle.tl_engine.specs.statement.Coherent.{JudgedTogether, coherent_text}
-use Rattle.tl_engine.specs.statement.Decoded.{DecodesTo}
-use Rattle.tl_engine.specs.statement.Judged.{Judged, clean_text}
+use Rattle.tl_lines.specs.statement.JudgedSo.{JudgedSo, said_by}
+use Rattle.tl_lines.specs.declared.status.Status.{Status}
+use Rattle.tl_lines.specs.declared.status.Status.TheVariants.{Clean}
+use Rattle.tl_lines.specs.statement.Coherent.{JudgedTogether, coherent_text}
+use Rattle.tl_lines.specs.statement.Decoded.{DecodesTo}
+use Rattle.tl_lines.specs.statement.Judged.{Judged, clean_text}
 use Rattle.tl_engine.specs.statement.Played.{Played}
-use Rattle.tl_engine.specs.statement.Width.{bytes_of}
+use Rattle.tl_lines.specs.statement.Width.{bytes_of}
 
 -- the text of these lines under a command, and the status at their end; of `explain`, only the verdict
 abbrev pub text_told : Command → List (List ℕ) → List ℕ → Status → Type 0

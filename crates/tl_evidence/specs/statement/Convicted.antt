@@ -2,7 +2,7 @@
 use Rattle.std.specs.Prelude.{◌≡◌, ℕ, true, false, Option, Some}
 use Rattle.tl_beat.specs.declared.beat.Beat.{Beat}
 use Rattle.tl_beat.specs.declared.beat.Link.{Link}
-use Rattle.tl_engine.specs.statement.Explained.{broken_alone, is_of_order}
+use Rattle.tl_reasons.specs.statement.Explained.{broken_alone, is_of_order}
 use Rattle.tl_explain.specs.declared.reason.Reason.{Reason}
 use Rattle.tl_explain.specs.statement.Reasons.{IsEvidenceUnder, convicted_under}
 use Rattle.tl_params.specs.declared.level.Level.{Level}

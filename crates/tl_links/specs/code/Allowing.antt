@@ -5,12 +5,12 @@ use Rattle.tl_beat.specs.declared.beat.Beat.{Beat}
 use Rattle.tl_beat.specs.declared.beat.Link.{Link}
 use Rattle.tl_beat.specs.statement.Line.{Spells}
 use Rattle.tl_allowed.specs.statement.Allowed.{allowed_under}
-use Rattle.tl_engine.specs.declared.fault.Fault.{Fault}
+use Rattle.tl_lines.specs.declared.fault.Fault.{Fault}
 use Rattle.tl_links.specs.declared.allow_lines.AllowLines.{AllowLines}
 use Rattle.tl_links.specs.declared.allow_lines.Watching.{Watching}
 use Rattle.tl_links.specs.declared.allow_lines.Watching.TheVariants.{Waiting, Four, Eight, Sixteen}
 use Rattle.tl_links.specs.declared.allow_lines.Watch.{Watch}
-use Rattle.tl_engine.specs.statement.LinksHeader.{NamesAllowed}
+use Rattle.tl_lines.specs.statement.LinksHeader.{NamesAllowed}
 use Rattle.tl_links.specs.statement.Allowed.{Allowed, AllowedAfter}
 use Rattle.tl_monitor.specs.statement.Knows.{KnowsUnder}
 use Rattle.tl_params.specs.declared.level.Level.{Level}

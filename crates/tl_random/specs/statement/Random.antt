@@ -14,7 +14,7 @@ use Rattle.tl_schedule.specs.declared.line.Line.{Line}
 use Rattle.tl_schedule.specs.declared.line.Line.TheVariants as line_of
 use Rattle.tl_schedule.specs.statement.EventLine.{SpellsLine, drain_line}
 use Rattle.tl_schedule.specs.statement.Schedule.{schedule_line}
-use Rattle.tl_engine.specs.statement.Parts.{AppendsPart}
+use Rattle.tl_lines.specs.statement.Parts.{AppendsPart}
 use Rattle.tl_engine.specs.statement.Played.{HeadsSchedule}
 
 -- ---- an event of a world

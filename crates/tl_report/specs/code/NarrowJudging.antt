@@ -2,7 +2,7 @@
 use Rattle.std.specs.Prelude.{ℕ, true, List}
 use Rattle.tl_beat.specs.declared.beat.Beat.{Beat}
 use Rattle.tl_beat.specs.declared.beat.Link.{Link}
-use Rattle.tl_engine.specs.code.TraceJudging.{KnowsBeats}
+use Rattle.tl_lines.specs.code.TraceJudging.{KnowsBeats}
 use Rattle.tl_report.specs.code.LineJudging.{Ways}
 use Rattle.tl_report.specs.declared.narrow.NarrowLineJudge.{NarrowLineJudge}
 use Rattle.tl_report.specs.statement.Form.{Terms, narrow}

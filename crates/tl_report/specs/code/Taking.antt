@@ -1,7 +1,7 @@
 -- The answers of a judge of items of which another can be begun.
 use Rattle.std.specs.Prelude.{◌≡◌, ◌∷◌, [], ℕ, Bool, List, Option, Some, None, Result, Ok, Err}
 use Rattle.tl_beat.specs.declared.fault.LineFault.{LineFault}
-use Rattle.tl_engine.specs.declared.fault.Fault.{Fault}
+use Rattle.tl_lines.specs.declared.fault.Fault.{Fault}
 use Rattle.tl_report.specs.statement.Form.{Form}
 
 -- nothing is no fault and a fault

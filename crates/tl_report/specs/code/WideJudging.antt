@@ -1,7 +1,7 @@
 -- What a judge of wide beats is for.
 use Rattle.std.specs.Prelude.{ℕ}
 use Rattle.tl_beat.specs.declared.beat.Link.{Link}
-use Rattle.tl_engine.specs.declared.links_header.LinksHeader.{LinksHeader}
+use Rattle.tl_lines.specs.declared.links_header.LinksHeader.{LinksHeader}
 use Rattle.tl_report.specs.code.KeptJudging.{kept_ways}
 use Rattle.tl_report.specs.code.LineJudging.{Ways}
 use Rattle.tl_report.specs.code.Taking.{Takings, none-some}

@@ -1,8 +1,8 @@
 -- What a judge of wide beats knows of the trace that it has taken, and its answer to the next beat.
 use Rattle.std.specs.Prelude.{◌≡◌, ◌∷◌, ℕ, length, Option, Some, None, reverse}
 use Rattle.tl_beat.specs.declared.beat.Link.{Link}
-use Rattle.tl_engine.specs.code.TraceJudging.{KnowsBeats}
-use Rattle.tl_engine.specs.declared.fault.Fault.{Fault}
+use Rattle.tl_lines.specs.code.TraceJudging.{KnowsBeats}
+use Rattle.tl_lines.specs.declared.fault.Fault.{Fault}
 use Rattle.tl_report.specs.statement.Form.{Terms, first_fault_in}
 use Rattle.tl_rules.specs.statement.Conformance.{Trace}
 use Rattle.tl_wide.specs.declared.beat.WideBeat.{WideBeat}

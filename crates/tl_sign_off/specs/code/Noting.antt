@@ -1,11 +1,11 @@
 -- The notes on an input that comes in pieces.
 use Rattle.std.specs.Prelude.{◌≡◌, ◌≢◌, ℕ, List, [], ◌++◌, length, take}
 use Rattle.sha2.specs.Hashers.{Holds256}
-use Rattle.tl_engine.specs.statement.Lines.{lines_of}
-use Rattle.tl_engine.specs.code.Progress.{HasAll, Progress}
-use Rattle.tl_engine.specs.declared.lines.Lines.{Lines}
-use Rattle.tl_engine.specs.declared.status.Status.{Status}
-use Rattle.tl_engine.specs.declared.status.Status.TheVariants.{Broken, Clean}
+use Rattle.tl_lines.specs.statement.Lines.{lines_of}
+use Rattle.tl_lines.specs.code.Progress.{HasAll, Progress}
+use Rattle.tl_lines.specs.declared.lines.Lines.{Lines}
+use Rattle.tl_lines.specs.declared.status.Status.{Status}
+use Rattle.tl_lines.specs.declared.status.Status.TheVariants.{Broken, Clean}
 use Rattle.tl_report.specs.code.Searching.{EndsLines, KnowsLines}
 use Rattle.tl_report.specs.declared.search_lines.SearchLines.{SearchLines}
 use Rattle.tl_sign_off.specs.declared.input.Notes.{Notes}

@@ -2,7 +2,7 @@
 use Rattle.std.specs.Prelude.{◌≡◌, ℕ, List, length, take}
 use Rattle.sha2.specs.Sha256.{sha256}
 use Rattle.tl_command.specs.declared.search.Aim.{Aim}
-use Rattle.tl_engine.specs.statement.Lines.{lines_of}
+use Rattle.tl_lines.specs.statement.Lines.{lines_of}
 use Rattle.tl_report.specs.statement.Found.{FindsFor}
 use Rattle.tl_sign_off.specs.declared.account.Account.{Account}
 

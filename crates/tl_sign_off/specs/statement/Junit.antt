@@ -2,8 +2,8 @@
 use Rattle.std.specs.Prelude.{◌++◌, ◌==◌, ◌∷◌, ℕ, Bool, List, [], codes, flat_map, if◌then◌else◌, length}
 use Rattle.std.specs.Fmt.{decimal}
 use Rattle.hex.specs.Hex.{encode_lower}
-use Rattle.tl_engine.specs.declared.fault.Fault.{Fault}
-use Rattle.tl_engine.specs.statement.Fault.{fault_name}
+use Rattle.tl_lines.specs.declared.fault.Fault.{Fault}
+use Rattle.tl_lines.specs.statement.Fault.{fault_name}
 use Rattle.tl_report.specs.declared.findings.Finding.{Finding}
 use Rattle.tl_sign_off.specs.declared.account.Account.{Account}
 use Rattle.tl_sign_off.specs.statement.Report.{command_name, kit_name, verdict_name, version_name}

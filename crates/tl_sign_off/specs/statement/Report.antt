@@ -10,9 +10,9 @@ use Rattle.tl_beat.specs.declared.beat.Link.{Link}
 use Rattle.tl_beat.specs.declared.channel.Channel.{Channel}
 use Rattle.tl_beat.specs.statement.Control.{channel_of}
 use Rattle.tl_beat.specs.statement.Names.{letter_of}
-use Rattle.tl_engine.specs.declared.fault.Fault.{Fault}
-use Rattle.tl_engine.specs.declared.fault.Fault.TheVariants.{Header}
-use Rattle.tl_engine.specs.statement.Fault.{fault_name}
+use Rattle.tl_lines.specs.declared.fault.Fault.{Fault}
+use Rattle.tl_lines.specs.declared.fault.Fault.TheVariants.{Header}
+use Rattle.tl_lines.specs.statement.Fault.{fault_name}
 use Rattle.tl_events.specs.declared.commit.Commit.{Commit}
 use Rattle.tl_events.specs.declared.commit.Event.{Event}
 use Rattle.tl_events.specs.declared.commit.Event.TheVariants as event

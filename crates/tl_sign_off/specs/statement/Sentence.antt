@@ -6,10 +6,10 @@ use Rattle.tl_params.specs.statement.Names.{memory_rule_name}
 use Rattle.tl_events.specs.statement.Names.{commit_rule_name}
 use Rattle.tl_explain.specs.statement.Sentences.{in_brackets, memory_sentence, messages_judged, messages_judged_together}
 use Rattle.tl_explain.specs.statement.Sentences.{rule_sentence}
-use Rattle.tl_engine.specs.declared.fault.Fault.{Fault}
-use Rattle.tl_engine.specs.declared.fault.Fault.TheVariants.{Beyond, CommitRule, Event, Header, Line, MemoryRule, Rule}
-use Rattle.tl_engine.specs.statement.CommitSentences.{commit_sentence, events_judged}
-use Rattle.tl_engine.specs.statement.Fault.{fault_name}
+use Rattle.tl_lines.specs.declared.fault.Fault.{Fault}
+use Rattle.tl_lines.specs.declared.fault.Fault.TheVariants.{Beyond, CommitRule, Event, Header, Line, MemoryRule, Rule}
+use Rattle.tl_reasons.specs.statement.CommitSentences.{commit_sentence, events_judged}
+use Rattle.tl_lines.specs.statement.Fault.{fault_name}
 
 -- the condition of a fault that is no rule
 abbrev pub line_sentence : Fault → List ℕ

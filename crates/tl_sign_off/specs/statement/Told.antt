@@ -2,9 +2,9 @@
 use Rattle.std.specs.Prelude.{◌≡◌, ℕ, Bool, true, false, List, Option, if◌then◌else◌}
 use Rattle.std.specs.Io.KnownBytes.{Consumes, IsAtEnd}
 use Rattle.tl_command.specs.declared.search.Inquiry.{Inquiry}
-use Rattle.tl_engine.specs.statement.Parts.{AppendsShort}
-use Rattle.tl_engine.specs.declared.status.ToolFault.{ToolFault}
-use Rattle.tl_engine.specs.declared.status.ToolFault.TheVariants.{Memory, Read, Write}
+use Rattle.tl_lines.specs.statement.Parts.{AppendsShort}
+use Rattle.tl_lines.specs.declared.status.ToolFault.{ToolFault}
+use Rattle.tl_lines.specs.declared.status.ToolFault.TheVariants.{Memory, Read, Write}
 use Rattle.tl_report.specs.statement.Said.{all_text, first_text}
 use Rattle.tl_sign_off.specs.declared.account.Account.{Account}
 use Rattle.tl_sign_off.specs.declared.form.Form.{Form}

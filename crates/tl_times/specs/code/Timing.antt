@@ -1,7 +1,7 @@
 -- What is known while the times of a trace's lines are read.
 use Rattle.std.specs.Prelude.{◌≡◌, ◌+◌, ◌∷◌, ◌++◌, ⊤, ℕ, List, [], bytes_eq, if◌then◌else◌, length}
 use Rattle.std.specs.List.{AllZip}
-use Rattle.tl_engine.specs.statement.Lines.{IsOpen}
+use Rattle.tl_lines.specs.statement.Lines.{IsOpen}
 use Rattle.tl_times.specs.code.Splitting.{are_cited, cited}
 use Rattle.tl_times.specs.declared.piece.Piece.{Piece}
 use Rattle.tl_times.specs.declared.times.TimeLines.{TimeLines}

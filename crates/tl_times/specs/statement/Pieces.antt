@@ -2,7 +2,7 @@
 use Rattle.std.specs.Prelude.{ℕ, Bool, true, false, List, [], ◌∷◌, ◌++◌, ◌-◌, ◌==◌, ◌&&◌, if◌then◌else◌, nat_le}
 use Rattle.std.specs.Prelude.{bytes_eq, codes, drop, length, take}
 use Rattle.std.specs.List.{flat_map, list_any}
-use Rattle.tl_engine.specs.statement.Lines.{before_first}
+use Rattle.tl_lines.specs.statement.Lines.{before_first}
 
 -- A piece of an explanation, and the digits of the number of the line that it cites at its end. A piece without digits
 -- cites none.

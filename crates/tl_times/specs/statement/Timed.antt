@@ -3,7 +3,7 @@ use Rattle.std.specs.Prelude.{ℕ, List, [], ◌∷◌, ◌++◌, suc, if◌then
 use Rattle.std.specs.Prelude.{◌≡◌, ◌⊎◌, Option}
 use Rattle.std.specs.Io.KnownBytes.{Consumes, IsAtEnd}
 use Rattle.std.specs.List.{flat_map}
-use Rattle.tl_engine.specs.statement.Lines.{IsOpen, lines_of}
+use Rattle.tl_lines.specs.statement.Lines.{IsOpen, lines_of}
 use Rattle.tl_times.specs.statement.Pieces.{after_digits, front_digits, pieces}
 
 -- the number that a line is, without its LF; none if the line is no number

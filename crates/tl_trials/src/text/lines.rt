@@ -10,7 +10,7 @@ use tl_beat::channel::Channel;
 use tl_beat::fault::LineFault;
 use tl_beat::read::read_line;
 use tl_beat::write::write_line;
-use tl_engine::header::{Header, read_header};
+use tl_lines::header::{Header, read_header};
 use tl_monitor::fault::TraceFault;
 use tl_monitor::trace::check_trace;
 use tl_params::level::Level;

@@ -8,7 +8,7 @@ use Rattle.tl_commits.specs.statement.Events.{Events, beats_of}
 use Rattle.tl_cover.specs.declared.covering.Covering.{Covering}
 use Rattle.tl_cover.specs.statement.Covered.{covered}
 use Rattle.tl_cover.specs.statement.Covers.{Covers, cells_in}
-use Rattle.tl_engine.specs.declared.fault.Fault.{Fault}
+use Rattle.tl_lines.specs.declared.fault.Fault.{Fault}
 use Rattle.tl_events.specs.declared.commit.Event.{Event}
 use Rattle.tl_events.specs.statement.EventLine.{SpellsEvent}
 use Rattle.tl_params.specs.declared.liberties.Liberties.{Liberties}

@@ -6,8 +6,8 @@ use Rattle.tl_commit_lines.specs.declared.judge.EventJudge.TheVariants.{OfLinks}
 use Rattle.tl_commit_lines.specs.statement.MarkedHeader.{levels_of}
 use Rattle.tl_commits.specs.statement.Events.{beats_of}
 use Rattle.tl_cover.specs.statement.Covers.{Covers, rows_in}
-use Rattle.tl_engine.specs.declared.fault.Fault.{Fault}
-use Rattle.tl_engine.specs.statement.Width.{bytes_of}
+use Rattle.tl_lines.specs.declared.fault.Fault.{Fault}
+use Rattle.tl_lines.specs.statement.Width.{bytes_of}
 use Rattle.tl_params.specs.declared.liberties.Liberties.{Liberties}
 use Rattle.tl_params.specs.declared.width.Width.{Width}
 use Rattle.tl_params.specs.declared.width.Width.TheVariants as width

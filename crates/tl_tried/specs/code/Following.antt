@@ -5,12 +5,12 @@ use Rattle.tl_beat.specs.declared.beat.Link.{Link}
 use Rattle.tl_beat.specs.statement.Line.{Spells}
 use Rattle.tl_cover.specs.declared.covering.Covering.{Covering}
 use Rattle.tl_cover.specs.statement.Covers.{Covers, cells_in, rows_in}
-use Rattle.tl_engine.specs.statement.JudgedSo.{said_by}
-use Rattle.tl_engine.specs.declared.fault.Fault.{Fault}
-use Rattle.tl_engine.specs.declared.status.Status.{Status}
-use Rattle.tl_engine.specs.statement.Judged.{IsAtFault, JudgedAfter}
-use Rattle.tl_engine.specs.statement.JudgedLinks.{JudgedLinks, faults_by}
-use Rattle.tl_engine.specs.statement.LinksHeader.{NamesAllowed}
+use Rattle.tl_lines.specs.statement.JudgedSo.{said_by}
+use Rattle.tl_lines.specs.declared.fault.Fault.{Fault}
+use Rattle.tl_lines.specs.declared.status.Status.{Status}
+use Rattle.tl_lines.specs.statement.Judged.{IsAtFault, JudgedAfter}
+use Rattle.tl_lines.specs.statement.JudgedLinks.{JudgedLinks, faults_by}
+use Rattle.tl_lines.specs.statement.LinksHeader.{NamesAllowed}
 use Rattle.tl_params.specs.declared.level.Level.{Level}
 use Rattle.tl_params.specs.declared.liberties.Liberties.{Liberties}
 use Rattle.tl_params.specs.declared.width.Width.{Width}

@@ -5,11 +5,11 @@ use Rattle.tl_beat.specs.declared.beat.Link.{Link}
 use Rattle.tl_beat.specs.statement.Line.{Spells}
 use Rattle.tl_cover.specs.declared.row.Row.{Row}
 use Rattle.tl_cover.specs.statement.Covered.{cells, covered}
-use Rattle.tl_engine.specs.declared.fault.Fault.{Fault}
-use Rattle.tl_engine.specs.statement.Judged.{IsAtFault}
-use Rattle.tl_engine.specs.statement.JudgedLinks.{faults_by}
-use Rattle.tl_engine.specs.statement.LinksHeader.{NamesAllowed}
-use Rattle.tl_engine.specs.statement.Width.{bytes_of}
+use Rattle.tl_lines.specs.declared.fault.Fault.{Fault}
+use Rattle.tl_lines.specs.statement.Judged.{IsAtFault}
+use Rattle.tl_lines.specs.statement.JudgedLinks.{faults_by}
+use Rattle.tl_lines.specs.statement.LinksHeader.{NamesAllowed}
+use Rattle.tl_lines.specs.statement.Width.{bytes_of}
 use Rattle.tl_params.specs.declared.level.Level.{Level}
 use Rattle.tl_params.specs.declared.liberties.Liberties.{Liberties}
 use Rattle.tl_params.specs.declared.width.Width.{Width}

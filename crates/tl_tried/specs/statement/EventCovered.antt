@@ -5,8 +5,8 @@ use Rattle.tl_commit_lines.specs.declared.header.MarkedLevel.{MarkedLevel}
 use Rattle.tl_commit_lines.specs.statement.JudgedEvents.{IsEventAtFault, fault_by}
 use Rattle.tl_commit_lines.specs.statement.MarkedHeader.{NamesMarked, levels_of}
 use Rattle.tl_commits.specs.statement.Events.{Events, beats_of}
-use Rattle.tl_engine.specs.declared.fault.Fault.{Fault}
-use Rattle.tl_engine.specs.statement.Width.{bytes_of}
+use Rattle.tl_lines.specs.declared.fault.Fault.{Fault}
+use Rattle.tl_lines.specs.statement.Width.{bytes_of}
 use Rattle.tl_events.specs.declared.commit.Event.{Event}
 use Rattle.tl_events.specs.declared.commit.Event.TheVariants as event
 use Rattle.tl_events.specs.statement.EventLine.{SpellsEvent}

@@ -3,8 +3,8 @@ use Rattle.std.specs.Prelude.{◌≡◌, ◌++◌, ℕ, Bool, true, List, [], �
 use Rattle.tl_commit_lines.specs.code.EventWatching.{KnowsEventLines, KnowsEvents, events_judged_for}
 use Rattle.tl_commit_lines.specs.declared.header.MarkedLevel.{MarkedLevel}
 use Rattle.tl_commit_lines.specs.declared.lines.EventLines.{EventLines}
-use Rattle.tl_engine.specs.declared.fault.Fault.{Fault}
-use Rattle.tl_engine.specs.declared.status.Status.{Status}
+use Rattle.tl_lines.specs.declared.fault.Fault.{Fault}
+use Rattle.tl_lines.specs.declared.status.Status.{Status}
 use Rattle.tl_params.specs.declared.liberties.Liberties.{Liberties}
 use Rattle.tl_wide.specs.declared.width.WideWidth.{WideWidth}
 use Rattle.tl_wide.specs.declared.width.WideWidth.TheVariants as width

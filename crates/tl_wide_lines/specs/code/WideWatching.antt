@@ -1,12 +1,12 @@
 -- What a handler of traces knows whose header may be of any version.
 use Rattle.std.specs.Prelude.{◌≡◌, ◌++◌, ℕ, Bool, true, false, List, [], ◌∷◌, length, Option, Some, None, ⊤}
 use Rattle.std.specs.declared.alloc.Global.{Global}
-use Rattle.tl_engine.specs.code.LinkWatching.{KnowsLines, judged_for}
-use Rattle.tl_engine.specs.code.TraceJudging.{KnowsBeats}
-use Rattle.tl_engine.specs.declared.fault.Fault.{Fault}
-use Rattle.tl_engine.specs.declared.link_lines.LinkJudge.{LinkJudge}
-use Rattle.tl_engine.specs.declared.link_lines.LinkJudge.TheVariants.{Waiting}
-use Rattle.tl_engine.specs.declared.link_lines.LinkLines.{LinkLines}
+use Rattle.tl_lines.specs.code.LinkWatching.{KnowsLines, judged_for}
+use Rattle.tl_lines.specs.code.TraceJudging.{KnowsBeats}
+use Rattle.tl_lines.specs.declared.fault.Fault.{Fault}
+use Rattle.tl_lines.specs.declared.link_lines.LinkJudge.{LinkJudge}
+use Rattle.tl_lines.specs.declared.link_lines.LinkJudge.TheVariants.{Waiting}
+use Rattle.tl_lines.specs.declared.link_lines.LinkLines.{LinkLines}
 use Rattle.tl_params.specs.declared.level.Level.{Level}
 use Rattle.tl_params.specs.declared.liberties.Liberties.{Liberties}
 use Rattle.tl_wide.specs.declared.width.WideWidth.{WideWidth}

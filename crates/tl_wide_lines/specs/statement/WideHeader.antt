@@ -1,6 +1,6 @@
 -- The header of a trace of wide beats.
 use Rattle.std.specs.Prelude.{◌≡◌, ◌++◌, ℕ, List, codes, Option, Some, None}
-use Rattle.tl_engine.specs.statement.LinksHeader.{SpellsNamed}
+use Rattle.tl_lines.specs.statement.LinksHeader.{SpellsNamed}
 use Rattle.tl_params.specs.declared.level.Level.{Level}
 use Rattle.tl_params.specs.declared.liberties.Liberties.{Liberties}
 use Rattle.tl_params.specs.statement.Liberties.{united}

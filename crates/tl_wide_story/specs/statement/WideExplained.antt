@@ -4,17 +4,17 @@ use Rattle.std.specs.Fmt.{decimal}
 use Rattle.std.specs.Io.KnownBytes.{Consumes}
 use Rattle.tl_beat.specs.declared.beat.Beat.{Beat}
 use Rattle.tl_beat.specs.declared.beat.Link.{Link}
-use Rattle.tl_engine.specs.declared.explain_fault.ExplainFault.{ExplainFault}
-use Rattle.tl_engine.specs.declared.explain_fault.ExplainFault.TheVariants.{Tool}
-use Rattle.tl_engine.specs.declared.fault.Fault.{Fault}
-use Rattle.tl_engine.specs.declared.fault.Fault.TheVariants.{Rule as Breaks, MemoryRule as BreaksTogether}
-use Rattle.tl_engine.specs.declared.status.Status.{Status}
-use Rattle.tl_engine.specs.declared.status.Status.TheVariants.{Clean, Broken}
-use Rattle.tl_engine.specs.declared.status.ToolFault.TheVariants.{Write}
-use Rattle.tl_engine.specs.statement.Fault.{fault_text}
-use Rattle.tl_engine.specs.statement.Lines.{lines_of}
-use Rattle.tl_engine.specs.statement.Parts.{AppendsShort}
-use Rattle.tl_engine.specs.statement.Unexplained.{GivesUpReading, ReachesBy}
+use Rattle.tl_reasons.specs.declared.explain_fault.ExplainFault.{ExplainFault}
+use Rattle.tl_reasons.specs.declared.explain_fault.ExplainFault.TheVariants.{Tool}
+use Rattle.tl_lines.specs.declared.fault.Fault.{Fault}
+use Rattle.tl_lines.specs.declared.fault.Fault.TheVariants.{Rule as Breaks, MemoryRule as BreaksTogether}
+use Rattle.tl_lines.specs.declared.status.Status.{Status}
+use Rattle.tl_lines.specs.declared.status.Status.TheVariants.{Clean, Broken}
+use Rattle.tl_lines.specs.declared.status.ToolFault.TheVariants.{Write}
+use Rattle.tl_lines.specs.statement.Fault.{fault_text}
+use Rattle.tl_lines.specs.statement.Lines.{lines_of}
+use Rattle.tl_lines.specs.statement.Parts.{AppendsShort}
+use Rattle.tl_reasons.specs.statement.Unexplained.{GivesUpReading, ReachesBy}
 use Rattle.tl_evidence.specs.statement.Convicted.{IsConvicted}
 use Rattle.tl_explain.specs.statement.Sentences.{memory_rule_line, rule_line}
 use Rattle.tl_params.specs.declared.level.Level.{Level}

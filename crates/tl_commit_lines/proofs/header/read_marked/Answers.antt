@@ -1,4 +1,4 @@
-use Rattle.tl_engine.proofs.LinksHeaders.{front_taken}
+use Rattle.tl_lines.proofs.LinksHeaders.{front_taken}
 use Rattle.tl_commit_lines.proofs.MarkedHeaders.{marked_behind}
 use Rattle.tl_commit_lines.proofs.header.read_marked.Goals as goal
 

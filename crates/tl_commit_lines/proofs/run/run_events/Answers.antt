@@ -1,5 +1,5 @@
-use Rattle.tl_engine.proofs.GivenUp.{given_up_told}
-use Rattle.tl_engine.specs.code.Judging.{KnowsFor}
+use Rattle.tl_lines.proofs.GivenUp.{given_up_told}
+use Rattle.tl_lines.specs.code.Judging.{KnowsFor}
 use Rattle.tl_commit_lines.proofs.EventsJudged.{commits-so-far, events-have-text, made-for}
 use Rattle.tl_commit_lines.specs.code.EventWatching.{KnowsEventLines, events_judged_for}
 use Rattle.tl_commit_lines.specs.statement.JudgedEvents.{CommitsSoFar, JudgedCommits}

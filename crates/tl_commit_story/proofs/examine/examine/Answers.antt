@@ -1,6 +1,6 @@
 use Rattle.std.specs.Prelude.{Some}
 use Rattle.std.proofs.lemmas.Result.{err_from_is_err_and}
-use Rattle.tl_engine.proofs.Unexplained.{unjudged_by}
+use Rattle.tl_reasons.proofs.Unexplained.{unjudged_by}
 use Rattle.tl_commit_lines.proofs.EventsJudged.{made-for}
 use Rattle.tl_commit_lines.specs.statement.JudgedEvents.{CommitsSoFar, JudgedCommits}
 use Rattle.tl_commit_story.proofs.Storied.{KnowsExamined, examined-so-far, examined-total, reached}

@@ -1,5 +1,5 @@
 use Rattle.std.proofs.Common.{rules}
-use Rattle.tl_engine.proofs.Replaying.{same_liberties}
+use Rattle.tl_reasons.proofs.Replaying.{same_liberties}
 use Rattle.tl_commit_story.proofs.explain.append_story.Goals as goal
 
 pub returns-clause-ok : goal.returns-clause-ok

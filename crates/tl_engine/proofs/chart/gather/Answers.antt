@@ -1,5 +1,5 @@
 use Rattle.std.proofs.Common.{ap, ◌∙◌}
-use Rattle.tl_engine.specs.statement.Lines.{lines_of}
+use Rattle.tl_lines.specs.statement.Lines.{lines_of}
 use Rattle.tl_engine.specs.declared.charting.ChartLines.{ChartLines}
 use Rattle.tl_engine.proofs.ChartedLines.{drawn_at_end}
 use Rattle.tl_engine.proofs.chart.gather.Goals as goal

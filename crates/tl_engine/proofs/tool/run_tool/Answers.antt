@@ -1,19 +1,19 @@
 use Rattle.std.proofs.Common.{rules, ◌≡◌, refl, false, true}
-use Rattle.tl_engine.proofs.Decoded.{decodes_more, judged_line}
-use Rattle.tl_engine.proofs.Judged.{judged_total}
+use Rattle.tl_lines.proofs.Decoded.{decodes_more, judged_line}
+use Rattle.tl_lines.proofs.Judged.{judged_total}
 use Rattle.tl_engine.proofs.Playing.{played-total}
 use Rattle.tl_command.specs.declared.command.Command.TheVariants.{Coherent, Decode, Explain, Monitor, Run}
 use Rattle.tl_command.specs.declared.command.RunForm.TheVariants.{Outcomes, Trace, TraceWithCommits}
 use Rattle.tl_params.specs.declared.width.Width.TheVariants.{Four, Eight, Sixteen}
-use Rattle.tl_engine.specs.declared.decoder.Decoder.{Decoder}
-use Rattle.tl_engine.specs.statement.Coherent.{JudgedTogether}
-use Rattle.tl_engine.specs.statement.Decoded.{DecodesBefore, DecodesTo}
-use Rattle.tl_engine.specs.statement.Judged.{Judged}
+use Rattle.tl_lines.specs.declared.decoder.Decoder.{Decoder}
+use Rattle.tl_lines.specs.statement.Coherent.{JudgedTogether}
+use Rattle.tl_lines.specs.statement.Decoded.{DecodesBefore, DecodesTo}
+use Rattle.tl_lines.specs.statement.Judged.{Judged}
 use Rattle.tl_engine.specs.statement.Played.{Played}
 use Rattle.tl_engine.specs.statement.Told.{text_so_far}
 use Rattle.tl_engine.specs.code.Playing.{KnowsSchedule}
-use Rattle.tl_engine.specs.code.Watching.{KnowsLines}
-use Rattle.tl_engine.proofs.GivenUp.{told_without_purpose}
+use Rattle.tl_lines.specs.code.Watching.{KnowsLines}
+use Rattle.tl_lines.proofs.GivenUp.{told_without_purpose}
 use Rattle.tl_engine.proofs.SoFar.{decoded_so_far, judged_so_far, played_so_far}
 use Rattle.tl_engine.proofs.tool.run_tool.Goals as goal
 

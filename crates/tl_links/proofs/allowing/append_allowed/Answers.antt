@@ -1,5 +1,5 @@
 use Rattle.std.proofs.Common.{ap, ◌∙◌}
-use Rattle.tl_engine.specs.statement.Lines.{lines_of}
+use Rattle.tl_lines.specs.statement.Lines.{lines_of}
 use Rattle.tl_links.specs.declared.allow_lines.AllowLines.{AllowLines}
 use Rattle.tl_links.proofs.AllowedLines.{all_found, finds, settled}
 use Rattle.tl_links.proofs.allowing.append_allowed.Goals as goal

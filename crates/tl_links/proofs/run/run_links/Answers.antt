@@ -1,9 +1,9 @@
-use Rattle.tl_engine.proofs.GivenUp.{given_up_told}
-use Rattle.tl_engine.specs.code.Judging.{KnowsFor}
-use Rattle.tl_engine.proofs.JudgedLines.{links_so_far, links_total, made_for}
+use Rattle.tl_lines.proofs.GivenUp.{given_up_told}
+use Rattle.tl_lines.specs.code.Judging.{KnowsFor}
+use Rattle.tl_lines.proofs.JudgedLines.{links_so_far, links_total, made_for}
 use Rattle.tl_links.proofs.run.run_links.Goals as goal
-use Rattle.tl_engine.specs.code.LinkWatching.{KnowsLines, judged_for}
-use Rattle.tl_engine.specs.statement.JudgedLinks.{JudgedLinks, LinksSoFar}
+use Rattle.tl_lines.specs.code.LinkWatching.{KnowsLines, judged_for}
+use Rattle.tl_lines.specs.statement.JudgedLinks.{JudgedLinks, LinksSoFar}
 
 pub handle_input-requires-clause-total : goal.handle_input-requires-clause-total
 handle_input-requires-clause-total g c = links_total

@@ -1,6 +1,6 @@
 use Rattle.std.proofs.Common.{◌+◌, arith}
 use Rattle.std.proofs.lemmas.Result.{err_from_is_err_and}
-use Rattle.tl_engine.proofs.Parts.{short_part}
+use Rattle.tl_lines.proofs.Parts.{short_part}
 use Rattle.tl_random.proofs.Schedules.{gathered, nothing_written, part_written, put}
 use Rattle.tl_random.proofs.schedule.put_line.Goals as goal
 

@@ -1,7 +1,7 @@
 use Rattle.std.proofs.Common.{[], arith, refl, rules, ℕ, List, Result, Ok, Err}
 use Rattle.std.specs.Prelude.{OnErr, Option}
-use Rattle.tl_engine.proofs.Parts.{short_part}
-use Rattle.tl_engine.specs.statement.Parts.{AppendsPart, AppendsShort}
+use Rattle.tl_lines.proofs.Parts.{short_part}
+use Rattle.tl_lines.specs.statement.Parts.{AppendsPart, AppendsShort}
 use Rattle.std.proofs.lemmas.Result.{err_from_is_err_and}
 use Rattle.tl_random.specs.statement.Random.{header_of}
 use Rattle.tl_random.proofs.Schedules.{begun, cut_short, finished, nothing_written}

@@ -1,5 +1,5 @@
 use Rattle.std.proofs.Common.{◌≡◌, [], rules}
-use Rattle.tl_engine.proofs.Judged.{said_at_end}
+use Rattle.tl_lines.proofs.Judged.{said_at_end}
 use Rattle.tl_report.proofs.Searched.{nothing_in}
 use Rattle.tl_report.proofs.say.append_all.Goals as goal
 

@@ -1,5 +1,5 @@
-use Rattle.tl_engine.proofs.GivenUp.{given_up_told}
-use Rattle.tl_engine.specs.code.Judging.{KnowsFor}
+use Rattle.tl_lines.proofs.GivenUp.{given_up_told}
+use Rattle.tl_lines.specs.code.Judging.{KnowsFor}
 use Rattle.tl_wide_event_lines.proofs.TraceJudged.{any-have-text, any-so-far, made-for}
 use Rattle.tl_wide_event_lines.specs.code.EventWatching.{KnowsAnyLines, any_judged_for}
 use Rattle.tl_wide_event_lines.specs.statement.JudgedWideEvents.{AnySoFar, JudgedAny}

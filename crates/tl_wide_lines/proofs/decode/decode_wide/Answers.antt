@@ -1,4 +1,4 @@
-use Rattle.tl_engine.proofs.GivenUp.{told_without_purpose}
+use Rattle.tl_lines.proofs.GivenUp.{told_without_purpose}
 use Rattle.tl_wide_lines.proofs.Decoded.{decoded-end, decoded-none, decoded-total}
 use Rattle.tl_wide_lines.proofs.TraceJudged.{wide-width}
 use Rattle.tl_wide_lines.specs.code.WideDecoding.{KnowsDecoded}

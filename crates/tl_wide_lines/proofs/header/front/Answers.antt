@@ -2,7 +2,7 @@ use Rattle.std.proofs.Common.{◌≡◌, ap, codes, ◌∙◌, rules}
 use Rattle.std.proofs.lemmas.Bool.Decides.{Decides-eqb}
 use Rattle.std.proofs.lemmas.Slice.Eq.{strip_prefix_is}
 use Rattle.std.specs.Prelude.{Some, None}
-use Rattle.tl_engine.proofs.LinksHeaders.{not_found}
+use Rattle.tl_lines.proofs.LinksHeaders.{not_found}
 use Rattle.tl_wide.specs.declared.width.WideWidth.TheVariants.{Eight, Sixteen, ThirtyTwo, SixtyFour}
 use Rattle.tl_wide_lines.proofs.WideHeaders.{front_again, none_of}
 use Rattle.tl_wide_lines.specs.code.HeadReading.{wide_front_at}

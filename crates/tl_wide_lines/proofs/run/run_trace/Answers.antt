@@ -1,5 +1,5 @@
-use Rattle.tl_engine.proofs.GivenUp.{given_up_told}
-use Rattle.tl_engine.specs.code.Judging.{KnowsFor}
+use Rattle.tl_lines.proofs.GivenUp.{given_up_told}
+use Rattle.tl_lines.specs.code.Judging.{KnowsFor}
 use Rattle.tl_wide_lines.proofs.TraceJudged.{made-for, trace-so-far, trace-total}
 use Rattle.tl_wide_lines.specs.code.WideWatching.{KnowsTraceLines, trace_judged_for}
 use Rattle.tl_wide_lines.specs.statement.JudgedTrace.{JudgedTrace, TraceSoFar}

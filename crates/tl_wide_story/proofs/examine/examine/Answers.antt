@@ -1,6 +1,6 @@
 use Rattle.std.specs.Prelude.{Some}
 use Rattle.std.proofs.lemmas.Result.{err_from_is_err_and}
-use Rattle.tl_engine.proofs.Unexplained.{unjudged_by}
+use Rattle.tl_reasons.proofs.Unexplained.{unjudged_by}
 use Rattle.tl_wide_lines.proofs.TraceJudged.{made-for}
 use Rattle.tl_wide_story.proofs.WideExplaining.{KnowsExamined, examined-so-far, examined-total, reached}
 use Rattle.tl_wide_story.proofs.examine.examine.Goals as goal

@@ -1,6 +1,6 @@
 use Rattle.std.proofs.Common.{rules}
 use Rattle.std.proofs.lemmas.Result.{err_from_is_err_and, on_ok_weaker}
-use Rattle.tl_engine.proofs.Replaying.{same_liberties}
+use Rattle.tl_reasons.proofs.Replaying.{same_liberties}
 use Rattle.tl_wide_story.proofs.explain.append_story.Goals as goal
 
 pub returns-clause-ok : goal.returns-clause-ok

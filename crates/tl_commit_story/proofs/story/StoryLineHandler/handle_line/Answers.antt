@@ -2,7 +2,7 @@ use Rattle.std.proofs.Common.{◌≡◌, refl}
 use Rattle.std.specs.Prelude.{Ok, Some}
 use Rattle.tl_commit_lines.specs.code.EventWatching.{events_judged_for}
 use Rattle.tl_commit_lines.specs.statement.JudgedEvents.{JudgedCommits}
-use Rattle.tl_engine.proofs.Examining.{ok_is}
+use Rattle.tl_reasons.proofs.Examining.{ok_is}
 use Rattle.tl_commit_story.proofs.Storied.{story-ends, story-judged}
 use Rattle.tl_commit_story.proofs.story.StoryLineHandler.handle_line.Goals as goal
 

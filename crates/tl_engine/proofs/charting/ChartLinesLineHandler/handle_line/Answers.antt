@@ -1,6 +1,6 @@
 use Rattle.std.proofs.Common.{subst}
 use Rattle.tl_engine.specs.code.Charting.{EndsChart, KnowsChart}
-use Rattle.tl_engine.specs.code.Judging.{Ends}
+use Rattle.tl_lines.specs.code.Judging.{Ends}
 use Rattle.tl_engine.specs.declared.charting.ChartJudge.{ChartJudge}
 use Rattle.tl_engine.specs.declared.charting.ChartJudge.TheVariants.{Four, Eight, Sixteen}
 use Rattle.tl_engine.proofs.ChartedLines.{no_header, no_header_ends, read_ends, read_judged}

@@ -1,5 +1,5 @@
 use Rattle.tl_engine.proofs.ChartedLines.{chart_open, chart_open_ends, no_header, no_header_ends}
-use Rattle.tl_engine.proofs.LinksHeaders.{open_allowed}
+use Rattle.tl_lines.proofs.LinksHeaders.{open_allowed}
 use Rattle.tl_engine.proofs.charting.ChartLinesLineHandler.open_fault.Goals as goal
 
 pub returns-in-Waiting-clause-stops : goal.returns-in-Waiting-clause-stops

@@ -2,7 +2,7 @@ use Rattle.std.proofs.Common.{subst, sym}
 use Rattle.tl_commit_lines.specs.code.EventWatching.{KnowsEventLines, events_judged_for}
 use Rattle.tl_commit_lines.specs.declared.lines.EventLines.{EventLines}
 use Rattle.tl_commit_lines.specs.statement.JudgedEvents.{JudgedCommits}
-use Rattle.tl_engine.specs.code.Judging.{Judges}
+use Rattle.tl_lines.specs.code.Judging.{Judges}
 use Rattle.tl_event_chart.proofs.Drawing.{charted-ends, charted-judged}
 use Rattle.tl_event_chart.proofs.lines.ChartedLinesLineHandler.handle_line.Goals as goal
 

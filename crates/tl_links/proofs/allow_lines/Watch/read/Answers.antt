@@ -1,5 +1,5 @@
 use Rattle.std.proofs.Common.{sym}
-use Rattle.tl_engine.specs.declared.fault.Fault.TheVariants.{Line}
+use Rattle.tl_lines.specs.declared.fault.Fault.TheVariants.{Line}
 use Rattle.tl_links.proofs.AllowedLines.{line_taken, line_unread}
 use Rattle.tl_links.proofs.allow_lines.Watch.read.Goals as goal
 

@@ -1,5 +1,5 @@
 use Rattle.tl_beat.specs.declared.fault.LineFault.TheVariants.{F1}
-use Rattle.tl_engine.specs.declared.fault.Fault.TheVariants.{Header, Line}
+use Rattle.tl_lines.specs.declared.fault.Fault.TheVariants.{Header, Line}
 use Rattle.tl_report.proofs.Handled.{open_ends, open_header, stops}
 use Rattle.tl_report.proofs.search_lines.SearchLinesLineHandler.open_fault.Goals as goal
 

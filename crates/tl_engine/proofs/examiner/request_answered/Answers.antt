@@ -1,6 +1,0 @@
-use Rattle.tl_engine.proofs.Tracing.{request-same}
-use Rattle.tl_engine.proofs.examiner.request_answered.Goals as goal
-
-pub returns-in-D : goal.returns-in-D
-returns-in-D g c =
-    rw c.in-D.is (request-same c.args.judge.now c.args.link c.in-D.x.source c.request.result c.request.ensures)

@@ -1,9 +1,0 @@
-use Rattle.std.proofs.Common.{refl, sym, inl}
-use Rattle.tl_engine.proofs.JudgedLines.{watched_beat}
-use Rattle.tl_engine.proofs.link_lines.watch.Goals as goal
-
-pub returns-in-Err : goal.returns-in-Err
-returns-in-Err g c = λ together levels may t known. (inl (c.in-Err.fault, sym c.in-Err.ensures.fault, refl), known)
-
-pub returns-in-Ok : goal.returns-in-Ok
-returns-in-Ok g c = watched_beat _ _ _ _ _ c.push.result c.in-Ok.ensures.spelled c.push.ensures

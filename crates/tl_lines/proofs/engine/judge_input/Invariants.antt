@@ -1,0 +1,12 @@
+use Rattle.std.proofs.Common.{◌≡◌, ◌<◌, ℕ, List, length}
+use Rattle.std.specs.Io.KnownBytes.{Consumes}
+use Rattle.tl_lines.specs.code.Progress.{Progress}
+use Rattle.tl_lines.proofs.engine.judge_input.Given as goal
+
+abbrev pub invariant-loop : goal.invariant-loop
+invariant-loop g l = record {
+  room : 0 < length l.chunk.items;
+  so_far : (read : List ℕ) × Consumes (g.R.Read.remaining l.fn.reader) (g.R.Read.remaining l.reader) read
+      × Progress g.H.LineHandler.knows l.lines read l.out.items;
+  same : g.H.LineHandler.purpose l.lines.handler ≡ g.H.LineHandler.purpose l.fn.lines.handler;
+}

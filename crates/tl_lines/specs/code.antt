@@ -1,0 +1,10 @@
+pub mod GivenUp
+pub mod HeadReading
+pub mod Judging
+pub mod LinkWatching
+pub mod Progress
+pub mod Run
+pub mod TraceJudging
+pub mod TraceReading
+pub mod Tracing
+pub mod Watching

@@ -1,0 +1,14 @@
+pub mod Coherent
+pub mod Decoded
+pub mod Exit
+pub mod Fault
+pub mod Judged
+pub mod JudgedLinks
+pub mod JudgedSo
+pub mod Lines
+pub mod LinksHeader
+pub mod Parts
+pub mod Run
+pub mod SpelledTrace
+pub mod Trace
+pub mod Width

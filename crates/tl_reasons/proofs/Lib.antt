@@ -1,0 +1,7 @@
+pub mod Answering
+pub mod Examining
+pub mod Explaining
+pub mod Hearing
+pub mod Replaying
+pub mod Testifying
+pub mod Unexplained

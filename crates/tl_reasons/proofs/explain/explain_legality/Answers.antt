@@ -1,0 +1,12 @@
+use Rattle.std.proofs.Common.{rules}
+use Rattle.tl_reasons.proofs.Explaining.{named}
+use Rattle.tl_reasons.proofs.explain.explain_legality.Goals as goal
+
+pub returns-clause-ok : goal.returns-clause-ok
+returns-clause-ok g c =
+    named c.args.allow _ _ c.in_ok-replay.replay c.args.found.now.good c.in_ok-number.number c.args.rule c.in-Ok.field-0-0 c.in-Ok.beat
+    c.args.out.now.items c.append_front.new.out.items c.extend_from_slice.new.self.items
+    c.tell.new.out.items c.in_ok-replay.ensures.ok c.in_ok-replay.ensures.good
+    c.in_ok-replay.ensures.allowed
+    (rw c.line-line.ensures at c.in-Ok.ensures.spelled) (search rules) c.in_ok-number.ensures.number c.requires.empty
+    (c.in_ok-append_front.ensures _ _ c.in-Ok.ensures.spelled) (search rules)

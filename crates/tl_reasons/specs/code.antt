@@ -1,0 +1,5 @@
+pub mod Answering
+pub mod Examining
+pub mod Explaining
+pub mod Replaying
+pub mod Testifying

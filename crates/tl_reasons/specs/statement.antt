@@ -1,0 +1,3 @@
+pub mod CommitSentences
+pub mod Explained
+pub mod Unexplained

@@ -118,8 +118,8 @@ def check_lists():
     monitor, coherent = verdicts.split("For the verdict of `tltool coherent`")
     for title, text, root in (
         ("theorem", theorem, "tl_coherence.specs.statement.Theorem"),
-        ("monitor", monitor, "tl_engine.specs.statement.Judged"),
-        ("coherent", monitor + coherent, "tl_engine.specs.statement.Coherent"),
+        ("monitor", monitor, "tl_lines.specs.statement.Judged"),
+        ("coherent", monitor + coherent, "tl_lines.specs.statement.Coherent"),
     ):
         real = closure(root)
         check(listed(text) == set(real), f"what must be believed of the {title}: differs in {sorted(listed(text) ^ set(real))}")

@@ -41,7 +41,7 @@ for rule in ["M1", "M2", "M3", "M4"]:
     for suffix, name in [("", "wrong"), ("_right", "right")]:
         if field(name) != open("crates/tl_examples/data/rules/%s%s.trace" % (rule, suffix)).read():
             wrong.append("%s%s: the traces differ" % (rule, suffix))
-commits = open("crates/tl_engine/src/commit_rules.rt").read()
+commits = open("crates/tl_reasons/src/commit_rules.rt").read()
 commits = commits[commits.index("pub fn grounds") :]
 for rule in ["M5", "M6", "M7"]:
     text = re.search(r"CommitRule::%s => \{\s*\"(.*?)\"" % rule, commits, re.S).group(1)

@@ -10,6 +10,7 @@ ghost use Rattle.tl_commit_lines.specs.statement.JudgedEvents.{JudgedCommits};
 use crate::header::read_marked_for;
 use crate::judge::EventJudge;
 use std::alloc::{AllocError, Global};
+use std::mem;
 use tl_beat::fault::LineFault;
 use tl_lines::fault::Fault;
 use tl_lines::line_handler::LineHandler;
@@ -117,7 +118,7 @@ impl EventLines {
         match begin(self.alloc, self.together, self.allow, line)? {
             None => self.plain.handle_line(line, out),
             Some(links) => {
-                self.events = Some(links);
+                drop(mem::replace(&mut self.events, Some(links)));
                 Ok(None)
             }
         }

@@ -9,7 +9,7 @@ use crate::reason::cap_asked;
 use crate::recorder::Recorder;
 use crate::tell::tell_pending;
 use crate::told::Told;
-use crate::wording::Wording;
+use crate::wording::{Wording, tell_line};
 use crate::words::{address_of, perm_name};
 use std::io;
 use std::io::Write;
@@ -51,17 +51,14 @@ pub fn tell_held<const W: usize, X: Wording<W>>(
 {
     out.write_all(b"  block ")?;
     wording.append_address(address_of(block), out)?;
-    let name = perm_name(held.perm);
+    out.write_all(b" is held as ")?;
+    out.write_all(perm_name(held.perm).as_bytes())?;
     match &held.since {
         None => {
             let messages = unsaid(liberties);
-            write!(out, " is held as {name}: {messages}\n")
+            write!(out, ": {messages}\n")
         }
-        Some(told) => {
-            let line = wording.line_of(told);
-            write!(out, " is held as {name} since line {line}:\n")?;
-            wording.append_told(told, out)
-        }
+        Some(told) => tell_line(wording, " since line ", told, ":\n", out),
     }
 }
 
@@ -139,9 +136,13 @@ pub fn tell_without_data<const W: usize, X: Wording<W>>(
 ) -> io::Result<()>
     requires { IsWidth W }
 {
-    let line = wording.line_of(request);
-    write!(out, "  the request, of line {line}, needs data:\n")?;
-    wording.append_told(request, out)?;
+    tell_line(
+        wording,
+        "  the request, of line ",
+        request,
+        ", needs data:\n",
+        out,
+    )?;
     tell_held(wording, liberties, block, held, out)?;
     out.write_all(b"  wanted: GrantData\n")
 }
@@ -168,9 +169,7 @@ pub fn tell_misreport<const W: usize, X: Wording<W>>(
 ) -> io::Result<()>
     requires { IsWidth W }
 {
-    let line = wording.line_of(probe);
-    write!(out, "  the Probe, of line {line}:\n")?;
-    wording.append_told(probe, out)?;
+    tell_line(wording, "  the Probe, of line ", probe, ":\n", out)?;
     tell_held(wording, liberties, block, held, out)?;
     match cap_asked(probe) {
         None => Ok(()),

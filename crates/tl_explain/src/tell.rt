@@ -9,7 +9,7 @@ use crate::names::Names;
 use crate::reason::Reason;
 use crate::recorder::Recorder;
 use crate::told::Told;
-use crate::wording::{AsRecorded, Wording};
+use crate::wording::{AsRecorded, Wording, tell_line};
 use crate::words::append_key;
 use std::io;
 use std::io::Write;
@@ -30,11 +30,9 @@ pub fn tell_pending<const W: usize, X: Wording<W>>(
 ) -> io::Result<()>
     requires { IsWidth W }
 {
-    let line = wording.line_of(told);
     out.write_all(b"  ")?;
     append_key(wording, key, out)?;
-    write!(out, " is pending since line {line}:\n")?;
-    wording.append_told(told, out)
+    tell_line(wording, " is pending since line ", told, ":\n", out)
 }
 
 fn tell_never<const W: usize, X: Wording<W>>(
@@ -114,12 +112,13 @@ fn tell_other_kind<const W: usize, X: Wording<W>>(
 ) -> io::Result<()>
     requires { IsWidth W }
 {
-    let line = wording.line_of(request);
-    write!(
+    tell_line(
+        wording,
+        "  the request with this source, of line ",
+        request,
+        ", is answered otherwise:\n",
         out,
-        "  the request with this source, of line {line}, is answered otherwise:\n"
     )?;
-    wording.append_told(request, out)?;
     if let Control::A(x) = request.mention.control {
         out.write_all(b"  wanted: ")?;
         append_answers(x.opcode, out)?;
@@ -161,9 +160,7 @@ fn tell_wrong_cap<const W: usize, X: Wording<W>>(
 ) -> io::Result<()>
     requires { IsWidth W }
 {
-    let line = wording.line_of(request);
-    write!(out, "  the request, of line {line}:\n")?;
-    wording.append_told(request, out)?;
+    tell_line(wording, "  the request, of line ", request, ":\n", out)?;
     out.write_all(b"  wanted: ")?;
     let mut names = Names { any: false };
     for cap in [Cap::ToT, Cap::ToB] {
@@ -203,57 +200,64 @@ fn tell_probed<const W: usize, X: Wording<W>>(
 ) -> io::Result<()>
     requires { IsWidth W }
 {
-    let line = wording.line_of(request);
-    write!(out, "  the request, of line {line}:\n")?;
-    wording.append_told(request, out)?;
+    tell_line(wording, "  the request, of line ", request, ":\n", out)?;
     tell_pending(wording, Key::ProbeOf(block), probe, out)
 }
 
-/// Appends the fields in which a beat differs from a burst.
+/// Control fields as numbers, in the order of a line.
+fn numbers(code: u8, param: u8, size: u8, source: u8, place: u32, denied: bool) -> [u32; 6] {
+    let (code, param) = (u32::from(code), u32::from(param));
+    let (size, source) = (u32::from(size), u32::from(source));
+    [code, param, size, source, place, u32::from(denied)]
+}
+
+/// The control fields in the order of a line, as numbers. Those of channel E never differ within a burst.
+fn fields_of(control: &Control) -> [u32; 6] {
+    match control {
+        Control::A(x) => {
+            let code = x.opcode.code();
+            numbers(code, x.param, x.size, x.source, x.address, false)
+        }
+        Control::B(x) => {
+            let code = x.opcode.code();
+            numbers(code, x.param, x.size, x.source, x.address, false)
+        }
+        Control::C(x) => {
+            let code = x.opcode.code();
+            numbers(code, x.param, x.size, x.source, x.address, false)
+        }
+        Control::D(x) => {
+            let code = x.opcode.code();
+            numbers(code, x.param, x.size, x.source, u32::from(x.sink), x.denied)
+        }
+        Control::E(_) => [0; 6],
+    }
+}
+
+/// The name of the control field at a place of `fields_of`, which is on channel D if so said.
+fn field_name(place: usize, on_d: bool) -> &'static str {
+    match place {
+        0 => "opcode",
+        1 => "param",
+        2 => "size",
+        3 => "source",
+        4 => if on_d { "sink" } else { "address" },
+        _ => "denied",
+    }
+}
+
+/// Appends the fields in which a beat differs from a burst of its channel.
 fn append_differences<const W: usize>(
     beat: &Beat<W>,
     control: &Control,
     out: &mut Vec<u8>,
 ) -> io::Result<()> {
     let mut names = Names { any: false };
-    let rows = match (beat, control) {
-        (Beat::A(x), Control::A(y)) => [
-            (x.opcode != y.opcode, "opcode"),
-            (x.param != y.param, "param"),
-            (x.size != y.size, "size"),
-            (x.source != y.source, "source"),
-            (x.address != y.address, "address"),
-            (false, "denied"),
-        ],
-        (Beat::B(x), Control::B(y)) => [
-            (x.opcode != y.opcode, "opcode"),
-            (x.param != y.param, "param"),
-            (x.size != y.size, "size"),
-            (x.source != y.source, "source"),
-            (x.address != y.address, "address"),
-            (false, "denied"),
-        ],
-        (Beat::C(x), Control::C(y)) => [
-            (x.opcode != y.opcode, "opcode"),
-            (x.param != y.param, "param"),
-            (x.size != y.size, "size"),
-            (x.source != y.source, "source"),
-            (x.address != y.address, "address"),
-            (false, "denied"),
-        ],
-        (Beat::D(x), Control::D(y)) => [
-            (x.opcode != y.opcode, "opcode"),
-            (x.param != y.param, "param"),
-            (x.size != y.size, "size"),
-            (x.source != y.source, "source"),
-            (x.sink != y.sink, "sink"),
-            (x.denied != y.denied, "denied"),
-        ],
-        _ => [(false, ""); 6],
-    };
-    for (differs, name) in rows {
-        if differs {
-            names.append(name, out)?;
+    let (here, there) = (fields_of(&beat.control()), fields_of(control));
+    let on_d = matches!(control, Control::D(_));
+    for place in 0..6usize {
+        if here[place] != there[place] {
+            names.append(field_name(place, on_d), out)?;
         }
     }
     Ok(())

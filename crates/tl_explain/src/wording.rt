@@ -58,6 +58,21 @@ pub trait Wording<const W: usize> {
     fn append_address(&self, address: u32, out: &mut Vec<u8>) -> io::Result<()>;
 }
 
+/// Appends the number of a cited beat's line between these words, and then the words of the beat.
+pub(crate) fn tell_line<const W: usize, X: Wording<W>>(
+    wording: &X,
+    before: &str,
+    told: &Told,
+    after: &str,
+    out: &mut Vec<u8>,
+) -> io::Result<()>
+    requires { IsWidth W }
+{
+    let line = wording.line_of(told);
+    write!(out, "{before}{line}{after}")?;
+    wording.append_told(told, out)
+}
+
 /// Writes beats and names as they were recorded.
 #[derive(Drop)]
 pub struct AsRecorded;

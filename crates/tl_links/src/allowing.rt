@@ -46,7 +46,15 @@ pub fn append_allowed<R: Read>(
 {
     let mut lines = Lines::new(AllowLines::new(alloc, allow));
     let mut said = Vec::new(alloc);
-    judge_input(alloc, &mut lines, reader, &mut said)?;
-    append_line(lines.handler().allowing(), out)?;
-    Ok(())
+    match judge_input(alloc, &mut lines, reader, &mut said) {
+        Ok(_) => {
+            let appended = append_line(lines.handler().allowing(), out);
+            drop(lines);
+            Ok(appended?)
+        }
+        Err(fault) => {
+            drop(lines);
+            Err(fault)
+        }
+    }
 }

@@ -12,6 +12,7 @@ use crate::cover_trace::CoverTrace;
 use crate::event_covering::EventCovering;
 use crate::wide_covering::WideCovering;
 use std::alloc::{AllocError, Global};
+use std::mem;
 use tl_beat::fault::LineFault;
 use tl_commit_lines::header::read_marked_for;
 use tl_cover::row::Row;
@@ -205,7 +206,7 @@ impl CoverEvents {
         match self.begin_events(line)? {
             None => self.plain.handle_line(line, out),
             Some(following) => {
-                self.events = Some(following);
+                drop(mem::replace(&mut self.events, Some(following)));
                 Ok(None)
             }
         }

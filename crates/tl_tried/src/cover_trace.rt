@@ -11,6 +11,7 @@ ghost use Rattle.tl_wide_lines.specs.statement.JudgedTrace.{JudgedTrace};
 use crate::cover_lines::{CoverLines, Following};
 use crate::wide_covering::WideCovering;
 use std::alloc::{AllocError, Global};
+use std::mem;
 use tl_beat::fault::LineFault;
 use tl_cover::row::Row;
 use tl_lines::fault::Fault;
@@ -165,7 +166,7 @@ impl CoverTrace {
         match self.begin_wide(line)? {
             None => self.narrow.handle_line(line, out),
             Some(following) => {
-                self.wide = Some(following);
+                drop(mem::replace(&mut self.wide, Some(following)));
                 Ok(None)
             }
         }

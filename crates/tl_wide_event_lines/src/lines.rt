@@ -11,6 +11,7 @@ ghost use Rattle.tl_wide_event_lines.specs.statement.JudgedWideEvents.{JudgedAny
 use crate::header::read_wide_marked_for;
 use crate::judge::WideEventJudge;
 use std::alloc::{AllocError, Global};
+use std::mem;
 use tl_beat::fault::LineFault;
 use tl_commit_lines::lines::EventLines;
 use tl_lines::fault::Fault;
@@ -117,7 +118,7 @@ impl WideEventLines {
         match begin(self.alloc, self.together, self.allow, line)? {
             None => self.narrow.handle_line(line, out),
             Some(links) => {
-                self.wide = Some(links);
+                drop(mem::replace(&mut self.wide, Some(links)));
                 Ok(None)
             }
         }

@@ -9,6 +9,7 @@ ghost use Rattle.tl_wide_lines.specs.statement.JudgedTrace.{JudgedTrace};
 use crate::header::read_wide_for;
 use crate::judge::{Clue, WideJudge};
 use std::alloc::{AllocError, Global};
+use std::mem;
 use tl_beat::fault::LineFault;
 use tl_lines::fault::Fault;
 use tl_lines::follow::Alone;
@@ -145,7 +146,7 @@ impl TraceLines {
         match self.begin_wide(line)? {
             None => self.narrow.judge_line(line, &mut Alone),
             Some(links) => {
-                self.wide = Some(links);
+                drop(mem::replace(&mut self.wide, Some(links)));
                 Ok(None)
             }
         }

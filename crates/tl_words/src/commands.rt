@@ -1,7 +1,7 @@
 //! The program's commands, with their options, as `clap` reads them.
 
 ghost use Rattle.std.specs.Prelude.{◌≡◌, IfOk, codes, true, false};
-ghost use Rattle.clap.specs.Words.{app_of, new_app, new_rule, rule_of, with_rule, with_subcommand};
+ghost use Rattle.clap.specs.Words.{App, app_of, new_app, new_rule, rule_of, with_rule, with_subcommand};
 ghost use Rattle.clap.specs.declared.builder.command.Command.TheViews.{out-Command};
 ghost use Rattle.tl_words.specs.Tool.{chart_of, charting_of, coherent_of, cover_of};
 ghost use Rattle.tl_words.specs.Tool.{covering_of, decode_of, drawing_of, explain_of, several_rule};
@@ -85,15 +85,22 @@ fn with_three<'a>(
     }
 }
 
-/// Adds a subcommand to a command.
+/// Adds a subcommand to a command, if there was memory for it.
 fn with_subcommand<'a>(
     command: clap::Command<'a>,
-    subcommand: clap::Command<'a>,
+    subcommand: Result<clap::Command<'a>, AllocError>,
 ) -> Result<clap::Command<'a>, AllocError>
-    requires { (out-Command subcommand).has_globals ≡ false }
-    ensures { IfOk result (λ c. app_of c ≡ with_subcommand (app_of command.entry) (app_of subcommand.entry).top) }
+    requires { IfOk subcommand (λ s. (out-Command s).has_globals ≡ false) }
+    ensures { (above below : App) → app_of command.entry ≡ above → IfOk subcommand.entry (λ s. app_of s ≡ below) →
+        IfOk result (λ c. app_of c ≡ with_subcommand above below.top) }
 {
-    command.subcommand(subcommand)
+    match subcommand {
+        Ok(subcommand) => command.subcommand(subcommand),
+        Err(error) => {
+            drop(command);
+            Err(error)
+        }
+    }
 }
 
 /// `tltool decode`.
@@ -239,54 +246,53 @@ pub fn run<'a>(alloc: Global) -> Result<clap::Command<'a>, AllocError>
 fn reading<'a>(alloc: Global) -> Result<clap::Command<'a>, AllocError>
     ensures { IfOk result (λ c. app_of c ≡ reading_of) }
 {
-    let decode = decode(alloc)?;
-    let monitor = monitor(alloc)?;
     let tool = clap::Command::new(alloc, "tltool")
         .about("Checks, explains and draws recorded TileLink traces, and runs schedules")
         .after_help(help::TOOL)
         .version(VERSION)
         .subcommand_required(true);
-    with_subcommand(with_subcommand(tool, decode)?, monitor)
+    let tool = with_subcommand(tool, decode(alloc))?;
+    with_subcommand(tool, monitor(alloc))
 }
 
 /// The program with its commands that read traces, also all links together.
 fn judging<'a>(alloc: Global) -> Result<clap::Command<'a>, AllocError>
     ensures { IfOk result (λ c. app_of c ≡ judging_of) }
 {
-    let coherent = coherent(alloc)?;
-    with_subcommand(reading(alloc)?, coherent)
+    let tool = reading(alloc)?;
+    with_subcommand(tool, coherent(alloc))
 }
 
 /// The program with its commands that read and explain traces.
 fn explaining<'a>(alloc: Global) -> Result<clap::Command<'a>, AllocError>
     ensures { IfOk result (λ c. app_of c ≡ explaining_of) }
 {
-    let explain = explain(alloc)?;
-    with_subcommand(judging(alloc)?, explain)
+    let tool = judging(alloc)?;
+    with_subcommand(tool, explain(alloc))
 }
 
 /// The program with its commands that read, explain and draw traces.
 fn charting<'a>(alloc: Global) -> Result<clap::Command<'a>, AllocError>
     ensures { IfOk result (λ c. app_of c ≡ charting_of) }
 {
-    let chart = chart(alloc)?;
-    with_subcommand(explaining(alloc)?, chart)
+    let tool = explaining(alloc)?;
+    with_subcommand(tool, chart(alloc))
 }
 
 /// The program with its commands that read, explain and draw traces and report their situations.
 fn covering<'a>(alloc: Global) -> Result<clap::Command<'a>, AllocError>
     ensures { IfOk result (λ c. app_of c ≡ covering_of) }
 {
-    let cover = cover(alloc)?;
-    with_subcommand(charting(alloc)?, cover)
+    let tool = charting(alloc)?;
+    with_subcommand(tool, cover(alloc))
 }
 
 /// The program with its commands that read an input.
 fn playing<'a>(alloc: Global) -> Result<clap::Command<'a>, AllocError>
     ensures { IfOk result (λ c. app_of c ≡ playing_of) }
 {
-    let run = run(alloc)?;
-    with_subcommand(covering(alloc)?, run)
+    let tool = covering(alloc)?;
+    with_subcommand(tool, run(alloc))
 }
 
 /// An option with a value.
@@ -381,6 +387,6 @@ pub fn random<'a>(alloc: Global) -> Result<clap::Command<'a>, AllocError>
 pub fn tool<'a>(alloc: Global) -> Result<clap::Command<'a>, AllocError>
     ensures { IfOk result (λ c. app_of c ≡ tool_of) }
 {
-    let random = random(alloc)?;
-    with_subcommand(playing(alloc)?, random)
+    let tool = playing(alloc)?;
+    with_subcommand(tool, random(alloc))
 }

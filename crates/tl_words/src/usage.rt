@@ -16,7 +16,9 @@ pub(crate) fn usage_error<'a>(
     ensures { IfOk result (λ error. kind_of error ≡ kind) }
 {
     let mut command = command?.bin_name(name)?;
-    command.error(kind, message)
+    let error = command.error(kind, message);
+    drop(command);
+    error
 }
 
 /// The error of a word that has no meaning.

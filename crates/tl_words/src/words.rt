@@ -7,7 +7,7 @@
 ghost use Rattle.std.specs.Prelude.{◌≡◌, IfOk, IfErr, true, false};
 ghost use Rattle.std.specs.Prelude.{List, Some, bytes_eq, codes, map, option_map};
 ghost use Rattle.std.specs.String.{string_bytes};
-ghost use Rattle.clap.specs.Words.{Row, Text, first_of, found_of, is_simple_and_free};
+ghost use Rattle.clap.specs.Words.{Row, Text, app_of, first_of, found_of, is_simple_and_free};
 ghost use Rattle.clap.specs.Words.{kind_of, rows_of, subcommand_of};
 ghost use Rattle.tl_words.specs.Refused.{IsFaultOf, IsRefusal, status_of_usage, usage_status, words_fault};
 ghost use Rattle.tl_command.specs.statement.RandomWords.{words_of};
@@ -360,20 +360,11 @@ fn asked(alloc: Global, name: &str, found: &ArgMatches) -> Result<Task, WordsFau
     }
 }
 
-/// The task of the program's words, its own name first. Words of another form and a request for help or the version are
-/// a `Usage`, with the text of `clap`. Its exit status is 2 if `clap` takes the words.
-pub fn invocation(alloc: Global, words: &[String]) -> Result<Task, WordsFault>
-    ensures refused { IfErr result (IsRefusal (map string_bytes words.now)) }
-    ensures given { IfOk result (λ task. (name : Text) × (rows : List Row)
-        × (subcommand_of tool_of (map string_bytes words.now) ≡ Some (name, rows))
-        × IsTaskOf name rows task) }
+/// The task of the subcommand of this name, with these entries.
+fn task_named(alloc: Global, name: &str, found: &ArgMatches) -> Result<Task, WordsFault>
+    ensures given { IfOk result (IsTaskOf name.now (rows_of (found_of found.now))) }
+    ensures wrong { IfErr result (IsFaultOf name.now (rows_of (found_of found.now))) }
 {
-    let mut tool = tool(alloc)?;
-    let matches = tool.try_get_matches_from_mut(words)?;
-    let Some((name, found)) = matches.subcommand() else {
-        let error = tool.error(ErrorKind::MissingSubcommand, "a subcommand is required")?;
-        return Err(WordsFault::Usage(error));
-    };
     if name == "random" {
         draw(alloc, found)
     } else if name == "chart" {
@@ -385,4 +376,41 @@ pub fn invocation(alloc: Global, words: &[String]) -> Result<Task, WordsFault>
     } else {
         asked(alloc, name, found)
     }
+}
+
+/// The task of the program's words, as `invocation` gives it, by the program's own commands.
+fn task_by<'a>(
+    alloc: Global,
+    tool: &mut clap::Command<'a>,
+    words: &'a [String],
+) -> Result<Task, WordsFault>
+    requires { app_of tool.old ≡ tool_of }
+    ensures refused { IfErr result (IsRefusal (map string_bytes words.entry.now)) }
+    ensures given { IfOk result (λ task. (name : Text) × (rows : List Row)
+        × (subcommand_of tool_of (map string_bytes words.entry.now) ≡ Some (name, rows))
+        × IsTaskOf name rows task) }
+{
+    let matches = tool.try_get_matches_from_mut(words)?;
+    let Some((name, found)) = matches.subcommand() else {
+        drop(matches);
+        let error = tool.error(ErrorKind::MissingSubcommand, "a subcommand is required")?;
+        return Err(WordsFault::Usage(error));
+    };
+    let task = task_named(alloc, name, found);
+    drop(matches);
+    task
+}
+
+/// The task of the program's words, its own name first. Words of another form and a request for help or the version are
+/// a `Usage`, with the text of `clap`. Its exit status is 2 if `clap` takes the words.
+pub fn invocation(alloc: Global, words: &[String]) -> Result<Task, WordsFault>
+    ensures refused { IfErr result (IsRefusal (map string_bytes words.now)) }
+    ensures given { IfOk result (λ task. (name : Text) × (rows : List Row)
+        × (subcommand_of tool_of (map string_bytes words.now) ≡ Some (name, rows))
+        × IsTaskOf name rows task) }
+{
+    let mut tool = tool(alloc)?;
+    let task = task_by(alloc, &mut tool, words);
+    drop(tool);
+    task
 }

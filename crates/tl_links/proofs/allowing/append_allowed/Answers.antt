@@ -4,18 +4,18 @@ use Rattle.tl_links.specs.declared.allow_lines.AllowLines.{AllowLines}
 use Rattle.tl_links.proofs.AllowedLines.{all_found, finds, settled}
 use Rattle.tl_links.proofs.allowing.append_allowed.Goals as goal
 
-pub returns-clause-ok : goal.returns-clause-ok
-returns-clause-ok g c =
-    let (read, consumed, told, ended, has, stands) = c.in_ok-judge_input.ensures.ok in (
+pub returns-in-Ok-clause-ok : goal.returns-in-Ok-clause-ok
+returns-in-Ok-clause-ok g c =
+    let (read, consumed, told, ended, has, stands) = c.in-Ok.ensures.ok in (
       c.allowing.result.now,
       finds c.judge_input.new.lines.handler c.args.allow _ _ _
-          (c.in_ok-judge_input.ensures.purpose ∙ ap (λ (h : AllowLines). h.allow) c.new-lines.ensures.handler
+          (c.in-Ok.ensures.purpose ∙ ap (λ (h : AllowLines). h.allow) c.new-lines.ensures.handler
           ∙ c.new.ensures.allowed) (
             read,
             consumed,
             rw (c.allowing.ensures, c.handler.ensures) (all_found c.judge_input.new.lines.handler (lines_of read)
-                c.in_ok-judge_input.field-0 has),
+                c.in-Ok.field-0 has),
             rw (c.allowing.ensures, c.handler.ensures) (settled c.judge_input.new.lines.handler _ read stands),
           ),
-      c.in_ok-append_line.ensures,
+      rw c.in_ok-appended-in-Ok.was at c.append_line-appended.ensures,
     )

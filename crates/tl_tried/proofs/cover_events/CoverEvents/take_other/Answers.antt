@@ -17,5 +17,5 @@ returns-in-None-clause-ends c =
 
 pub returns-in-Some-clause-judges : goal.returns-in-Some-clause-judges
 returns-in-Some-clause-judges c =
-    event-begun c.args.self.now _ c.args.line.now _ c.in-Some.following c.requires refl refl
+    event-begun c.args.self.now _ c.args.line.now _ c.in-Some.following c.requires c.replace.ensures.after refl
     (rw c.in-Some.is at c.in_ok-begin_events.ensures)

@@ -9,5 +9,5 @@ returns-in-None-clause-judges c = λ said.
 
 pub returns-in-Some-clause-judges : goal.returns-in-Some-clause-judges
 returns-in-Some-clause-judges c = λ said.
-    wide-begun c.args.self.now _ c.args.line.now said c.in-Some.links c.requires refl refl
+    wide-begun c.args.self.now _ c.args.line.now said c.in-Some.links c.requires c.replace.ensures.after refl
     (rw c.in-Some.is at c.in_ok-begin_wide.ensures)

@@ -40,7 +40,8 @@ class Header:
         if words[:1] != ["tltrace"] or words[1] not in "1234":
             raise Beyond("the header")
         self.width = 8 if words[1] == "1" else int(words[2])
-        self.levels = words[{"1": 2, "2": 3}.get(words[1], 4):]
+        self.zero = words[4:5] == ["zero"]
+        self.levels = words[{"1": 2, "2": 3}.get(words[1], 4) + self.zero:]
 
 
 class Blocks:
@@ -62,7 +63,8 @@ class Lane:
     """The trace as the judge of one lane of all beats has it."""
     def __init__(self, lane, header, blocks, alone):
         self.lane, self.width, self.blocks = lane, header.width, blocks
-        self.judge = commits_trial.CommitJudge(len(header.levels), len(blocks.known), set(), [it == "C+" for it in header.levels])
+        self.judge = commits_trial.CommitJudge(len(header.levels), len(blocks.known), set(), [it == "C+" for it in header.levels],
+            header.zero)
         self.judge.alone = alone
         self.bursts, self.requests, self.releases, self.grants = {}, {}, {}, {}
 

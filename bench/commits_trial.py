@@ -1,6 +1,7 @@
 #!/usr/bin/env python3
 """commits_trial.py [--runs N] [--without PART] [--traces FOLDER]: tries the rules for stores and loads in a trace (M5, M6, M7) on
-the memories of early_trial.py. The cores of right caches store and load; no run may be convicted. Of each wrong cache it prints
+the memories of early_trial.py. The cores of right caches store and load; no run may be convicted. In every second run
+memory is zero at first, and the header says so. Of each wrong cache it prints
 how many runs are convicted, by rule, and how many the beats alone convict. `--without` leaves out one part of the rules. With
 `--traces` each run is written as a trace with the verdict beside it, as early_trial.py does."""
 import collections
@@ -13,12 +14,15 @@ REPORTS = ("ProbeAck", "Release")
 
 
 class CommitJudge(Judge):
-    """The judge of early_trial.py, with stores and loads. `complete` says of each link whether all its stores are recorded."""
-    def __init__(self, links, blocks, left_out, complete):
+    """The judge of early_trial.py, with stores and loads. `complete` says of each link whether all its stores are recorded, and `zero`
+    whether memory was zero before the trace."""
+    def __init__(self, links, blocks, left_out, complete, zero=False):
         super().__init__(links, blocks, left_out)
         self.complete = complete
+        first = 0 if zero else None
+        self.may = [[[(first, 0)] for _ in range(BEATS)] for _ in range(blocks)]
         self.stored = [[False] * BEATS for _ in range(blocks)]
-        self.memory = [[[(None, 0)] for _ in range(BEATS)] for _ in range(blocks)]  # what memory may have, if no copy is given back
+        self.memory = [[[(first, 0)] for _ in range(BEATS)] for _ in range(blocks)]  # what memory may have, if no copy is given back
         self.loads = {}                                       # (link, block, byte): what a load may bring since its I line
         self.perm_only = {}                                   # (link, block): the last Probe is a ProbePerm
 
@@ -138,7 +142,10 @@ class Cores(World):
         self.all_told = bug is not None or self.rng.random() < 0.5
         self.complete = [self.all_told or self.chance(0.5) for _ in range(self.links)]
         self.drops = self.chance(0.5)
-        self.judge = CommitJudge(self.links, self.blocks, left_out, self.complete)
+        self.zero = seed % 2 == 1 or bug == "memory wasn't zero"
+        if self.zero and bug != "memory wasn't zero":
+            self.memory = [[Thunk(value=0) for _ in range(BEATS)] for _ in range(self.blocks)]
+        self.judge = CommitJudge(self.links, self.blocks, left_out, self.complete, self.zero)
         self.judge.alone = self.alone = alone                 # the beats alone are judged
         self.fault, self.commits, self.lines = None, 0, 0     # at fault is the last of so many events
         self.old = [[None] * self.blocks for _ in range(CACHES)]
@@ -323,7 +330,7 @@ class Cores(World):
 BUGS = ["releases a dirty copy without data", "reports a dirty copy without data", "drops a dirty copy", "stale beat in a report",
     "swaps beats in a report", "reports another copy", "stores to the wrong lane", "loses a store", "upgrade isn't marked dirty",
     "stores under Branch", "stores while a report leaves", "loads from the wrong lane", "loads before its own store",
-    "loads after it gave the copy up", "loads the wrong beat of a Grant"]
+    "loads after it gave the copy up", "loads the wrong beat of a Grant", "memory wasn't zero"]
 
 
 LETTER = {"store": "S", "load": "L", "load_begins": "I"}
@@ -339,7 +346,7 @@ def line(event):
 
 def header(world):
     levels = "".join(" C+" if complete else " C" for complete in world.complete[:CACHES]) + " UH" * DEVICES
-    return f"tltrace 4 4 early,{'drops,' if world.drops else ''}reports{levels}"
+    return f"tltrace 4 4 early,{'drops,' if world.drops else ''}reports{' zero' if world.zero else ''}{levels}"
 
 
 def main():

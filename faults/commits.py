@@ -161,7 +161,7 @@ def chart_slips(tool, trace, lines=None):
     commits = [number for number, it in numbered if it.split()[1] in "SLI" and number >= first]
     last = min([last, *(number - 1 for number in commits[most:most + 1])])
     beats = [number for number, it in numbered if it.split()[1] in "ABCDE"]
-    plain = "\n".join([header.replace("+", ""), *(events[number - 2] for number in beats), ""])
+    plain = "\n".join([header.replace("+", "").replace(" zero", ""), *(events[number - 2] for number in beats), ""])
     place = {number: count for count, number in enumerate(beats, 2)}
     window = f"{min([place[it] for it in beats if it >= first], default=len(beats) + 2)}-{max([place[it] for it in beats if it <= last], default=1)}"
     if int(window.split("-")[0]) > int(window.split("-")[1]):
@@ -184,7 +184,7 @@ def chart_slips(tool, trace, lines=None):
 def marked(header):
     """A header of a trace of beats in the fourth form, with each level C marked; empty if there is none to mark, or no such form."""
     word, version, *fields = header.split()
-    if word != "tltrace" or version not in "1234":
+    if word != "tltrace" or version not in "1234" or "zero" in fields:
         return ""
     width = fields.pop(0) if version != "1" else "8"
     liberties = {"3": {"1": "none", "2": "writer"}.get(fields[0]), "4": fields[0]}.get(version, "none")
@@ -309,8 +309,8 @@ def main():
     with tempfile.TemporaryDirectory() as folder, concurrent.futures.ThreadPoolExecutor(len(os.sched_getaffinity(0))) as pool:
         runs = rest[0] if rest else "60"
         subprocess.run([sys.executable, MODEL, "--runs", runs, "--traces", folder], check=True, stdout=subprocess.DEVNULL)
-        # where no link says that all its stores are there the command reads no commits
-        traces = [it for it in sorted(pathlib.Path(folder).glob("*.trace")) if "C+" in it.open().readline()]
+        # where the header says neither that a link's stores are all there nor that memory was zero the command reads no commits
+        traces = [it for it in sorted(pathlib.Path(folder).glob("*.trace")) if re.search(r"C\+| zero ", it.open().readline())]
         found = list(pool.map(lambda it: list(slips(tool, it)), traces))
         schedules = [(it.name, it.read_text()) for it in sorted(SCHEDULES.glob("*.schedule"))]
         schedules += [(f"random {' '.join(it)}", of(tool, "random", *it)[0]) for it in WORLDS]

@@ -151,7 +151,11 @@ COMMITS = (
     ("M5_load", 2, "line 3 M5"), ("M5_load_right", 3, "coherent 3"), ("M5_begun", 7, "line 8 M5"), ("M5_begun_right", 7, "coherent 7"),
     ("M6", 5, "line 6 M6"), ("M6_right", 5, "coherent 5"), ("M6_unmarked_right", 5, "coherent 5"), ("M7", 5, "line 6 M7"),
     ("M7_right", 5, "coherent 5"), ("M7_dropped", 8, "line 9 M7"), ("M7_dropped_right", 8, "coherent 8"), ("M7_asked_right", 9, "coherent 9"),
-    ("M7_coming", 17, "line 18 M7"), ("M7_coming_right", 24, "coherent 24"))
+    ("M7_coming", 17, "line 18 M7"), ("M7_coming_right", 24, "coherent 24"),
+    ("M2_zero", 2, "line 3 M2"), ("M2_zero_right", 2, "coherent 2"), ("M2_unsaid_right", 2, "coherent 2"),
+    ("M3_zero", 2, "line 3 M3"), ("M3_zero_right", 2, "coherent 2"),
+    ("M6_zero", 7, "line 8 M6"), ("M6_zero_right", 7, "coherent 7"), ("M6_unsaid_right", 7, "coherent 7"),
+    ("M7_zero", 5, "line 6 M7"), ("M7_zero_right", 5, "coherent 5"), ("M7_unsaid_right", 5, "coherent 5"))
 # The reasons for the fault of an event, without the sentence of its rule.
 STORIES = {
     "M5": """line 5 M5
@@ -204,13 +208,30 @@ STORIES = {
   8: link 00 stores 1 byte at 00000000: 05
   byte 00000000 of the copy was stored, and may be 05, set in line 8; that of memory wasn't, and may be 00, set in line 6
 """,
+    "M6_zero": """line 8 M6
+  8: link 00 loads 1 byte at 00000000: 05
+  link 00 holds Branch of block 00000000 since:
+  7: 00 C ProbeAck TtoB size=6 source=00 address=00000000 data=- corrupt=0
+  the last stores to these bytes:
+  5: link 00 stores 1 byte at 00000000: 05
+  byte 00000000 is 05, and may be 00, set in line 7
+""",
+    "M7_zero": """line 6 M7
+  6: 00 C Release TtoN size=6 source=00 address=00000000 data=- corrupt=0
+  link 00 holds Trunk of block 00000000 since:
+  3: 00 D Grant toT size=6 source=00 sink=00 denied=0 data=- corrupt=0
+  the last stores to these bytes:
+  5: link 00 stores 1 byte at 00000000: 05
+  byte 00000000 of the copy was stored, and may be 05, set in line 5; that of memory wasn't, and may be 00
+""",
 }
-# Lines of no commit, with their faults, and headers in which a mark isn't at its place.
+# Lines of no commit, with their faults, and headers in which a mark or the word `zero` isn't at its place.
 NO_COMMITS = (("00 S 0 00000000", "F1"), ("00 I 0 00000000 05", "F1"), ("00 L 0 00000000 05 0", "F1"), ("00 T 0 00000000 05", "F2"),
     ("00 s 0 00000000 05", "F2"), ("00 S 4 00000000 05", "F3"), ("00 S 1 00000001 0505", "F3"), ("00 S 1 00000000 05", "F3"),
     ("00 S 0 0000000 05", "F3"), ("00 L 3 00000000 00000000000000G5", "F3"), ("00 A 0 00000000 05", "F1"))
 NO_MARKS = ("tltrace 4 8 none UH+", "tltrace 4 8 none C++", "tltrace 4 8 none C +", "tltrace 4 8 none +C", "tltrace 2 8 C+", "tltrace 3 8 1 C+",
-    "tltrace 5 24 none C+", "tltrace 4 32 none C+", "tltrace 4 8 C+")
+    "tltrace 5 24 none C+", "tltrace 4 32 none C+", "tltrace 4 8 C+", "tltrace 4 8 zero none C", "tltrace 4 8 none C zero", "tltrace 4 8 none zero",
+    "tltrace 4 8 none zero zero C", "tltrace 4 8 none  zero C", "tltrace 4 8 nonezero C", "tltrace 4 8 none zeroC", "tltrace 4 8 zero C", "tltrace 3 8 1 zero C")
 # What each liberty allows: the last beat of a trace breaks the rule without it, and none with it.
 UNDER = of_liberties(True)
 # The nearest trace whose last beat breaks this rule with it too.
@@ -486,6 +507,14 @@ ROWS = [
     ("tltool coherent rules/M4_right.trace", 0, "coherent 7\n", ""),
     *((f"tltool monitor rules/{name}.trace", 0, f"clean {lines}\n", "") for name, lines, _ in COMMITS),
     *((f"tltool coherent rules/{name}.trace", "M" in end or "L" in end, f"{end}\n", "") for name, _, end in COMMITS),
+    # memory was zero, and stores and loads of links that aren't C+
+    ("sed '1s/.*/tltrace 4 8 none zero C/' rules/M6.trace | tltool coherent", 0, "coherent 5\n", ""),
+    ("sed '1s/.*/tltrace 4 8 none C/' rules/M6.trace | tltool coherent", 1, "line 5 F2\n", ""),
+    ("sed '1s/none/standard,uncorrupt zero/' rules/M6.trace | tltool coherent", 1, "line 6 M6\n", ""),
+    ("echo 'tltrace 5 32 none zero UL UH C' | tltool coherent", 0, "coherent 0\n", ""),
+    ("printf 'tltrace 5 32 none zero UL\\n00 A 4 0 5 0001 0000000000000000 ffffffff - 0\\n00 D 1 0 5 0001 0000 0 %063d1 0\\n' 0 | tltool coherent", 1, "line 3 M3\n", ""),
+    ("printf 'tltrace 5 32 none zero UL\\n00 A 4 0 5 0001 0000000000000000 ffffffff - 0\\n00 D 1 0 5 0001 0000 0 %064d 0\\n' 0 | tltool coherent", 0, "coherent 2\n", ""),
+    ("printf 'tltrace 5 32 none UL\\n00 A 4 0 5 0001 0000000000000000 ffffffff - 0\\n00 D 1 0 5 0001 0000 0 %063d1 0\\n' 0 | tltool coherent", 0, "coherent 2\n", ""),
     # the mark is of its link alone
     ("sed '1s/C+/C C+/' rules/M6.trace | tltool coherent", 0, "coherent 5\n", ""),
     ("sed '1s/C+/C C+/; s/^00/01/' rules/M6.trace | tltool coherent", 1, "line 6 M6\n", ""),

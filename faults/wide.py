@@ -471,7 +471,7 @@ def example(file, rng):
     """The traces of a file with a header of one of the forms 1, 2 and 4, written wide, with what they are written by."""
     header, *lines = file.read_text().splitlines()
     _, version, *words_behind = header.split()
-    if version not in "124" or "+" in header:
+    if version not in "124" or "+" in header or " zero" in header:
         return
     narrow = 8 if version == "1" else int(words_behind.pop(0))
     liberties = words_behind.pop(0) if version == "4" else "none"

@@ -59,10 +59,11 @@ def commits_of_wide_links_have_sixteen_digits_of_address():
 
 
 @test
-def a_header_says_of_which_links_all_stores_are_recorded():
+def a_header_says_of_which_links_all_stores_are_recorded_and_whether_memory_was_zero():
     for header, words in (
             ("none C+", ONE), ("writer C+", flags(".COMPLETE(16'b1),.PROFILE(2)")), ("early,drops C+", flags(".COMPLETE(16'b1),.LIBERTIES(24)")),
             ("none UH UH C+", flags(".COMPLETE(16'b10),.FIRST(1)", "-DN=2", "-DLEVELS=4'b1001")),
+            ("none zero C+", flags(".COMPLETE(16'b1),.ZERO(1)")), ("early,drops zero C+", flags(".COMPLETE(16'b1),.LIBERTIES(24),.ZERO(1)")),
             ("none C+ C+", flags(".COMPLETE(16'b11)", "-DN=2", "-DLEVELS=4'b1010"))):
         played(["vvp", "-n", icarus("commits_header.vvp", TOP, SOURCES, *words)], ["edge 1"])
         want(beat_lines("committed") == [f"tltrace 4 8 {header}"], f"{beat_lines('committed')}")

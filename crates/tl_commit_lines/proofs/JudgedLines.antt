@@ -22,10 +22,9 @@ use Rattle.tl_events.specs.statement.EventLine.{SpellsEvent, event_fault}
 use Rattle.tl_params.specs.declared.liberties.Liberties.{Liberties}
 use Rattle.tl_params.specs.declared.width.Width.{Width}
 use Rattle.tl_commit_lines.specs.code.EventWatching.{KnowsEventTrace, KnowsEvents, WatchesEvent}
-use Rattle.tl_commit_lines.specs.declared.header.MarkedLevel.{MarkedLevel}
 use Rattle.tl_commit_lines.specs.declared.judge.EventJudge.{EventJudge}
 use Rattle.tl_commit_lines.specs.statement.JudgedEvents.{IsEventAtFault, JudgedCommits, JudgedEvents, fault_by}
-use Rattle.tl_commit_lines.specs.statement.MarkedHeader.{NamesMarked}
+use Rattle.tl_commit_lines.specs.statement.MarkedHeader.{MarkedLinks, NamesMarked}
 
 -- a line that has no LF, or is too long, spells no event
 pub open-event : (w : ℕ) (line : List ℕ) → IsOpen line → event_fault w line ≡ Some F1
@@ -33,7 +32,7 @@ open-event w line is = rw (open_fault w line is) refl
 
 -- ---- the lines of events have a text
 
-module _ (w : ℕ) (width : IsWidth w) (together : Bool) (links : List MarkedLevel) (may : Liberties) where
+module _ (w : ℕ) (width : IsWidth w) (together : Bool) (links : MarkedLinks) (may : Liberties) where
   -- the line spells an event that isn't at fault, or it is at fault
   abbrev GoodOrBad : Events w → List ℕ → Type 0
   GoodOrBad e line =
@@ -146,7 +145,7 @@ module _ {wide : Width} (together : Bool) (allow : Liberties) (old : EventJudge 
 
 -- what its header begins
 abbrev pub header-known : (wide : Width) (together : Bool) (allow : Liberties) (line : List ℕ) (may : Liberties)
-    (links : List MarkedLevel) (judge : EventJudge (bytes_of wide)) → NamesMarked allow line wide may links
+    (links : MarkedLinks) (judge : EventJudge (bytes_of wide)) → NamesMarked allow line wide may links
     → KnowsEvents together judge links may [] → KnowsEventTrace wide together allow judge (line ∷ []) []
 header-known wide together allow line may links judge named known = record {
   header = line;

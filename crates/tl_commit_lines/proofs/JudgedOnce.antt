@@ -13,13 +13,13 @@ use Rattle.tl_events.proofs.EventLines.{one-event, spelled-event}
 use Rattle.tl_events.specs.declared.commit.Event.{Event}
 use Rattle.tl_events.specs.statement.EventLine.{SpellsEvent, event_fault}
 use Rattle.tl_params.specs.declared.liberties.Liberties.{Liberties}
-use Rattle.tl_commit_lines.specs.declared.header.MarkedLevel.{MarkedLevel}
+use Rattle.tl_commit_lines.specs.statement.MarkedHeader.{MarkedLinks}
 use Rattle.tl_commit_lines.specs.statement.JudgedEvents.{IsEventAtFault, JudgedEvents, fault_by}
 
 some-same : {A : Type 0} {x y : A} → Some x ≡ Some y → x ≡ y
 some-same e = cc
 
-module _ (w : ℕ) (width : IsWidth w) (together : Bool) (links : List MarkedLevel) (may : Liberties) where
+module _ (w : ℕ) (width : IsWidth w) (together : Bool) (links : MarkedLinks) (may : Liberties) where
   -- the fault of an event, with its link
   abbrev fault_of : Events w → Link × Event w → Option Fault
   fault_of e x = fault_by w together links may x.0 x.1 e

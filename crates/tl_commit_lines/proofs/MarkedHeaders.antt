@@ -1,7 +1,7 @@
 -- Headers of traces with commits: what was spelled is read, and what was read was spelled so.
 use Rattle.std.proofs.Common.{◌≡◌, ◌≢◌, ◌≤◌, ◌*◌, ℕ, zero, suc, List, [], ◌∷◌, ◌++◌, length, refl, ap, sym, ◌∙◌}
-use Rattle.std.proofs.Common.{append_assoc, arith, cond, false, inl, inr, length-append, true}
-use Rattle.std.proofs.lemmas.Bool.{eqb-true}
+use Rattle.std.proofs.Common.{append_assoc, arith, cond, false, inl, inr, length-append, subst, true}
+use Rattle.std.proofs.lemmas.Bool.{and_parts, eqb-true}
 use Rattle.std.specs.Io.BufRead.{ends_with_byte}
 use Rattle.std.specs.Prelude.{◌==◌, ◌⊎◌, Bool, Option, Some, None, codes, option_map, ⊤}
 use Rattle.tl_beat.proofs.SpelledLines.{ends_with_byte-line}
@@ -12,10 +12,10 @@ use Rattle.tl_lines.proofs.LinksHeaders.{front-short, front_again, front_taken}
 use Rattle.tl_lines.specs.code.HeadReading.{front_at}
 use Rattle.tl_lines.specs.statement.LinksHeader.{fourth_front}
 use Rattle.tl_lines.specs.statement.Lines.{IsOpen}
-use Rattle.tl_params.proofs.Headers.{is_end-taken, level-short, level_taken, more_levels}
+use Rattle.tl_params.proofs.Headers.{after_taken, is_end-taken, level-short, level_taken, more_levels}
 use Rattle.tl_params.proofs.Options.{some_pair}
 use Rattle.tl_params.proofs.UpTo.{all-so, up_to-end, up_to-step}
-use Rattle.tl_params.specs.code.HeaderReading.{level_at, onto}
+use Rattle.tl_params.specs.code.HeaderReading.{after_word, level_at, onto}
 use Rattle.tl_params.specs.declared.level.Level.{Level}
 use Rattle.tl_params.specs.declared.level.Level.TheVariants as level
 use Rattle.tl_params.specs.declared.liberties.Liberties.{Liberties}
@@ -23,11 +23,14 @@ use Rattle.tl_params.specs.declared.width.Width.{Width}
 use Rattle.tl_params.specs.statement.Config.{IsCount}
 use Rattle.tl_params.specs.statement.Header.{is_end, level_text}
 use Rattle.tl_params.specs.statement.Liberties.{united}
-use Rattle.tl_commit_lines.specs.code.HeadReading.{links_at, marked, marked_at, unmarked, with_mark}
+use Rattle.tl_commit_lines.specs.code.HeadReading.{has_some, is_named, links_at, marked, marked_at, marked_links_at}
+use Rattle.tl_commit_lines.specs.code.HeadReading.{unmarked}
+use Rattle.tl_commit_lines.specs.code.HeadReading.{with_levels, with_mark, with_zero, zero_at}
 use Rattle.tl_commit_lines.specs.declared.header.CommitHeader.{CommitHeader}
 use Rattle.tl_commit_lines.specs.declared.header.MarkedLevel.{MarkedLevel}
-use Rattle.tl_commit_lines.specs.statement.MarkedHeader.{AreMarkable, IsMarkedHeader, NamesMarked, SpellsLinks, SpellsMarked, links_text, mark_text}
-use Rattle.tl_commit_lines.specs.statement.MarkedHeader.{some_marked}
+use Rattle.tl_commit_lines.specs.statement.MarkedHeader.{AreMarkable, IsMarkedHeader, MarkedLinks, NamesMarked}
+use Rattle.tl_commit_lines.specs.statement.MarkedHeader.{SpellsLinks}
+use Rattle.tl_commit_lines.specs.statement.MarkedHeader.{SpellsMarked, links_text, mark_text, says_commits, zero_text}
 
 -- ---- a level and its mark
 
@@ -110,13 +113,13 @@ marked_again x rest markable none = mark_again x.level x.complete rest markable 
 
 -- ---- all of them
 
--- the links of a header and the end of its line
-abbrev pub tail : List MarkedLevel → List ℕ
-tail links = links_text links ++ codes "\n"
+-- the levels of a header and the end of its line
+abbrev pub levels_tail : List MarkedLevel → List ℕ
+levels_tail links = links_text links ++ codes "\n"
 
--- the bytes are those of these links and a line feed
+-- the bytes are those of these levels and a line feed
 abbrev AreLinks : List ℕ → List MarkedLevel → Type 0
-AreLinks bytes links = (bytes ≡ tail links) × AreMarkable links
+AreLinks bytes links = (bytes ≡ levels_tail links) × AreMarkable links
 
 one_more : (bytes rest : List ℕ) (x : MarkedLevel) (links : List MarkedLevel) → marked_at bytes ≡ Some (x, rest)
     → AreLinks rest links → AreLinks bytes (x ∷ links)
@@ -127,70 +130,134 @@ one_more bytes rest x links is (text, markable) =
 none_at_end : (bytes : List ℕ) → is_end bytes ≡ true → AreLinks bytes []
 none_at_end bytes end = (is_end-taken bytes end, tt)
 
-pub links_taken : (n : ℕ) (bytes : List ℕ) (links : List MarkedLevel) → links_at n bytes ≡ Some links
-    → ((bytes ≡ tail links) × AreMarkable links) × (length links ≤ n)
-links_taken n bytes links e = all-so marked_at AreLinks none_at_end one_more n bytes links e
+levels_read : (n : ℕ) (bytes : List ℕ) (links : List MarkedLevel) → links_at n bytes ≡ Some links
+    → ((bytes ≡ levels_tail links) × AreMarkable links) × (length links ≤ n)
+levels_read n bytes links e = all-so marked_at AreLinks none_at_end one_more n bytes links e
 
-no_plus : (links : List MarkedLevel) → NoPlus (tail links)
+no_plus : (links : List MarkedLevel) → NoPlus (levels_tail links)
 no_plus [] = refl
 no_plus (x ∷ links) = refl
 
 more_links : (x : MarkedLevel) (rest : List ℕ) → is_end (field x rest) ≡ false
 more_links x rest = more_levels x.level (mark_text x.complete ++ rest)
 
-tail_more : (x : MarkedLevel) (links : List MarkedLevel) → tail (x ∷ links) ≡ field x (tail links)
+tail_more : (x : MarkedLevel) (links : List MarkedLevel) → levels_tail (x ∷ links) ≡ field x (levels_tail links)
 tail_more x links = simp append_assoc
 
-pub links_again : (n : ℕ) (links : List MarkedLevel) → length links ≤ n → AreMarkable links
-    → links_at n (tail links) ≡ Some links
-links_again n [] few markable = up_to-end marked_at n (10 ∷ []) refl
-links_again zero (x ∷ links) few markable = absurd (omega arith)
-links_again (suc n) (x ∷ links) few markable =
+levels_again : (n : ℕ) (links : List MarkedLevel) → length links ≤ n → AreMarkable links
+    → links_at n (levels_tail links) ≡ Some links
+levels_again n [] few markable = up_to-end marked_at n (10 ∷ []) refl
+levels_again zero (x ∷ links) few markable = absurd (omega arith)
+levels_again (suc n) (x ∷ links) few markable =
     ap (links_at (suc n)) (tail_more x links)
-    ∙ up_to-step marked_at (suc n) n (field x (tail links)) (tail links) x refl (more_links x (tail links))
-    (marked_again x (tail links) markable.0 (no_plus links))
-    ∙ ap (onto x) (links_again n links (omega arith) markable.1)
+    ∙ up_to-step marked_at (suc n) n (field x (levels_tail links)) (levels_tail links) x refl
+    (more_links x (levels_tail links))
+    (marked_again x (levels_tail links) markable.0 (no_plus links))
+    ∙ ap (onto x) (levels_again n links (omega arith) markable.1)
+
+-- ---- the word `zero` before them
+
+zero_taken : (bytes : List ℕ) → bytes ≡ zero_text (zero_at bytes).0 ++ (zero_at bytes).1
+zero_taken bytes = go (after_word (codes " zero") bytes) refl
+  where
+    go : (o : Option (List ℕ)) → after_word (codes " zero") bytes ≡ o
+        → bytes ≡ zero_text (with_zero bytes o).0 ++ (with_zero bytes o).1
+    go None is = refl
+    go (Some rest) is = after_taken (codes " zero") bytes rest is
+
+-- where the word doesn't stand there, it isn't read
+pub no-zero : (bytes : List ℕ) → ((rest : List ℕ) → bytes ≢ codes " zero" ++ rest) → zero_at bytes ≡ (false, bytes)
+no-zero bytes none = go (after_word (codes " zero") bytes) refl
+  where
+    go : (o : Option (List ℕ)) → after_word (codes " zero") bytes ≡ o → with_zero bytes o ≡ (false, bytes)
+    go None is = refl
+    go (Some rest) is = absurd (none rest (after_taken (codes " zero") bytes rest is))
+
+level-first : (l : Level) (rest : List ℕ)
+    → zero_at (32 ∷ (level_text l ++ rest)) ≡ (false, 32 ∷ (level_text l ++ rest))
+level-first level.UL rest = refl
+level-first level.UH rest = refl
+level-first level.C rest = refl
+
+zero_again : (from_zero : Bool) (links : List MarkedLevel)
+    → zero_at (zero_text from_zero ++ levels_tail links) ≡ (from_zero, levels_tail links)
+zero_again true links = refl
+zero_again false [] = refl
+zero_again false (x ∷ links) =
+    ap zero_at (tail_more x links) ∙ level-first x.level (mark_text x.complete ++ levels_tail links)
+    ∙ ap (λ (b : List ℕ). (false, b)) (sym (tail_more x links))
+
+-- the links of a header and the end of its line
+abbrev pub tail : MarkedLinks → List ℕ
+tail links = zero_text links.zero ++ levels_tail links.levels
+
+links_taken : (bytes : List ℕ) (links : MarkedLinks) → marked_links_at bytes ≡ Some links
+    → ((bytes ≡ tail links) × AreMarkable links.levels) × (length links.levels ≤ 16)
+links_taken bytes links e = go (links_at 16 (zero_at bytes).1) refl e
+  where
+    go : (o : Option (List MarkedLevel)) → links_at 16 (zero_at bytes).1 ≡ o
+        → with_levels (zero_at bytes).0 o ≡ Some links
+        → ((bytes ≡ tail links) × AreMarkable links.levels) × (length links.levels ≤ 16)
+    go None is f = absurd cc
+    go (Some levels) is f =
+        let ((ends, markable), few) = levels_read 16 (zero_at bytes).1 levels is in
+        subst (λ (k : MarkedLinks). ((bytes ≡ tail k) × AreMarkable k.levels) × (length k.levels ≤ 16)) (some-is f)
+        ((zero_taken bytes ∙ ap (λ (b : List ℕ). zero_text (zero_at bytes).0 ++ b) ends, markable), few)
+
+links_again : (links : MarkedLinks) → length links.levels ≤ 16 → AreMarkable links.levels
+    → marked_links_at (tail links) ≡ Some links
+links_again links few markable =
+    rw (zero_again links.zero links.levels, levels_again 16 links.levels few markable) refl
 
 -- ---- a whole header
 
--- a header with a mark has a link
-some-many : (links : List MarkedLevel) → some_marked links ≡ true → length links ≤ 16 → IsCount (length links)
+some-many : (links : List MarkedLevel) → has_some links ≡ true → length links ≤ 16 → IsCount (length links)
 some-many [] some few = absurd cc
 some-many (x ∷ links) some few = (omega arith, few)
+
+many-some : (links : List MarkedLevel) → IsCount (length links) → has_some links ≡ true
+many-some [] many = absurd (omega (arith, many.0))
+many-some (x ∷ links) many = refl
+
+pub named-so : {bytes : List ℕ} {may : Liberties} (links : MarkedLinks) → SpellsLinks bytes may links
+    → is_named links ≡ true
+named-so links h = rw (many-some links.levels h.so_many) h.says
 
 -- the bytes begin with a comma
 abbrev begins_comma : List ℕ → Bool
 begins_comma [] = false
 begins_comma (c ∷ rest) = c == 44
 
-lacks_comma : (links : List MarkedLevel) → IsCount (length links) → LacksComma (tail links)
-lacks_comma [] many rest e = absurd (omega (arith, many.0))
-lacks_comma (x ∷ links) many rest e = let both : false ≡ true = ap begins_comma e in absurd cc
+lacks_comma : (from_zero : Bool) (links : List MarkedLevel) → IsCount (length links)
+    → LacksComma (zero_text from_zero ++ levels_tail links)
+lacks_comma true links many rest e = let both : false ≡ true = ap begins_comma e in absurd cc
+lacks_comma false [] many rest e = absurd (omega (arith, many.0))
+lacks_comma false (x ∷ links) many rest e = let both : false ≡ true = ap begins_comma e in absurd cc
 
-pub links_spelled : (bytes left word : List ℕ) (may : Liberties) (links : List MarkedLevel) → SpellsLiberties word may
-    → bytes ≡ word ++ left → links_at 16 left ≡ Some links → some_marked links ≡ true → SpellsLinks bytes may links
+pub links_spelled : (bytes left word : List ℕ) (may : Liberties) (links : MarkedLinks) → SpellsLiberties word may
+    → bytes ≡ word ++ left → marked_links_at left ≡ Some links → is_named links ≡ true → SpellsLinks bytes may links
 links_spelled bytes left word may links spells text read some =
-    let (are, few) = links_taken 16 left links read in
-    let (ends, markable) = are in
+    let ((ends, markable), few) = links_taken left links read in
+    let both = and_parts (has_some links.levels) (says_commits links) some in
     record {
       word = word;
       spells = spells;
       are_bytes = text ∙ ap (λ (x : List ℕ). word ++ x) ends;
-      so_many = some-many links some few;
+      so_many = some-many links.levels both.0 few;
       markable = markable;
-      marked = some;
+      says = both.1;
     }
 
-pub no_comma : {bytes : List ℕ} {may : Liberties} (links : List MarkedLevel) → SpellsLinks bytes may links
+pub no_comma : {bytes : List ℕ} {may : Liberties} (links : MarkedLinks) → SpellsLinks bytes may links
     → LacksComma (tail links)
-no_comma links h = lacks_comma links h.so_many
+no_comma links h = lacks_comma links.zero links.levels h.so_many
 
-pub links_are : {bytes : List ℕ} {may : Liberties} (links : List MarkedLevel) → SpellsLinks bytes may links
-    → (left : List ℕ) → left ≡ tail links → links_at 16 left ≡ Some links
-links_are links h left is = ap (links_at 16) is ∙ links_again 16 links h.so_many.1 h.markable
+pub links_are : {bytes : List ℕ} {may : Liberties} (links : MarkedLinks) → SpellsLinks bytes may links
+    → (left : List ℕ) → left ≡ tail links → marked_links_at left ≡ Some links
+links_are links h left is = ap marked_links_at is ∙ links_again links h.so_many.1 h.markable
 
 -- what is read behind the front of a header
-pub marked_behind : (line : List ℕ) (width : Width) (may : Liberties) (links : List MarkedLevel)
+pub marked_behind : (line : List ℕ) (width : Width) (may : Liberties) (links : MarkedLinks)
     → SpellsMarked line width may links → (x : Width × List ℕ) → front_at line ≡ Some x
     → (x.0 ≡ width) × SpellsLinks x.1 may links
 marked_behind line width may links (rest, is_line, h) x is =
@@ -198,72 +265,83 @@ marked_behind line width may links (rest, is_line, h) x is =
     let (wide, ends) = some_pair x (width, rest) (sym is ∙ front) in
     (wide, rw ends h)
 
-marked_unread : (line : List ℕ) (width : Width) (may : Liberties) (links : List MarkedLevel)
+marked_unread : (line : List ℕ) (width : Width) (may : Liberties) (links : MarkedLinks)
     → SpellsMarked line width may links → front_at line ≢ None
 marked_unread line width may links (rest, is_line, h) none =
     let some : front_at line ≡ Some (width, rest) = ap front_at is_line ∙ front_again width rest in
     absurd cc
 
+-- what is read of the word and of the levels behind it
+pub none-read : (bytes rest : List ℕ) (from_zero : Bool) → (from_zero, rest) ≡ zero_at bytes → links_at 16 rest ≡ None
+    → marked_links_at bytes ≡ None
+none-read bytes rest from_zero is none =
+    ap (λ (z : Bool × List ℕ). with_levels z.0 (links_at 16 z.1)) (sym is) ∙ ap (with_levels from_zero) none
+
+pub some-read : (bytes rest : List ℕ) (from_zero : Bool) (levels : List MarkedLevel)
+    → (from_zero, rest) ≡ zero_at bytes → links_at 16 rest ≡ Some levels
+    → marked_links_at bytes ≡ Some (record { zero = from_zero; levels = levels })
+some-read bytes rest from_zero levels is some =
+    ap (λ (z : Bool × List ℕ). with_levels z.0 (links_at 16 z.1)) (sym is) ∙ ap (with_levels from_zero) some
+
 -- links that are there are read, as these
-pub not_read : (links : List MarkedLevel) (left : List ℕ) → links_at 16 left ≡ None → links_at 16 left ≡ Some links → ⊥
+pub not_read : (links : MarkedLinks) (left : List ℕ) → marked_links_at left ≡ None → marked_links_at left ≡ Some links
+    → ⊥
 not_read links left none some = let both : None ≡ Some links = sym none ∙ some in absurd cc
 
-pub same_links : (found links : List MarkedLevel) (left : List ℕ) → links_at 16 left ≡ Some found
-    → links_at 16 left ≡ Some links → found ≡ links
+pub same_links : (found links : MarkedLinks) (left : List ℕ) → marked_links_at left ≡ Some found
+    → marked_links_at left ≡ Some links → found ≡ links
 same_links found links left is also = some-is (sym is ∙ also)
 
 -- ---- bytes are those of liberties and links, or of none
 
 abbrev pub LinksOrNone : List ℕ → Type 0
 LinksOrNone bytes =
-    ((may : Liberties) × (links : List MarkedLevel) × SpellsLinks bytes may links)
-    ⊎ ((may : Liberties) (links : List MarkedLevel) → ¬ SpellsLinks bytes may links)
+    ((may : Liberties) × (links : MarkedLinks) × SpellsLinks bytes may links)
+    ⊎ ((may : Liberties) (links : MarkedLinks) → ¬ SpellsLinks bytes may links)
 
 module _ (bytes : List ℕ) where
   at_links : (left word : List ℕ) (may : Liberties) → SpellsLiberties word may → bytes ≡ word ++ left
-      → liberties_at bytes ≡ Some (may, left) → (o : Option (List MarkedLevel)) → links_at 16 left ≡ o
+      → liberties_at bytes ≡ Some (may, left) → (o : Option MarkedLinks) → marked_links_at left ≡ o
       → LinksOrNone bytes
   at_links left word may spells text named o is = go o is
     where
-      unlike : (other : Liberties) (links : List MarkedLevel) → SpellsLinks bytes other links
-          → links_at 16 left ≡ Some links
+      unlike : (other : Liberties) (links : MarkedLinks) → SpellsLinks bytes other links
+          → marked_links_at left ≡ Some links
       unlike other links h =
           let read = liberties_again h.word (tail links) other h.spells (no_comma links h) in
           let (m, ends) = some_pair (may, left) (other, tail links) (sym named ∙ ap liberties_at h.are_bytes ∙ read) in
           links_are links h left ends
 
-      none_read : (other : Liberties) (links : List MarkedLevel) → links_at 16 left ≡ None
+      none_read : (other : Liberties) (links : MarkedLinks) → marked_links_at left ≡ None
           → ¬ SpellsLinks bytes other links
       none_read other links none h = let some = unlike other links h in absurd cc
 
-      not_marked : (found links : List MarkedLevel) (other : Liberties) → links_at 16 left ≡ Some found
-          → some_marked found ≡ false → ¬ SpellsLinks bytes other links
+      not_marked : (found links : MarkedLinks) (other : Liberties) → marked_links_at left ≡ Some found
+          → is_named found ≡ false → ¬ SpellsLinks bytes other links
       not_marked found links other is none h =
-          let same : Some found ≡ Some links = sym is ∙ unlike other links h in
-          let links_same : found ≡ links = cc in
-          let some = h.marked in
-          let both : false ≡ true = sym none ∙ ap some_marked links_same ∙ some in
+          let same = same_links found links left is (unlike other links h) in
+          let both : false ≡ true = sym none ∙ ap is_named same ∙ named-so links h in
           absurd cc
 
-      go : (o : Option (List MarkedLevel)) → links_at 16 left ≡ o → LinksOrNone bytes
+      go : (o : Option MarkedLinks) → marked_links_at left ≡ o → LinksOrNone bytes
       go None is = inr (λ other links. none_read other links is)
-      go (Some links) is = with_some (some_marked links) refl
+      go (Some links) is = with_some (is_named links) refl
         where
-          with_some : (b : Bool) → some_marked links ≡ b → LinksOrNone bytes
+          with_some : (b : Bool) → is_named links ≡ b → LinksOrNone bytes
           with_some true some = inl (may, links, links_spelled bytes left word may links spells text is some)
           with_some false none = inr (λ other others. not_marked links others other is none)
 
   at_liberties : (o : Option (Liberties × List ℕ)) → liberties_at bytes ≡ o → LinksOrNone bytes
   at_liberties None is = inr (λ other links. no other links)
     where
-      no : (other : Liberties) (links : List MarkedLevel) → ¬ SpellsLinks bytes other links
+      no : (other : Liberties) (links : MarkedLinks) → ¬ SpellsLinks bytes other links
       no other links h =
           let read = liberties_again h.word (tail links) other h.spells (no_comma links h) in
           let some = ap liberties_at h.are_bytes ∙ read in
           absurd cc
   at_liberties (Some (may, left)) is =
       let (word, spells, text) = liberties_taken bytes left may is in
-      at_links left word may spells text is (links_at 16 left) refl
+      at_links left word may spells text is (marked_links_at left) refl
 
 pub links_or_none : (bytes : List ℕ) → LinksOrNone bytes
 links_or_none bytes = at_liberties bytes (liberties_at bytes) refl
@@ -272,8 +350,8 @@ links_or_none bytes = at_liberties bytes (liberties_at bytes) refl
 
 abbrev MarkedOrNone : List ℕ → Type 0
 MarkedOrNone line =
-    ((width : Width) × (may : Liberties) × (links : List MarkedLevel) × SpellsMarked line width may links)
-    ⊎ ((width : Width) (may : Liberties) (links : List MarkedLevel) → ¬ SpellsMarked line width may links)
+    ((width : Width) × (may : Liberties) × (links : MarkedLinks) × SpellsMarked line width may links)
+    ⊎ ((width : Width) (may : Liberties) (links : MarkedLinks) → ¬ SpellsMarked line width may links)
 
 marked_or_none : (line : List ℕ) → MarkedOrNone line
 marked_or_none line = go (front_at line) refl
@@ -291,8 +369,8 @@ marked_or_none line = go (front_at line) refl
 -- with what is allowed besides
 abbrev pub NamedOrNone : Liberties → List ℕ → Type 0
 NamedOrNone allow line =
-    ((width : Width) × (may : Liberties) × (links : List MarkedLevel) × NamesMarked allow line width may links)
-    ⊎ ((width : Width) (may : Liberties) (links : List MarkedLevel) → ¬ NamesMarked allow line width may links)
+    ((width : Width) × (may : Liberties) × (links : MarkedLinks) × NamesMarked allow line width may links)
+    ⊎ ((width : Width) (may : Liberties) (links : MarkedLinks) → ¬ NamesMarked allow line width may links)
 
 pub named_or_none : (allow : Liberties) (line : List ℕ) → NamedOrNone allow line
 named_or_none allow line = go (marked_or_none line)
@@ -303,14 +381,14 @@ named_or_none allow line = go (marked_or_none line)
 
 -- nothing is named by a line that is no such header
 pub none_for : (allow : Liberties) (line : List ℕ)
-    → ((width : Width) (may : Liberties) (links : List MarkedLevel) → ¬ SpellsMarked line width may links)
-    → (width : Width) (may : Liberties) (links : List MarkedLevel) → ¬ NamesMarked allow line width may links
+    → ((width : Width) (may : Liberties) (links : MarkedLinks) → ¬ SpellsMarked line width may links)
+    → (width : Width) (may : Liberties) (links : MarkedLinks) → ¬ NamesMarked allow line width may links
 none_for allow line none width may links (own, named, same) = none width own links named
 
 pub unnamed : (allow : Liberties) (line : List ℕ) (found : Option CommitHeader) → found ≡ None
-    → ((width : Width) (may : Liberties) (links : List MarkedLevel) → SpellsMarked line width may links
+    → ((width : Width) (may : Liberties) (links : MarkedLinks) → SpellsMarked line width may links
     → IsMarkedHeader found width may links)
-    → (width : Width) (may : Liberties) (links : List MarkedLevel) → ¬ NamesMarked allow line width may links
+    → (width : Width) (may : Liberties) (links : MarkedLinks) → ¬ NamesMarked allow line width may links
 unnamed allow line found none every = none_for allow line (λ width may links h. rw none at (every width may links h))
 
 -- ---- a header's line ends in LF, and is short
@@ -331,15 +409,23 @@ links-short (x ∷ links) =
       links-short links,
     )
 
+zero-short : (b : Bool) → length (zero_text b) ≤ 5
+zero-short true = omega arith
+zero-short false = omega arith
+
 -- whatever short text is in front
 pub links_open : (line front rest : List ℕ) → IsOpen line → length front ≤ 13 → line ≡ front ++ rest → (may : Liberties)
-    (links : List MarkedLevel) → ¬ SpellsLinks rest may links
+    (links : MarkedLinks) → ¬ SpellsLinks rest may links
 links_open line front rest (inl ends) few is may links h =
-    let text : line ≡ (front ++ (h.word ++ links_text links)) ++ 10 ∷ [] =
-    is ∙ ap (λ (x : List ℕ). front ++ x) (h.are_bytes ∙ sym (append_assoc h.word (links_text links) (10 ∷ [])))
-    ∙ sym (append_assoc front (h.word ++ links_text links) (10 ∷ [])) in
+    let levels : List ℕ = links_text links.levels in
+    let both : List ℕ = zero_text links.zero ++ levels in
+    let text : line ≡ (front ++ (h.word ++ both)) ++ 10 ∷ [] =
+    is ∙ ap (λ (x : List ℕ). front ++ x) (h.are_bytes
+    ∙ ap (λ (x : List ℕ). h.word ++ x) (sym (append_assoc (zero_text links.zero) levels (10 ∷ [])))
+    ∙ sym (append_assoc h.word both (10 ∷ [])))
+    ∙ sym (append_assoc front (h.word ++ both) (10 ∷ [])) in
     let lf : ends_with_byte 10 line ≡ true =
-    rw text (ends_with_byte-line (front ++ (h.word ++ links_text links))) in
+    rw text (ends_with_byte-line (front ++ (h.word ++ both))) in
     absurd cc
 links_open line front rest (inr long) few is may links h =
     let size = ap (λ (x : List ℕ). length x) is in
@@ -351,19 +437,21 @@ links_open line front rest (inr long) few is may links h =
       more,
       few,
       word-short h.word may h.spells,
-      links-short links,
+      zero-short links.zero,
+      links-short links.levels,
       h.so_many.1,
       length-append front rest,
       length-append h.word (tail links),
-      length-append (links_text links) (10 ∷ []),
+      length-append (zero_text links.zero) (levels_tail links.levels),
+      length-append (links_text links.levels) (10 ∷ []),
     )
 
-marked_open : (line : List ℕ) → IsOpen line → (width : Width) (may : Liberties) (links : List MarkedLevel)
+marked_open : (line : List ℕ) → IsOpen line → (width : Width) (may : Liberties) (links : MarkedLinks)
     → ¬ SpellsMarked line width may links
 marked_open line is width may links (rest, is_line, h) =
     links_open line (fourth_front width) rest is (front-short width) is_line may links h
 
 -- so a line that is open names none
 pub open_marked : (allow : Liberties) (line : List ℕ) → IsOpen line → (width : Width) (may : Liberties)
-    (links : List MarkedLevel) → ¬ NamesMarked allow line width may links
+    (links : MarkedLinks) → ¬ NamesMarked allow line width may links
 open_marked allow line is width may links (own, named, same) = marked_open line is width own links named

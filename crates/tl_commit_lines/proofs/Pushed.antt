@@ -6,6 +6,7 @@ use Rattle.tl_beat.specs.declared.beat.Link.{Link}
 use Rattle.tl_beat.specs.declared.fault.LineFault.{LineFault}
 use Rattle.tl_commits.specs.declared.judge.CommitJudge.{CommitJudge}
 use Rattle.tl_commits.specs.declared.rule.CommitBreach.{CommitBreach}
+use Rattle.tl_commits.specs.statement.Completeness.{Completeness}
 use Rattle.tl_commits.specs.statement.Breaches.{broken_event}
 use Rattle.tl_commits.specs.statement.Events.{Events, beats_of}
 use Rattle.tl_commits.specs.statement.Knows.{IsEvent, KnowsCommits}
@@ -25,11 +26,10 @@ use Rattle.tl_params.specs.declared.rule.Rule.{Rule}
 use Rattle.tl_rules.specs.statement.Conformance.{Trace}
 use Rattle.tl_rules.specs.statement.Liberties.{broken_on_link_under}
 use Rattle.tl_commit_lines.specs.code.EventWatching.{JudgesEvent, KnowsEvents, WatchesEvent}
-use Rattle.tl_commit_lines.specs.declared.header.MarkedLevel.{MarkedLevel}
 use Rattle.tl_commit_lines.specs.declared.judge.EventJudge.{EventJudge}
 use Rattle.tl_commit_lines.specs.declared.judge.EventJudge.TheVariants.{OfAll, OfLinks}
 use Rattle.tl_commit_lines.specs.statement.JudgedEvents.{fault_of_commits}
-use Rattle.tl_commit_lines.specs.statement.MarkedHeader.{complete_of, levels_of}
+use Rattle.tl_commit_lines.specs.statement.MarkedHeader.{MarkedLinks, complete_of, levels_of}
 
 -- a commit that a line spells has a valid piece
 pub event-valid : {w : ℕ} (line : List ℕ) (link : Link) (x : Event w) → SpellsEvent line link x → IsEvent x
@@ -37,7 +37,7 @@ event-valid line link (event.Beat x) spells = tt
 event-valid line link (event.Commit x) spells = spells.is_commit
 
 -- a monitor that has judged no beat knows no event
-pub begun : {w : ℕ} (m : Monitor w) (levels : List Level) (links : List MarkedLevel) (may : Liberties)
+pub begun : {w : ℕ} (m : Monitor w) (levels : List Level) (links : MarkedLinks) (may : Liberties)
     → levels ≡ levels_of links → KnowsUnder m levels may [] false → KnowsEvents false (OfLinks m) links may []
 unfolding beats_of
 begun m levels links may is known = subst (λ (l : List Level). KnowsUnder m l may [] false) is known
@@ -45,13 +45,13 @@ begun m levels links may is known = subst (λ (l : List Level). KnowsUnder m l m
 module _ {w : ℕ} (link : Link) where
   -- what is said of the event wherever the judge has these events
   abbrev Says : EventJudge w → EventJudge w → Event w → Option Fault → Type 0
-  Says old new x found = (together : Bool) (links : List MarkedLevel) (may : Liberties) (e : Events w)
+  Says old new x found = (together : Bool) (links : MarkedLinks) (may : Liberties) (e : Events w)
       → KnowsEvents together old links may e → JudgesEvent together new links may e link x found
 
   -- ---- all links together
 
-  abbrev Above : CommitJudge w → (List Level → List Bool → Liberties → Events w → Type 0) → Type 0
-  Above j So = (levels : List Level) (complete : List Bool) (l : Liberties) (e : Events w)
+  abbrev Above : CommitJudge w → (List Level → Completeness → Liberties → Events w → Type 0) → Type 0
+  Above j So = (levels : List Level) (complete : Completeness) (l : Liberties) (e : Events w)
       → KnowsCommits j levels complete l e → So levels complete l e
 
   pub all-good : (old new : CommitJudge w) (x : Event w)

@@ -1,14 +1,13 @@
 //! Reads the header of a trace with commits.
 
-ghost use Rattle.std.specs.Prelude.{◌≡◌, List, IfSome};
+ghost use Rattle.std.specs.Prelude.{◌≡◌, IfSome};
 ghost use Rattle.tl_params.specs.code.HeaderReading.{Gives, GivesAll};
 ghost use Rattle.tl_params.specs.declared.liberties.Liberties.{Liberties};
 ghost use Rattle.tl_params.specs.declared.width.Width.{Width};
 ghost use Rattle.tl_commit_lines.specs.code.HeadReading.{ReadsMarked, links_at, marked_at};
 ghost use Rattle.tl_commit_lines.specs.code.HeadReading as code;
-ghost use Rattle.tl_commit_lines.specs.declared.header.MarkedLevel.{MarkedLevel};
-ghost use Rattle.tl_commit_lines.specs.statement.MarkedHeader.{AreMarked, IsMarkedHeader, SpellsLinks, SpellsMarked};
-ghost use Rattle.tl_commit_lines.specs.statement.MarkedHeader.{some_marked};
+ghost use Rattle.tl_commit_lines.specs.statement.MarkedHeader.{AreMarked, IsMarkedHeader, MarkedLinks, SpellsLinks};
+ghost use Rattle.tl_commit_lines.specs.statement.MarkedHeader.{SpellsMarked, links_in, links_read, some_marked};
 
 use arrayvec::ArrayVec;
 use tl_command::liberties::front_liberties;
@@ -26,11 +25,13 @@ pub struct MarkedLevel {
     pub complete: bool,
 }
 
-/// The header of a trace with commits: the bytes of a beat, the liberties of the links, and the links from link 0 on.
+/// The header of a trace with commits: the bytes of a beat, the liberties of the links, whether memory was zero before
+/// the trace, and the links from link 0 on.
 #[derive(Drop)]
 pub struct CommitHeader {
     pub width: Width,
     pub may: Liberties,
+    pub zero: bool,
     pub links: ArrayVec<MarkedLevel, MOST_CLIENTS>,
 }
 
@@ -87,33 +88,58 @@ fn some_marked(links: &[MarkedLevel]) -> bool
     links.iter().any(|link| link.complete)
 }
 
-/// The liberties and the links at the end of a header of a trace with commits: `LIBERTIES LEVELS..`, of which at least one
-/// level is `C+`, and an LF.
-pub fn read_marked_links(bytes: &[u8]) -> Option<(Liberties, ArrayVec<MarkedLevel, MOST_CLIENTS>)>
+/// Whether the word `zero` is at the front, after a space, and the rest.
+fn front_zero(bytes: &[u8]) -> (bool, &[u8])
+    ensures { (result.0, result.1.now) ≡ code.zero_at bytes.now }
+{
+    match bytes.strip_prefix(b" zero") {
+        Some(rest) => (true, rest),
+        None => (false, bytes),
+    }
+}
+
+/// Whether these are links of a trace with commits: there are some, and memory was zero before it or one has the mark.
+fn is_named(zero: bool, links: &[MarkedLevel]) -> bool
+    ensures { result ≡ code.is_named (record { zero = zero; levels = links.now }) }
+{
+    !links.is_empty() && (zero || some_marked(links))
+}
+
+/// The end of a header of a trace with commits, `LIBERTIES LEVELS..` and an LF: the liberties, whether the word `zero`
+/// is between them and the levels, and the links. It has the word, or at least one level is `C+`.
+pub fn read_marked_links(
+    bytes: &[u8],
+) -> Option<(Liberties, bool, ArrayVec<MarkedLevel, MOST_CLIENTS>)>
     // What is read is spelled by the bytes, and whatever they spell is read.
-    ensures spelled { IfSome result (λ named. SpellsLinks bytes.now named.0 named.1.items) }
-    ensures every_spelling { (may : Liberties) (links : List MarkedLevel) → SpellsLinks bytes.now may links →
+    ensures spelled { IfSome result (λ named. SpellsLinks bytes.now named.0 (links_read named.1 named.2)) }
+    ensures every_spelling { (may : Liberties) (links : MarkedLinks) → SpellsLinks bytes.now may links →
         AreMarked result may links }
 {
     let (may, rest) = front_liberties(bytes)?;
+    let (zero, rest) = front_zero(rest);
     let links = links(rest)?;
-    if !some_marked(links.as_slice()) {
+    if !is_named(zero, links.as_slice()) {
         return None;
     }
-    Some((may, links))
+    Some((may, zero, links))
 }
 
-/// Reads the first line of a trace with commits, with its LF: `tltrace 4 W LIBERTIES LEVELS..`, of which at least one
-/// level is `C+`. A line of another form is no such header.
+/// Reads the first line of a trace with commits, with its LF: `tltrace 4 W LIBERTIES LEVELS..` with the word `zero`
+/// before the levels, or at least one level `C+`. A line of another form is no such header.
 pub fn read_marked(line: &[u8]) -> Option<CommitHeader>
     // The line spells the header that is read, and each header that a line spells is read.
-    ensures spelled { IfSome result (λ header. SpellsMarked line.now header.width header.may header.links.items) }
-    ensures every_spelling { (width : Width) (may : Liberties) (links : List MarkedLevel) →
+    ensures spelled { IfSome result (λ header. SpellsMarked line.now header.width header.may (links_in header)) }
+    ensures every_spelling { (width : Width) (may : Liberties) (links : MarkedLinks) →
         SpellsMarked line.now width may links → IsMarkedHeader result width may links }
 {
     let (width, rest) = front(line)?;
-    let (may, links) = read_marked_links(rest)?;
-    Some(CommitHeader { width, may, links })
+    let (may, zero, links) = read_marked_links(rest)?;
+    Some(CommitHeader {
+        width,
+        may,
+        zero,
+        links,
+    })
 }
 
 /// Reads the header of a trace with commits. Its links have the liberties that it names and those of `allow`.

@@ -1,14 +1,13 @@
 //! Judges the events of a trace in turn.
 
-ghost use Rattle.std.specs.Prelude.{◌≡◌, Bool, List, [], IfOk, map};
+ghost use Rattle.std.specs.Prelude.{◌≡◌, Bool, [], IfOk, map};
 ghost use Rattle.tl_beat.specs.statement.Width.{IsWidth};
 ghost use Rattle.tl_commits.specs.statement.Events.{Events};
 ghost use Rattle.tl_commits.specs.statement.Knows.{IsEvent};
 ghost use Rattle.tl_params.specs.declared.liberties.Liberties.{Liberties};
 ghost use Rattle.tl_commit_lines.specs.code.EventWatching.{JudgesEvent, KnowsEvents, WatchesEvent};
-ghost use Rattle.tl_commit_lines.specs.declared.header.MarkedLevel.{MarkedLevel};
 ghost use Rattle.tl_commit_lines.specs.statement.JudgedEvents.{fault_of_commits};
-ghost use Rattle.tl_commit_lines.specs.statement.MarkedHeader.{complete_of, levels_of};
+ghost use Rattle.tl_commit_lines.specs.statement.MarkedHeader.{MarkedLinks, links_in};
 
 use crate::header::{CommitHeader, MarkedLevel};
 use std::alloc::{AllocError, Global};
@@ -32,7 +31,7 @@ pub enum EventJudge<const W: usize> {
 
 /// The levels of links. The error means that there is no memory left.
 pub fn levels_of(alloc: Global, links: &[MarkedLevel]) -> Result<Vec<Level>, AllocError>
-    ensures { IfOk result (λ levels. levels.items ≡ levels_of links.now) }
+    ensures { IfOk result (λ levels. levels.items ≡ map (λ x. x.level) links.now) }
 {
     let mut levels = Vec::new(alloc);
     for link in links {
@@ -43,7 +42,7 @@ pub fn levels_of(alloc: Global, links: &[MarkedLevel]) -> Result<Vec<Level>, All
 
 /// Of which links all stores are in the trace.
 pub fn complete_of(alloc: Global, links: &[MarkedLevel]) -> Result<Vec<bool>, AllocError>
-    ensures { IfOk result (λ complete. complete.items ≡ complete_of links.now) }
+    ensures { IfOk result (λ complete. complete.items ≡ map (λ x. x.complete) links.now) }
 {
     let mut complete = Vec::new(alloc);
     for link in links {
@@ -66,7 +65,7 @@ impl<const W: usize> EventJudge<W> {
     /// A judge of the links that a header names, which has seen no event. The error means that there is no memory left.
     pub fn new(alloc: Global, together: bool, header: &CommitHeader) -> Result<Self, AllocError>
         requires { IsWidth W }
-        ensures { IfOk result (λ judge. KnowsEvents together judge header.now.links.items header.now.may []) }
+        ensures { IfOk result (λ judge. KnowsEvents together judge (links_in header.now) header.now.may []) }
     {
         let levels = levels_of(alloc, header.links.as_slice())?;
         if !together {
@@ -80,6 +79,7 @@ impl<const W: usize> EventJudge<W> {
             alloc,
             levels.as_slice(),
             complete.as_slice(),
+            header.zero,
             header.may,
         );
         let Ok(judge) = judge else {
@@ -93,7 +93,7 @@ impl<const W: usize> EventJudge<W> {
     pub fn push(&mut self, link: Link, event: &Event<W>) -> Result<Option<Fault>, AllocError>
         requires width { IsWidth W }
         requires event { IsEvent event.now }
-        ensures { IfOk result (λ fault. (together : Bool) (links : List MarkedLevel) (may : Liberties) (e : Events W) →
+        ensures { IfOk result (λ fault. (together : Bool) (links : MarkedLinks) (may : Liberties) (e : Events W) →
             KnowsEvents together self.old links may e →
             JudgesEvent together self.new links may e link event.now fault) }
     {

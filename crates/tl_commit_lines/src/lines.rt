@@ -28,7 +28,7 @@ pub enum EventLinks {
 }
 
 /// Judges the lines of a trace: the header, and then the beats of up to 16 links, with the commits of their cores if the
-/// header names a link of level C+.
+/// header names a link of level C+ or says that memory was zero.
 #[derive(Drop)]
 pub struct EventLines {
     alloc: Global,

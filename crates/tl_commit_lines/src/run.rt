@@ -14,10 +14,10 @@ use tl_params::liberties::Liberties;
 /// Judges a recorded trace, each link by itself or all together: reads the input to its end or to the first line at
 /// fault, and writes `clean N`, `coherent N` for links judged together, or `line N X`.
 ///
-/// If the header names a link of level C+, stores and loads of cores may be between the beats, and N counts them too.
-/// With links judged together each is judged in its place, and its fault may be L1 or M5 to M7. With each link by itself
-/// only their lines are. After another header the text is that of `tl_wide_lines::run::run_trace`. The status and the
-/// errors are those of `tl_engine::tool::run_tool`.
+/// If the header names a link of level C+ or says that memory was zero, stores and loads of cores may be between the
+/// beats, and N counts them too. With links judged together each is judged in its place, and its fault may be L1 or M5
+/// to M7. With each link by itself only their lines are. After another header the text is that of
+/// `tl_wide_lines::run::run_trace`. The status and the errors are those of `tl_engine::tool::run_tool`.
 pub fn run_events<R: Read, W: Write>(
     alloc: Global,
     together: bool,

@@ -15,6 +15,7 @@ use Rattle.tl_rules.specs.statement.Admission.{is_spoiled, lanes_of}
 use Rattle.tl_rules.specs.statement.Conformance.{answers}
 use Rattle.tl_bytes.specs.statement.Bytes.{each_from, is_get}
 use Rattle.tl_bytes.specs.statement.Early.{outruns}
+use Rattle.tl_commits.specs.statement.Completeness.{Completeness}
 unfoldable use Rattle.tl_commits.specs.statement.True.{before_last_seen, may_read_seen}
 use Rattle.tl_events.specs.declared.commit.Event.TheVariants as event
 use Rattle.tl_commits.specs.statement.True.{found_after_seen, is_true_read_seen, is_true_seen, reads_truly_seen}
@@ -23,6 +24,7 @@ use Rattle.tl_one_memory.specs.statement.Run.{IsBrought, place_in, returns, spoi
 use Rattle.tl_commit_memory.proofs.Granted.{granted}
 use Rattle.tl_commit_memory.proofs.Read.{IsFoundBefore, are-begun_read, are-read, read-next}
 use Rattle.tl_commit_memory.proofs.Traces.{beats-are}
+use Rattle.tl_commit_memory.specs.statement.CommitRun.{StartsAs}
 unfoldable use Rattle.tl_commit_memory.specs.statement.TrueEvents.{AreTrueEvents}
 use Rattle.tl_commit_memory.specs.statement.TrueEvents.{IsTrueEvent, TrueCommitRuns}
 
@@ -69,7 +71,8 @@ answered-reads OpA.ArithmeticData e = refl
 answered-reads OpA.LogicalData e = refl
 answered-reads v e = absurd cc
 
-module _ {w : ℕ} (complete : List Bool) (n : ℕ) (first : Memory) (link : Link) (z : BeatD w) (steps : CommitRun w)
+module _ {w : ℕ} (complete : Completeness) (n : ℕ) (first : Memory) (starts : StartsAs complete.zero first)
+    (link : Link) (z : BeatD w) (steps : CommitRun w)
     (taken : IsTaken n first link (Beat.D z) (run_in steps)) (is : IsCommitRun n first steps) where
   abbrev run : Run w
   run = run_in steps
@@ -92,9 +95,10 @@ module _ {w : ℕ} (complete : List Bool) (n : ℕ) (first : Memory) (link : Lin
   read-byte p answer no_ack granted late sound admitted pending address v reached at j in_lane lane =
       elim (cases_Bool (is_get p.request.opcode)) [
         | inl get ↦ rw get (ap (may_read_seen complete n p (events_in steps) address) (sym value)
-            ∙ are-read complete n first steps is link.0 z.source p address here.byte here.found_is pending back reached)
-        | inr other ↦ rw other (before_it (read-next complete n first link z p steps taken is
-            (are-begun_read complete n first steps is) no_ack granted late pending other back address reached))
+            ∙ are-read complete n first starts steps is link.0 z.source p address here.byte here.found_is pending back
+            reached)
+        | inr other ↦ rw other (before_it (read-next complete n first starts link z p steps taken is
+            (are-begun_read complete n first starts steps is) no_ack granted late pending other back address reached))
       ]
     where
       back : returns p.request.opcode ≡ true
@@ -113,7 +117,7 @@ module _ {w : ℕ} (complete : List Bool) (n : ℕ) (first : Memory) (link : Lin
           carried (inl spoilt) = absurd (let no : true ≡ false =
               sym spoilt ∙ rw (eq-eqb (place_in p address / w) (length older) at) sound in cc)
 
-      before_it : IsFoundBefore complete n first link.0 z.source p (length older) steps address
+      before_it : IsFoundBefore complete n first starts link.0 z.source p (length older) steps address
           → may_read_seen complete n p (before_last_seen link.0 (length older) (events_in steps)) address v ≡ true
       before_it began =
           ap (may_read_seen complete n p (before_last_seen link.0 (length older) (events_in steps)) address)
@@ -187,32 +191,36 @@ module _ {w : ℕ} (complete : List Bool) (n : ℕ) (first : Memory) (link : Lin
           subst IsRead (sym (beats-are steps)) (reads e granted (rw (sound, granted) refl))
 
   true-response : (o : OpD) → z.opcode ≡ o → is_true_seen complete o n link.0 z (events_in steps) ≡ true
-  true-response OpD.GrantData e = granted complete n first link z steps taken is e
+  true-response OpD.GrantData e = granted complete n first starts link z steps taken is e
   true-response OpD.AccessAckData e = read e
   true-response v e = refl
 
 -- ---- all that is taken
 
-true-beat : {w : ℕ} (complete : List Bool) (n : ℕ) (first : Memory) (link : Link) (x : Beat w) (steps : CommitRun w)
+true-beat : {w : ℕ} (complete : Completeness) (n : ℕ) (first : Memory) (starts : StartsAs complete.zero first)
+    (link : Link) (x : Beat w) (steps : CommitRun w)
     → IsTaken n first link x (run_in steps) → IsCommitRun n first steps
     → IsTrueEvent complete n link.0 (event.Beat x) (events_in steps)
-true-beat complete n first link (Beat.D z) steps taken is =
-    true-response complete n first link z steps taken is z.opcode refl
-true-beat complete n first link (Beat.A z) steps taken is = tt
-true-beat complete n first link (Beat.B z) steps taken is = tt
-true-beat complete n first link (Beat.C z) steps taken is = tt
-true-beat complete n first link (Beat.E z) steps taken is = tt
+true-beat complete n first starts link (Beat.D z) steps taken is =
+    true-response complete n first starts link z steps taken is z.opcode refl
+true-beat complete n first starts link (Beat.A z) steps taken is = tt
+true-beat complete n first starts link (Beat.B z) steps taken is = tt
+true-beat complete n first starts link (Beat.C z) steps taken is = tt
+true-beat complete n first starts link (Beat.E z) steps taken is = tt
 
-are-true : {w : ℕ} (complete : List Bool) (n : ℕ) (first : Memory) (steps : CommitRun w) → IsCommitRun n first steps
+are-true : {w : ℕ} (complete : Completeness) (n : ℕ) (first : Memory) (starts : StartsAs complete.zero first)
+    (steps : CommitRun w) → IsCommitRun n first steps
     → AreTrueEvents complete n (events_in steps)
 unfolding IsCommitRun AreTrueEvents events_in run_in
-are-true complete n first [] is = tt
-are-true complete n first (Happened (Takes link x) ∷ steps) is =
-    (true-beat complete n first link x steps is.0 is.1, are-true complete n first steps is.1)
-are-true complete n first (Happened (Performs d i test left) ∷ steps) is = are-true complete n first steps is.1
-are-true complete n first (Happened (Stores block bytes) ∷ steps) is = are-true complete n first steps is.1
-are-true complete n first (Happened (Leaves d i bytes) ∷ steps) is = are-true complete n first steps is.1
-are-true complete n first (Committed link x ∷ steps) is = (tt, are-true complete n first steps is.1)
+are-true complete n first starts [] is = tt
+are-true complete n first starts (Happened (Takes link x) ∷ steps) is =
+    (true-beat complete n first starts link x steps is.0 is.1, are-true complete n first starts steps is.1)
+are-true complete n first starts (Happened (Performs d i test left) ∷ steps) is =
+    are-true complete n first starts steps is.1
+are-true complete n first starts (Happened (Stores block bytes) ∷ steps) is =
+    are-true complete n first starts steps is.1
+are-true complete n first starts (Happened (Leaves d i bytes) ∷ steps) is = are-true complete n first starts steps is.1
+are-true complete n first starts (Committed link x ∷ steps) is = (tt, are-true complete n first starts steps is.1)
 
 pub true_commit_runs : {w : ℕ} → TrueCommitRuns w
-true_commit_runs complete n first steps is = are-true complete n first steps is
+true_commit_runs complete n first steps starts is = are-true complete n first starts steps is

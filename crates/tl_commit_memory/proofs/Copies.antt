@@ -4,7 +4,7 @@ use Rattle.tl_commit_memory.proofs.Imports.{Leaves, Link, Memory, Perm, Performs
 use Rattle.tl_commit_memory.proofs.Imports.{block_at}
 use Rattle.tl_commit_memory.proofs.Imports.{events_in, is_free, memory_in, on_link, reaches, run_in}
 use Rattle.tl_commit_memory.proofs.Imports.{trace_in, unfinished}
-use Rattle.std.proofs.Common.{◌≡◌, ℕ, zero, suc, ◌+◌, ◌*◌, ◌/◌, ◌^◌, ◌<◌, Bool, true, false, not, ◌&&◌, List, []}
+use Rattle.std.proofs.Common.{◌≡◌, ℕ, zero, suc, ◌+◌, ◌*◌, ◌/◌, ◌^◌, ◌<◌, Bool, true, false, not, ◌&&◌, []}
 use Rattle.std.proofs.Common.{◌∷◌, ◌⊎◌, inl, inr, refl, sym, ap, ◌∙◌, arith, length, subst}
 use Rattle.std.specs.Prelude.{if◌then◌else◌, is_some, ◌||◌, nat_le, nat_lt, None, Option, Some, ⊤}
 use Rattle.std.proofs.lemmas.Nat.{pow_pos}
@@ -20,13 +20,15 @@ use Rattle.tl_bytes.specs.statement.Free.{may_hold}
 use Rattle.tl_rules.specs.statement.Conformance.{same_perm}
 use Rattle.tl_events.specs.declared.commit.Commit.TheVariants as commit
 use Rattle.tl_events.specs.declared.commit.Piece.{Piece}
+use Rattle.tl_commits.specs.statement.Completeness.{Completeness, is_complete}
 use Rattle.tl_commits.specs.statement.Commits.{broken_load, broken_report, gives, gives_truly, is_kept}
 use Rattle.tl_commits.specs.statement.Commits.{is_loadable, is_piece_loadable, keeps_stores, may_bring, takes_trunk}
 use Rattle.tl_commits.specs.statement.Events.{at_some, is_loading}
 unfoldable use Rattle.tl_commits.specs.statement.Events.{since_begun}
-use Rattle.tl_commits.specs.statement.Copies.{brought, holds, is_complete, is_known, link_beats, may_load}
+use Rattle.tl_commits.specs.statement.Copies.{brought, holds, is_known, link_beats, may_load}
 use Rattle.tl_commits.specs.statement.Seen.{byte_in, values_seen}
 use Rattle.tl_one_memory.specs.statement.Run.{OneOf}
+use Rattle.tl_commit_memory.specs.statement.CommitRun.{StartsAs}
 use Rattle.tl_commit_memory.specs.statement.KeptCopies.{CopyHas, GivesCopy, GivesUp, HasByte, HasBytes, IsKnownByte}
 use Rattle.tl_commit_memory.specs.statement.KeptCopies.{KeptCopies}
 use Rattle.tl_commit_memory.specs.statement.KeptCopies.{ReportsRightly}
@@ -55,11 +57,12 @@ within-piece piece i lt = and_from (nat_le piece.address (piece.address + i))
     (lt-ltb (piece.address + i) (piece.address + 2 ^ piece.size) (omega (arith, lt)))
 
 -- a load may bring the byte that a value has at a place of the piece
-abbrev brings_at : {w : ℕ} → List Bool → ℕ → ℕ → Piece → ℕ → ℕ → Events w → Bool
+abbrev brings_at : {w : ℕ} → Completeness → ℕ → ℕ → Piece → ℕ → ℕ → Events w → Bool
 brings_at complete n link piece value i e =
     may_bring complete n link (piece.address + i) (byte_in piece value (piece.address + i)) e
 
-module _ {w : ℕ} (complete : List Bool) (n : ℕ) (first : Memory) (steps : CommitRun w) (is : IsCommitRun n first steps)
+module _ {w : ℕ} (complete : Completeness) (n : ℕ) (first : Memory) (starts : StartsAs complete.zero first)
+    (steps : CommitRun w) (is : IsCommitRun n first steps)
     (copies : AreCopies complete n first steps) where
   -- a byte of a copy is one of its possible values
   told-byte : (link address v : ℕ) → link < n
@@ -67,7 +70,7 @@ module _ {w : ℕ} (complete : List Bool) (n : ℕ) (first : Memory) (steps : Co
       → memory_in first (run_in steps) address ≡ v → IsRecorded n first address steps
       → told_as v (values_seen complete n address (events_in steps)) ≡ true
   told-byte link address v below held same recorded = told-so v (values_seen complete n address (events_in steps))
-      (rw same at (held-told complete n first address steps is copies
+      (rw same at (held-told complete n first starts address steps is copies
       (not-free n link (block_at address) (trace_in (run_in steps)) below
       (not-true (same_perm (may_hold (block_at address) (on_link link (trace_in (run_in steps)))) Perm.None)
       (subst (λ (t : Trace w). holds (block_at address) (on_link link t) ≡ true) (beats-are steps) held))) recorded))
@@ -150,7 +153,8 @@ module _ {w : ℕ} (complete : List Bool) (n : ℕ) (first : Memory) (steps : Co
       → tells block x (on_link link.0 (trace_in (run_in steps))) ≡ false
       → is_free n Perm.Branch block ((link, x) ∷ trace_in (run_in steps)) ≡ true → (place : ℕ) → place < 64
       → is_kept complete n (64 * block + place) (events_in steps) ≡ true
-  kept-clean link x taken block untold free place lt = rw (unstored complete n first (64 * block + place) steps is
+  kept-clean link x taken block untold free place lt =
+      rw (unstored complete n first starts (64 * block + place) steps is
       (clean-given n first (64 * block + place) link x steps taken (is-run n first steps is)
       (subst (λ (b : ℕ). is_free n Perm.Branch b ((link, x) ∷ trace_in (run_in steps)) ≡ true) (sym here) free)
       (subst (λ (b : ℕ). tells b x (on_link link.0 (trace_in (run_in steps))) ≡ false) (sym here) untold))) refl
@@ -202,7 +206,7 @@ none-held : (w link address : ℕ) → may_load {w = w} address (link_beats link
 unfolding beats_of on_link unfinished held_under
 none-held w link address = refl
 
-none-brought : (w : ℕ) (complete : List Bool) (n link address v : ℕ)
+none-brought : (w : ℕ) (complete : Completeness) (n link address v : ℕ)
     → may_bring {w = w} complete n link address v [] ≡ false
 unfolding beats_of on_link unfinished held_under
 none-brought w complete n link address v = refl
@@ -215,7 +219,8 @@ none-loadable w link piece = go (2 ^ piece.size) (pow_pos piece.size)
     go zero pos = absurd (omega (arith, pos))
     go (suc k) pos = rw (none-held w link (piece.address + k)) refl
 
-module _ {w : ℕ} (complete : List Bool) (n : ℕ) (first : Memory) (link : ℕ) (piece : Piece) (value : ℕ)
+module _ {w : ℕ} (complete : Completeness) (n : ℕ) (first : Memory) (starts : StartsAs complete.zero first) (link : ℕ)
+    (piece : Piece) (value : ℕ)
     (test : Events w → Bool) (none : test [] ≡ false) where
   since-now : (e : Events w) → test e ≡ true → since_begun test link piece e ≡ true
   unfolding since_begun
@@ -261,40 +266,42 @@ module _ {w : ℕ} (complete : List Bool) (n : ℕ) (first : Memory) (link : ℕ
     | inr had ↦ or_right _ _ (and_from _ _ had.0 (had-since steps is copies passes had.1))
   ]
 
-load-kept : {w : ℕ} (complete : List Bool) (n : ℕ) (first : Memory) (steps : CommitRun w) → IsCommitRun n first steps
+load-kept : {w : ℕ} (complete : Completeness) (n : ℕ) (first : Memory) (starts : StartsAs complete.zero first)
+    (steps : CommitRun w) → IsCommitRun n first steps
     → AreCopies complete n first steps → (link : ℕ) (piece : Piece) (value : ℕ)
     → HasBytes complete n first link piece value steps
     ⊎ ((is_loading link piece (events_in steps) ≡ true) × HadBytes complete n first link piece value steps)
     → broken_load complete n link piece value (events_in steps) ≡ None
-load-kept {w} complete n first steps is copies link piece value used = rw (
-  had-some complete n first link piece value (is_piece_loadable link piece) (none-loadable w link piece) steps is copies
-      (λ s i c has. loads-piece complete n first s i c link piece value has) used,
+load-kept {w} complete n first starts steps is copies link piece value used = rw (
+  had-some complete n first starts link piece value (is_piece_loadable link piece) (none-loadable w link piece) steps is
+      copies
+      (λ s i c has. loads-piece complete n first starts s i c link piece value has) used,
   each-below (2 ^ piece.size) (λ i. at_some (brings_at complete n link piece value i) link piece (events_in steps))
-      (λ i lt. had-some complete n first link piece value (brings_at complete n link piece value i)
+      (λ i lt. had-some complete n first starts link piece value (brings_at complete n link piece value i)
       (none-brought w complete n link (piece.address + i) (byte_in piece value (piece.address + i))) steps is copies
-      (λ s j c has. brings-piece complete n first s j c link piece value i lt has) used),
+      (λ s j c has. brings-piece complete n first starts s j c link piece value i lt has) used),
 ) refl
 
 -- ---- all events
 
 pub kept_copies : {w : ℕ} → KeptCopies w
 unfolding IsCommitRun AreCopies KeepCopies events_in run_in
-kept_copies complete n first [] is copies = tt
-kept_copies complete n first (Happened (Takes link x) ∷ steps) is copies = (
-  report-kept complete n first steps is.1 copies.2 link x is.0 copies.1,
-  kept_copies complete n first steps is.1 copies.2,
+kept_copies complete n first [] starts is copies = tt
+kept_copies complete n first (Happened (Takes link x) ∷ steps) starts is copies = (
+  report-kept complete n first starts steps is.1 copies.2 link x is.0 copies.1,
+  kept_copies complete n first steps starts is.1 copies.2,
 )
-kept_copies complete n first (Happened (Performs d i test left) ∷ steps) is copies =
-    kept_copies complete n first steps is.1 copies
-kept_copies complete n first (Happened (Stores block bytes) ∷ steps) is copies =
-    kept_copies complete n first steps is.1 copies
-kept_copies complete n first (Happened (Leaves d i bytes) ∷ steps) is copies =
-    kept_copies complete n first steps is.1 copies.1
-kept_copies complete n first (Committed link (commit.Store piece value) ∷ steps) is copies =
-    (rw copies.0 refl, kept_copies complete n first steps is.1 copies.1)
-kept_copies complete n first (Committed link (commit.Load piece value) ∷ steps) is copies = (
-  load-kept complete n first steps is.1 copies.1 link.0 piece value copies.0,
-  kept_copies complete n first steps is.1 copies.1,
+kept_copies complete n first (Happened (Performs d i test left) ∷ steps) starts is copies =
+    kept_copies complete n first steps starts is.1 copies
+kept_copies complete n first (Happened (Stores block bytes) ∷ steps) starts is copies =
+    kept_copies complete n first steps starts is.1 copies
+kept_copies complete n first (Happened (Leaves d i bytes) ∷ steps) starts is copies =
+    kept_copies complete n first steps starts is.1 copies.1
+kept_copies complete n first (Committed link (commit.Store piece value) ∷ steps) starts is copies =
+    (rw copies.0 refl, kept_copies complete n first steps starts is.1 copies.1)
+kept_copies complete n first (Committed link (commit.Load piece value) ∷ steps) starts is copies = (
+  load-kept complete n first starts steps is.1 copies.1 link.0 piece value copies.0,
+  kept_copies complete n first steps starts is.1 copies.1,
 )
-kept_copies complete n first (Committed link (commit.Begin piece) ∷ steps) is copies =
-    (refl, kept_copies complete n first steps is.1 copies.1)
+kept_copies complete n first (Committed link (commit.Begin piece) ∷ steps) starts is copies =
+    (refl, kept_copies complete n first steps starts is.1 copies.1)

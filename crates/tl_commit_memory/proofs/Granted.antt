@@ -16,11 +16,13 @@ use Rattle.tl_rules.specs.statement.{Admission.is_spoiled, Effect.bytes_from, Op
 use Rattle.tl_bytes.specs.statement.Early.{is_outrun, is_overtaken, outrun_accesses}
 use Rattle.tl_bytes.specs.statement.Bytes.{each_from, told_as, written_as}
 use Rattle.tl_bytes.proofs.Finding.{among-found, found-among}
+use Rattle.tl_commits.specs.statement.Completeness.{Completeness}
 use Rattle.tl_commits.specs.statement.True.{before_last_seen, grants_truly_seen, is_true_grant_seen, may_grant_seen}
 use Rattle.tl_one_memory.proofs.Covered.{AreWindowed, IsToldLate, IsWrittenNow}
 use Rattle.tl_one_memory.proofs.Known.{Answers, IsDone, clean-free, known}
 use Rattle.tl_one_memory.proofs.Outrun.{may-leave}
 use Rattle.tl_one_memory.specs.statement.Run.{IsGranted}
+use Rattle.tl_commit_memory.specs.statement.CommitRun.{StartsAs}
 use Rattle.tl_commit_memory.proofs.Traces.{beats-are, events-before, is-before, is-run, run-before, steps_before}
 use Rattle.tl_commit_memory.proofs.Values.{known-seen}
 
@@ -52,7 +54,8 @@ may-grant {w} n address v done Answering t windowed now =
     Writes x = (access_writes address x ≡ true) × (could_be v (pending_value x.request.opcode x address) ≡ true)
         × (0 < windows_since n (block_at address) x.asked t)
 
-module _ {w : ℕ} (complete : List Bool) (n : ℕ) (first : Memory) (steps : CommitRun w) (is : IsCommitRun n first steps)
+module _ {w : ℕ} (complete : Completeness) (n : ℕ) (first : Memory) (starts : StartsAs complete.zero first)
+    (steps : CommitRun w) (is : IsCommitRun n first steps)
   where
     abbrev run : Run w
     run = run_in steps
@@ -60,7 +63,7 @@ module _ {w : ℕ} (complete : List Bool) (n : ℕ) (first : Memory) (steps : Co
     granted-known : (address : ℕ) → IsClean n first address run
         → may_grant_seen complete n (events_in steps) address (memory_in first run address) ≡ true
     granted-known address clean = subst Granted (sym (beats-are steps)) (elim
-        (known-seen complete n first address steps is clean) [
+        (known-seen complete n first starts address steps is clean) [
           | inl told ↦ or_left _ _ (told-as n address v (IsDone first run address) (trace_in run) values told)
           | inr (inl now) ↦ or_right _ _ (or_left _ _ (may-grant n address v (IsDone first run address)
               (Answers first run) (trace_in run) (known n first address run (is-run n first steps is)).windowed now))
@@ -91,11 +94,12 @@ in-block : (block k w address : ℕ) → w * k + w ≤ 64 → 64 * block + w * k
     → address / 64 ≡ block
 in-block block k w address le from to = omega (arith, le, from, to)
 
-pub granted : {w : ℕ} (complete : List Bool) (n : ℕ) (first : Memory) (link : Link) (z : BeatD w) (steps : CommitRun w)
+pub granted : {w : ℕ} (complete : Completeness) (n : ℕ) (first : Memory) (starts : StartsAs complete.zero first)
+    (link : Link) (z : BeatD w) (steps : CommitRun w)
     → IsTaken n first link (Beat.D z) (run_in steps) → IsCommitRun n first steps → z.opcode ≡ OpD.GrantData
     → ((z.corrupt || z.denied) || is_true_grant_seen complete n link.0 z
     (open_request z.source (on_link link.0 (beats_of (events_in steps)))) (events_in steps)) ≡ true
-granted {w} complete n first link z steps taken is granting = judged (z.corrupt || z.denied) refl
+granted {w} complete n first starts link z steps taken is granting = judged (z.corrupt || z.denied) refl
   where
     e : Events w
     e = events_in steps
@@ -112,7 +116,7 @@ granted {w} complete n first link z steps taken is granting = judged (z.corrupt 
     sure sound asked t same f doubt =
         rw (grant.lanes_are, ← events-before link.0 (k t) steps, ← run-before link.0 (k t) steps)
         (each-of (may_grant_seen complete n (events_in (old (k t)))) (memory_in first (run_in (old (k t))))
-        (64 * asked.block + w * k t) w (λ address from to. granted-known complete n first (old (k t)) was address
+        (64 * asked.block + w * k t) w (λ address from to. granted-known complete n first starts (old (k t)) was address
         (clean-free n first address (run_in (old (k t))) (is-run n first (old (k t)) was)
         (ap (λ (b : ℕ). is_free n Perm.Branch b (trace_in (run_in (old (k t)))))
         (in-block asked.block (k t) w address grant.within from to) ∙ rw (run-before link.0 (k t) steps) grant.free))))

@@ -3,7 +3,7 @@ use Rattle.tl_commit_memory.proofs.Imports.{Beat, CommitRun, Committed, Happened
 use Rattle.tl_commit_memory.proofs.Imports.{IsRun, IsTaken, Leaves, Link, Memory, Perm, Performs, Run, Stores, Takes}
 use Rattle.tl_commit_memory.proofs.Imports.{Trace, access_writes, beats_of, block_at, effect}
 use Rattle.tl_commit_memory.proofs.Imports.{events_in, is_free, memory_in, on_link, reaches, run_in, seen, trace_in}
-use Rattle.std.proofs.Common.{◌≡◌, ℕ, Bool, true, false, ◌&&◌, List, [], ◌∷◌, inl, inr, refl, sym, ◌∙◌}
+use Rattle.std.proofs.Common.{◌≡◌, ℕ, Bool, true, false, ◌&&◌, [], ◌∷◌, inl, inr, refl, sym, ◌∙◌}
 use Rattle.std.proofs.Common.{zero, suc, ◌<◌, arith, length, subst}
 use Rattle.std.specs.Prelude.{if◌then◌else◌, find, None, Option, Some, ◌==◌, ⊤}
 use Rattle.std.proofs.lemmas.Bool.{cases_eq, eq-eqb}
@@ -14,15 +14,17 @@ use Rattle.tl_bytes.specs.statement.Free.{may_hold}
 use Rattle.tl_bytes.specs.statement.Bytes.{after_beat, tells}
 use Rattle.tl_bytes.specs.statement.Early.{Outrun, is_outrun_of, outrun_accesses}
 use Rattle.tl_events.specs.declared.commit.Commit.TheVariants as commit
+use Rattle.tl_commits.specs.statement.Completeness.{Completeness}
 use Rattle.tl_commits.specs.statement.Seen.{Seen, byte_in, loses_stores, says_byte, told_now}
 use Rattle.tl_one_memory.proofs.Known.{clean-free}
 use Rattle.tl_one_memory.proofs.Values.{after-unwritten}
 use Rattle.tl_one_memory.specs.statement.Run.{OneOf, TellsTrue, left_by, with_reached}
+use Rattle.tl_commit_memory.specs.statement.CommitRun.{StartsAs}
 use Rattle.tl_commit_memory.specs.statement.KeptCopies.{ShowsBlocks, stores_byte}
 unfoldable use Rattle.tl_commit_memory.specs.statement.KeptCopies.{AreCopies, IsRecorded}
 use Rattle.tl_commit_memory.proofs.MayBe.{MayBe, after-beat, after-settling}
 use Rattle.tl_commit_memory.proofs.Traces.{is-run}
-use Rattle.tl_commit_memory.proofs.Values.{loaded-now, taken-seen, unstored, with_seen_beat}
+use Rattle.tl_commit_memory.proofs.Values.{first-could, loaded-now, taken-seen, unstored, with_seen_beat}
 
 -- ---- a block that a link holds isn't free
 
@@ -131,7 +133,8 @@ performed-same {w} n first address d i test left run is held = rw is.pending (go
     go true e = unwritten is.access.spoiled (access_writes address is.access) refl
         (unwrites e (access_writes address is.access) refl)
 
-module _ {w : ℕ} (complete : List Bool) (n : ℕ) (first : Memory) (address : ℕ) where
+module _ {w : ℕ} (complete : Completeness) (n : ℕ) (first : Memory) (starts : StartsAs complete.zero first)
+    (address : ℕ) where
   abbrev byte : CommitRun w → Seen
   byte steps = seen complete n address (events_in steps)
 
@@ -145,7 +148,7 @@ module _ {w : ℕ} (complete : List Bool) (n : ℕ) (first : Memory) (address : 
       → IsHeldTold (Happened (Takes link x) ∷ steps)
   unfolding trace_in memory_in run_in
   taken-told link x steps taken is shows before held recorded =
-      subst (λ (s : Seen). MayBe v s.values) (sym (taken-seen complete n first address link x steps))
+      subst (λ (s : Seen). MayBe v s.values) (sym (taken-seen complete n first starts address link x steps))
       (go (tells (block_at address) x (on_link link.0 t)) refl)
     where
       t : Trace w
@@ -175,11 +178,11 @@ module _ {w : ℕ} (complete : List Bool) (n : ℕ) (first : Memory) (address : 
           never : (b : Bool) → b && false ≡ false
           never true = refl
           never false = refl
-      kept e true f = rw (unstored complete n first address steps is
+      kept e true f = rw (unstored complete n first starts address steps is
           (clean-given n first address link x steps taken runs (shows.lost (block_at address) f) e)) refl
 
       go : (b : Bool) → tells (block_at address) x (on_link link.0 t) ≡ b
-          → MayBe v (with_seen_beat n address link x t (byte steps)).values
+          → MayBe v (with_seen_beat complete.zero n address link x t (byte steps)).values
       go true e = rw e (inl (shown n first address link x steps taken runs recorded e))
       go false e = rw (e, kept e (loses_stores (block_at address) x (on_link link.0 t)) refl)
           (after-settling address v (link, x) t (after_beat n address link.0 x t (byte steps).values)
@@ -189,7 +192,7 @@ module _ {w : ℕ} (complete : List Bool) (n : ℕ) (first : Memory) (address : 
   pub held-told : (steps : CommitRun w) → IsCommitRun n first steps → AreCopies complete n first steps
       → IsHeldTold steps
   unfolding IsCommitRun AreCopies IsRecorded run_in events_in trace_in memory_in seen
-  held-told [] is copies held recorded = inl refl
+  held-told [] is copies held recorded = inl (first-could complete.zero first address starts)
   held-told (Happened (Takes link x) ∷ steps) is copies held recorded =
       taken-told link x steps is.0 is.1 copies.0 (held-told steps is.1 copies.2) held recorded
   held-told (Happened (Performs d i test left) ∷ steps) is copies held recorded =

@@ -272,6 +272,8 @@ module _ {w : ℕ} (n : ℕ) (first : Memory) (address : ℕ) (values : List Tel
 
   -- ---- nothing has happened yet
 
-  pub known-first : IsKnownBy {w = w} n first address [] (record { value = None; moment = 0 } ∷ values)
+  pub known-first : (value : Option ℕ) → could_be (first address) value ≡ true
+      → IsKnownBy {w = w} n first address [] (record { value = value; moment = 0 } ∷ values)
   unfolding trace_in memory_in pending_accesses
-  known-first clean = inl (inl (refl, λ c s p performed pending writes free one. absurd (none-some p pending)))
+  known-first value could clean =
+      inl (inl (could, λ c s p performed pending writes free one. absurd (none-some p pending)))

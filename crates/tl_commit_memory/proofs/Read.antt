@@ -17,6 +17,7 @@ use Rattle.tl_bytes.proofs.Finding.{among-found, found-among, found-passes}
 use Rattle.tl_bytes.proofs.Pending.{pending-before}
 use Rattle.tl_events.specs.declared.commit.Event.{Event}
 use Rattle.tl_events.specs.declared.commit.Event.TheVariants as event
+use Rattle.tl_commits.specs.statement.Completeness.{Completeness}
 use Rattle.tl_commits.specs.statement.Seen.{values_seen}
 unfoldable use Rattle.tl_commits.specs.statement.True.{before_last_seen, may_read_seen}
 use Rattle.tl_one_memory.proofs.Covered.{IsWrittenNow}
@@ -30,6 +31,7 @@ use Rattle.tl_one_memory.specs.statement.Run.{MayBeRead, returns}
 use Rattle.tl_beat.specs.declared.opcode.OpA.{OpA}
 use Rattle.tl_burst.specs.declared.message.MessageA.{MessageA}
 use Rattle.tl_bytes.specs.statement.Bytes.{writes}
+use Rattle.tl_commit_memory.specs.statement.CommitRun.{StartsAs}
 use Rattle.tl_commit_memory.proofs.Granted.{told-as}
 use Rattle.tl_commit_memory.proofs.Traces.{beats-are, is-run}
 use Rattle.tl_commit_memory.proofs.Values.{known-then}
@@ -38,7 +40,7 @@ unfoldable use Rattle.tl_commit_memory.proofs.Values.{to_beat}
 -- ---- what a pending access may bring
 
 -- all that may be so at the last beat, or that another writes now
-read-now : {w : ℕ} (complete : List Bool) (n c s : ℕ) (p : Access w) (e : Events w) (address v : ℕ)
+read-now : {w : ℕ} (complete : Completeness) (n c s : ℕ) (p : Access w) (e : Events w) (address v : ℕ)
     → IsPending c s p (beats_of e) → in-window n p address (beats_of e) ≡ true
     → (told_as v (values_seen complete n address (to_beat e)) ≡ true)
     ⊎ (may_write address v (others p (beats_of e)) (outrun_accesses (beats_of e)) ≡ true)
@@ -57,7 +59,7 @@ read-now complete n c s p ((link, event.Commit x) ∷ e) address v pending windo
     (or_right false _ (read-now complete n c s p e address v pending window is))
 
 -- and all that it could before
-read-more : {w : ℕ} (complete : List Bool) (n c s : ℕ) (p : Access w) (x : Link × Event w) (e : Events w)
+read-more : {w : ℕ} (complete : Completeness) (n c s : ℕ) (p : Access w) (x : Link × Event w) (e : Events w)
     (address v : ℕ) → IsPending c s p (beats_of e)
     → may_read_seen complete n p e address v ≡ true → may_read_seen complete n p (x ∷ e) address v ≡ true
 unfolding may_read_seen beats_of
@@ -92,7 +94,7 @@ written-by {w} n address v done Answering t link source now other =
 
 -- ---- what was found
 
-module _ {w : ℕ} (complete : List Bool) (n : ℕ) (first : Memory) where
+module _ {w : ℕ} (complete : Completeness) (n : ℕ) (first : Memory) (starts : StartsAs complete.zero first) where
   -- each access that was performed at an address and reads may bring what it found there
   abbrev AreRead : CommitRun w → Type 0
   AreRead steps = (c s : ℕ) (p : Access w) (address v : ℕ) → found_in first c s (run_in steps) address ≡ Some v
@@ -140,7 +142,7 @@ module _ {w : ℕ} (complete : List Bool) (n : ℕ) (first : Memory) where
           (ap (in-window n p address) (beats-are steps)
           ∙ performed-window n first c s p run address pending back reached may
           (λ writes. is.writes_free address passes (ap (λ (q : Access w). access_writes address q) this ∙ writes)))
-          (elim (known-then complete n first address steps runs (clean may)) [
+          (elim (known-then complete n first starts address steps runs (clean may)) [
             | inl told ↦ inl (told-as n address (memory_in first run address) (IsDone first run address) (trace_in run)
                 (values_seen complete n address (to_beat (events_in steps))) told)
             | inr by ↦ inr (ap (λ (t : Trace w). may_write address (memory_in first run address) (others p t)

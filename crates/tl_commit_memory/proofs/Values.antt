@@ -2,7 +2,7 @@
 -- stored to its copy since the byte was told.
 use Rattle.tl_commit_memory.proofs.Imports.{Beat, CommitRun, Committed, Events, Happened, IsClean, IsCommitRun}
 use Rattle.tl_commit_memory.proofs.Imports.{Leaves, Link, Memory, Performs, Run, Stores, Takes, Telling, Trace}
-use Rattle.tl_commit_memory.proofs.Imports.{beats_of}
+use Rattle.tl_commit_memory.proofs.Imports.{beats_of, could_be}
 use Rattle.tl_commit_memory.proofs.Imports.{block_at, carried_byte, events_in, memory_in, on_link, reaches}
 use Rattle.tl_commit_memory.proofs.Imports.{IsRun, run_in, seen, trace_in}
 use Rattle.std.proofs.Common.{◌≡◌, ℕ, Bool, true, false, not, ◌%◌, ◌&&◌, List, [], ◌∷◌, inl, inr, refl, sym, ap, ◌∙◌}
@@ -15,11 +15,12 @@ use Rattle.tl_events.specs.declared.commit.Commit.TheVariants as commit
 use Rattle.tl_events.specs.declared.commit.Event.{Event}
 use Rattle.tl_events.specs.declared.commit.Event.TheVariants as event
 use Rattle.tl_events.specs.declared.commit.Piece.{Piece}
+use Rattle.tl_commits.specs.statement.Completeness.{Completeness, first_value}
 use Rattle.tl_commits.specs.statement.Copies.{brought, is_known, link_beats}
 use Rattle.tl_commits.specs.statement.Events.{is_loading}
 use Rattle.tl_commits.specs.statement.Seen.{Seen, byte_in, loses_stores, memory_may, says_byte, told_now}
 use Rattle.tl_one_memory.proofs.Known.{Answers, IsDone}
-use Rattle.tl_commit_memory.specs.statement.CommitRun.{HasBrought, IsLoaded, stores_to}
+use Rattle.tl_commit_memory.specs.statement.CommitRun.{HasBrought, IsLoaded, StartsAs, stores_to}
 use Rattle.tl_commit_memory.proofs.Covered.{told-now}
 use Rattle.tl_commit_memory.proofs.Known.{IsKnownBy, IsRightBy, known-first, known-left, known-performed, known-stored}
 use Rattle.tl_commit_memory.proofs.Known.{known-taken, with_beat}
@@ -29,8 +30,8 @@ use Rattle.tl_commit_memory.proofs.Traces.{beats-are, is-run}
 -- ---- a beat
 
 -- a byte with one more beat, by the beats before it
-abbrev pub with_seen_beat : {w : ℕ} → ℕ → ℕ → Link → Beat w → Trace w → Seen → Seen
-with_seen_beat n address link x t before =
+abbrev pub with_seen_beat : {w : ℕ} → Bool → ℕ → ℕ → Link → Beat w → Trace w → Seen → Seen
+with_seen_beat zero n address link x t before =
     if tells (block_at address) x (on_link link.0 t)
     then record {
       values = record {
@@ -40,27 +41,27 @@ with_seen_beat n address link x t before =
       stored = false;
     }
     else if before.stored && loses_stores (block_at address) x (on_link link.0 t)
-    then record { values = memory_may n address t; stored = false }
+    then record { values = memory_may zero n address t; stored = false }
     else record {
       values = after_settling address (link, x) t (after_beat n address link.0 x t before.values);
       stored = before.stored;
     }
 
-module _ {w : ℕ} (n address : ℕ) (link : Link) (x : Beat w) (t : Trace w) (before : Seen)
+module _ {w : ℕ} (zero : Bool) (n address : ℕ) (link : Link) (x : Beat w) (t : Trace w) (before : Seen)
     (old : tells (block_at address) x (on_link link.0 t) ≡ false → before.stored ≡ false) where
-  beat-unstored : (with_seen_beat n address link x t before).stored ≡ false
+  beat-unstored : (with_seen_beat zero n address link x t before).stored ≡ false
   beat-unstored = go (tells (block_at address) x (on_link link.0 t)) refl
     where
       go : (b : Bool) → tells (block_at address) x (on_link link.0 t) ≡ b
-          → (with_seen_beat n address link x t before).stored ≡ false
+          → (with_seen_beat zero n address link x t before).stored ≡ false
       go true e = rw e refl
       go false e = rw (e, old e) refl
 
-  beat-values : (with_seen_beat n address link x t before).values ≡ with_beat n address link x t before.values
+  beat-values : (with_seen_beat zero n address link x t before).values ≡ with_beat n address link x t before.values
   beat-values = go (tells (block_at address) x (on_link link.0 t)) refl
     where
       go : (b : Bool) → tells (block_at address) x (on_link link.0 t) ≡ b
-          → (with_seen_beat n address link x t before).values ≡ with_beat n address link x t before.values
+          → (with_seen_beat zero n address link x t before).values ≡ with_beat n address link x t before.values
       go true e = rw e refl
       go false e = rw (e, old e) refl
 
@@ -80,7 +81,7 @@ stored-unclean n first address (Stores block bytes ∷ run) behind clean =
 stored-unclean n first address (Leaves d i bytes ∷ run) behind clean = absurd cc
 
 -- what a load says of a byte memory has
-pub loaded-now : {w : ℕ} (complete : List Bool) (first : Memory) (link : ℕ) (piece : Piece) (address v : ℕ)
+pub loaded-now : {w : ℕ} (complete : Completeness) (first : Memory) (link : ℕ) (piece : Piece) (address v : ℕ)
     (steps : CommitRun w) → says_byte complete link piece address (events_in steps) ≡ true
     → IsLoaded first link piece address v steps → memory_in first (run_in steps) address ≡ v
 loaded-now {w} complete first link piece address v steps says loaded = elim loaded [
@@ -105,14 +106,22 @@ loaded-now {w} complete first link piece address v steps says loaded = elim load
 
 -- ---- all steps
 
-module _ {w : ℕ} (complete : List Bool) (n : ℕ) (first : Memory) (address : ℕ) where
+-- before the trace memory has a byte that the header says it may have
+pub first-could : (zero : Bool) (first : Memory) (address : ℕ) → StartsAs zero first
+    → could_be (first address) (first_value zero) ≡ true
+first-could true first address starts = eq-eqb 0 (first address) (sym (starts address))
+first-could false first address starts = refl
+
+module _ {w : ℕ} (complete : Completeness) (n : ℕ) (first : Memory) (starts : StartsAs complete.zero first)
+    (address : ℕ) where
   abbrev byte : CommitRun w → Seen
   byte steps = seen complete n address (events_in steps)
 
   pub taken-seen : (link : Link) (x : Beat w) (steps : CommitRun w) → byte (Happened (Takes link x) ∷ steps)
-      ≡ with_seen_beat n address link x (trace_in (run_in steps)) (byte steps)
+      ≡ with_seen_beat complete.zero n address link x (trace_in (run_in steps)) (byte steps)
   unfolding events_in seen
-  taken-seen link x steps = ap (λ (t : Trace w). with_seen_beat n address link x t (byte steps)) (beats-are steps)
+  taken-seen link x steps =
+      ap (λ (t : Trace w). with_seen_beat complete.zero n address link x t (byte steps)) (beats-are steps)
 
   -- no store to the byte is in the trace since then
   pub unstored : (steps : CommitRun w) → IsCommitRun n first steps → IsClean n first address (run_in steps)
@@ -121,7 +130,7 @@ module _ {w : ℕ} (complete : List Bool) (n : ℕ) (first : Memory) (address : 
   unstored [] is clean = refl
   unstored (Happened (Takes link x) ∷ steps) is clean =
       ap (λ (s : Seen). s.stored) (taken-seen link x steps)
-      ∙ beat-unstored n address link x (trace_in (run_in steps)) (byte steps) (λ e. unstored steps is.1
+      ∙ beat-unstored complete.zero n address link x (trace_in (run_in steps)) (byte steps) (λ e. unstored steps is.1
       (clean-before n first address link x (run_in steps) is.0 (is-run n first steps is.1) clean e))
   unstored (Happened (Performs d i test left) ∷ steps) is clean = unstored steps is.1 clean
   unstored (Happened (Stores block bytes) ∷ steps) is clean = unstored steps is.1 clean.1
@@ -162,7 +171,8 @@ module _ {w : ℕ} (complete : List Bool) (n : ℕ) (first : Memory) (address : 
   pub known-seen : (steps : CommitRun w) → IsCommitRun n first steps
       → IsKnownBy n first address (run_in steps) (byte steps).values
   unfolding IsCommitRun run_in events_in seen
-  known-seen [] is clean = known-first n first address [] clean
+  known-seen [] is clean =
+      known-first n first address [] (first_value complete.zero) (first-could complete.zero first address starts) clean
   known-seen (Happened (Takes link x) ∷ steps) is clean =
       subst (IsRightBy n first address (Takes link x ∷ run_in steps)) (sym same)
       (known-taken n first address (byte steps).values link x (run_in steps) is.0 runs (known-seen steps is.1) clean)
@@ -173,7 +183,7 @@ module _ {w : ℕ} (complete : List Bool) (n : ℕ) (first : Memory) (address : 
       same : (byte (Happened (Takes link x) ∷ steps)).values
           ≡ with_beat n address link x (trace_in (run_in steps)) (byte steps).values
       same = ap (λ (s : Seen). s.values) (taken-seen link x steps)
-          ∙ beat-values n address link x (trace_in (run_in steps)) (byte steps) (λ e. unstored steps is.1
+          ∙ beat-values complete.zero n address link x (trace_in (run_in steps)) (byte steps) (λ e. unstored steps is.1
           (clean-before n first address link x (run_in steps) is.0 runs clean e))
   known-seen (Happened (Performs d i test left) ∷ steps) is clean =
       known-performed n first address (byte steps).values d i test left (run_in steps) is.0 (known-seen steps is.1)
@@ -221,18 +231,21 @@ to_beat [] = []
 to_beat (x ∷ e) = behind x.0 x.1 e (to_beat e)
 
 -- so it is by the values of then
-pub known-then : {w : ℕ} (complete : List Bool) (n : ℕ) (first : Memory) (address : ℕ) (steps : CommitRun w)
+pub known-then : {w : ℕ} (complete : Completeness) (n : ℕ) (first : Memory) (starts : StartsAs complete.zero first)
+    (address : ℕ) (steps : CommitRun w)
     → IsCommitRun n first steps
     → IsKnownBy n first address (run_in steps) (seen complete n address (to_beat (events_in steps))).values
 unfolding IsCommitRun run_in events_in to_beat seen
-known-then complete n first address [] is = known-first n first address []
-known-then complete n first address (Happened (Takes link x) ∷ steps) is =
-    known-seen complete n first address (Happened (Takes link x) ∷ steps) is
-known-then complete n first address (Happened (Performs d i test left) ∷ steps) is =
+known-then complete n first starts address [] is =
+    known-first n first address [] (first_value complete.zero) (first-could complete.zero first address starts)
+known-then complete n first starts address (Happened (Takes link x) ∷ steps) is =
+    known-seen complete n first starts address (Happened (Takes link x) ∷ steps) is
+known-then complete n first starts address (Happened (Performs d i test left) ∷ steps) is =
     known-performed n first address _ d i test left (run_in steps) is.0
-    (known-then complete n first address steps is.1)
-known-then complete n first address (Happened (Stores block bytes) ∷ steps) is =
-    known-stored n first address _ block bytes (run_in steps) (known-then complete n first address steps is.1)
-known-then complete n first address (Happened (Leaves d i bytes) ∷ steps) is =
-    known-left n first address _ d i bytes (run_in steps) (known-then complete n first address steps is.1)
-known-then complete n first address (Committed link x ∷ steps) is = known-then complete n first address steps is.1
+    (known-then complete n first starts address steps is.1)
+known-then complete n first starts address (Happened (Stores block bytes) ∷ steps) is =
+    known-stored n first address _ block bytes (run_in steps) (known-then complete n first starts address steps is.1)
+known-then complete n first starts address (Happened (Leaves d i bytes) ∷ steps) is =
+    known-left n first address _ d i bytes (run_in steps) (known-then complete n first starts address steps is.1)
+known-then complete n first starts address (Committed link x ∷ steps) is =
+    known-then complete n first starts address steps is.1

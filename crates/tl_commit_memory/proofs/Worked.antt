@@ -14,6 +14,7 @@ use Rattle.tl_bytes.proofs.WorkedBeats.{acquire_unread, grant_unread}
 use Rattle.tl_events.specs.declared.commit.Commit.TheVariants as commit
 use Rattle.tl_events.specs.declared.commit.Event.TheVariants as event
 use Rattle.tl_events.specs.declared.commit.Piece.{Piece}
+use Rattle.tl_commits.specs.statement.Completeness.{incomplete, with_stores}
 use Rattle.tl_commits.specs.statement.Events.{is_loading}
 use Rattle.tl_commits.specs.statement.Seen.{byte_in, values_seen}
 use Rattle.tl_one_memory.proofs.Wider.{asked-taken, free_if, granted-taken, none_if, trunk_if}
@@ -62,7 +63,7 @@ unfolding memory_in run_in
 memory-is = refl
 
 -- the byte is seven after the store, and nothing else
-values-are : values_seen [] 2 0 (events_in loaded) ≡ record { value = Some 7; moment = 2 } ∷ []
+values-are : values_seen incomplete 2 0 (events_in loaded) ≡ record { value = Some 7; moment = 2 } ∷ []
 unfolding events_in seen beats_of is_loading unfinished on_link held_under all_liberties request_of
 values-are = refl
 
@@ -130,11 +131,11 @@ grant-shows = record {
     shows true held = refl
     shows false held = absurd (unequal held)
 
-are-copies : AreCopies (true ∷ []) 2 zeros loaded
+are-copies : AreCopies (with_stores (true ∷ [])) 2 zeros loaded
 unfolding AreCopies IsRecorded run_in events_in trace_in memory_in beats_of on_link unfinished held_under all_liberties
     request_of
 are-copies = (
-  inl (λ address reached. of-first (λ a. HasByte (true ∷ []) 2 zeros 0 a (byte_in byte 7 a) stored)
+  inl (λ address reached. of-first (λ a. HasByte (with_stores (true ∷ [])) 2 zeros 0 a (byte_in byte 7 a) stored)
       (omega arith, (refl, (refl, tt))) address reached),
   (refl, (grant-shows, (λ whole block took. absurd cc), (acquire-shows, (λ whole block took. absurd cc), tt))),
 )

@@ -3,8 +3,7 @@ use Rattle.std.proofs.Common.{◌≡◌, ◌++◌, ◌∙◌, ℕ, List, ap, app
 use Rattle.tl_beat.specs.declared.beat.Link.{Link}
 use Rattle.tl_beat.specs.declared.channel.Channel.TheVariants as channel
 use Rattle.tl_burst.specs.statement.Messages.{unfinished}
-use Rattle.tl_commit_lines.specs.declared.header.MarkedLevel.{MarkedLevel}
-use Rattle.tl_commit_lines.specs.statement.MarkedHeader.{complete_of, levels_of}
+use Rattle.tl_commit_lines.specs.statement.MarkedHeader.{MarkedLinks, complete_of, levels_of}
 use Rattle.tl_commits.specs.statement.Copies.{link_beats}
 use Rattle.tl_commits.specs.statement.Events.{Events}
 use Rattle.tl_events.specs.declared.commit.Event.{Event}
@@ -17,7 +16,7 @@ use Rattle.tl_commit_story.specs.statement.Grounds.{copy_grounds}
 
 -- what the link holds, and then the lines about bytes
 pub told-both : {w : ℕ} (f : CopyFollower w) (rule : CommitRule) (link : Link) (x : Event w) (may : Liberties)
-    (links : List MarkedLevel) (e : Events w) → KnowsCopyFollower f may links e → f.grounds.cached.link ≡ link
+    (links : MarkedLinks) (e : Events w) → KnowsCopyFollower f may links e → f.grounds.cached.link ≡ link
     → f.record.link ≡ link → (was mid is : List ℕ) → mid ≡ was ++ copy_grounds may (levels_of links) link x e
     → (f.grounds.giving.came ≡ length (unfinished channel.C (link_beats f.record.link.0 e))
     → is ≡ mid ++ copy_lines rule (complete_of links) (length (levels_of links)) f.record.link.0 x e)

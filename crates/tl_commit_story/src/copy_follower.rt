@@ -71,21 +71,25 @@ fn tell_grounds<const W: usize>(
 
 impl<const W: usize> CopyFollower<W> {
     /// Follows links of these levels, of those with all their stores in the trace, and with these liberties, for the fault of an
-    /// event of this subject. None if there is no such block or link.
+    /// event of this subject. `zero` says whether memory was zero before the trace. None if there is no such block or
+    /// link.
     pub fn new(
         alloc: Global,
         subject: Subject,
         levels: &[Level],
         complete: &[bool],
+        zero: bool,
         may: Liberties,
     ) -> Result<Option<Self>, AllocError>
         requires { IsWidth W }
         ensures grounds { IfOk result (λ kept. IfSome kept (λ f. KnowsGrounds f.grounds may levels.now [])) }
-        ensures values { IfOk result (λ kept. IfSome kept (λ f. KnowsCopy f.record may levels.now complete.now [])) }
+        ensures values { IfOk result (λ kept. IfSome kept (λ f. KnowsCopy f.record may levels.now
+            (record { stores = complete.now; zero = zero }) [])) }
         ensures subject { IfOk result (λ kept. IfSome kept (λ f. (f.record.link ≡ subject.link)
             × (f.record.block ≡ subject.block))) }
     {
-        let record = CopyRecord::new(alloc, subject.link, subject.block, levels, complete, may)?;
+        let (link, block) = (subject.link, subject.block);
+        let record = CopyRecord::new(alloc, link, block, levels, complete, zero, may)?;
         let Some(record) = record else {
             return Ok(None);
         };

@@ -28,18 +28,20 @@ pub enum Follower<const W: usize> {
 }
 
 impl<const W: usize> Follower<W> {
-    /// Follows these links, which have these liberties, for the fault of an event of this subject. None if there is no such
-    /// block or link.
+    /// Follows these links, which have these liberties, for the fault of an event of this subject. `zero` says whether
+    /// memory was zero before the trace. None if there is no such block or link.
     pub fn new(
         alloc: Global,
         together: bool,
         fault: Fault,
         subject: Subject,
         links: &[MarkedLevel],
+        zero: bool,
         may: Liberties,
     ) -> Result<Option<Self>, AllocError>
         requires { IsWidth W }
-        ensures { IfOk result (λ follower. IfSome follower (λ f. KnowsFollower together f may links.now [])) }
+        ensures { IfOk result (λ follower. IfSome follower (λ f. KnowsFollower together f may
+            (record { zero = zero; levels = links.now }) [])) }
     {
         let levels = levels_of(alloc, links)?;
         let levels = levels.as_slice();
@@ -51,7 +53,7 @@ impl<const W: usize> Follower<W> {
             Fault::CommitRule(_) => {
                 let complete = complete_of(alloc, links)?;
                 let complete = complete.as_slice();
-                let kept = CopyFollower::new(alloc, subject, levels, complete, may)?;
+                let kept = CopyFollower::new(alloc, subject, levels, complete, zero, may)?;
                 match kept {
                     None => Ok(None),
                     Some(kept) => Ok(Some(Follower::OfCopy(kept))),

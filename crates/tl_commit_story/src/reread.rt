@@ -82,6 +82,7 @@ impl<const W: usize> Replay<W> {
             self.fault,
             self.subject,
             header.links.as_slice(),
+            header.zero,
             header.may,
         )?;
         match follower {

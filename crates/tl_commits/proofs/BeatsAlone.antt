@@ -22,6 +22,7 @@ use Rattle.tl_rules.specs.declared.past.Request.{Request}
 use Rattle.tl_rules.specs.statement.Admission.{is_spoiled, lanes_of}
 use Rattle.tl_rules.specs.statement.Conformance.{Trace, on_link}
 use Rattle.tl_rules.specs.statement.History.{block_at}
+use Rattle.tl_commits.specs.statement.Completeness.{with_stores}
 use Rattle.tl_commits.specs.statement.Alone.{alone}
 use Rattle.tl_commits.specs.statement.Events.{Events, beats_of}
 use Rattle.tl_commits.specs.statement.Seen.{Seen, seen, told_by, values_seen}
@@ -40,12 +41,12 @@ abbrev said : List Telling → Seen
 said values = record { values = values; stored = false }
 
 -- the values of a byte
-seen-alone : {w : ℕ} (complete : List Bool) (n address : ℕ) (t : Trace w)
-    → seen complete n address (alone t) ≡ said (may_be n address t)
+seen-alone : {w : ℕ} (stores : List Bool) (n address : ℕ) (t : Trace w)
+    → seen (with_stores stores) n address (alone t) ≡ said (may_be n address t)
 unfolding seen may_be
-seen-alone complete n address [] = refl
-seen-alone complete n address (x ∷ t) =
-    rw (seen-alone complete n address t, beats-alone t)
+seen-alone stores n address [] = refl
+seen-alone stores n address (x ∷ t) =
+    rw (seen-alone stores n address t, beats-alone t)
     (go (tells (block_at address) x.1 (on_link x.0.0 t)))
   where
     told : List Telling
@@ -58,26 +59,26 @@ seen-alone complete n address (x ∷ t) =
     go true = refl
     go false = refl
 
-pub values-alone : {w : ℕ} (complete : List Bool) (n address : ℕ) (t : Trace w)
-    → values_seen complete n address (alone t) ≡ may_be n address t
-values-alone complete n address t = ap (λ (s : Seen). s.values) (seen-alone complete n address t)
+pub values-alone : {w : ℕ} (stores : List Bool) (n address : ℕ) (t : Trace w)
+    → values_seen (with_stores stores) n address (alone t) ≡ may_be n address t
+values-alone stores n address t = ap (λ (s : Seen). s.values) (seen-alone stores n address t)
 
-may_grant-alone : {w : ℕ} (complete : List Bool) (n : ℕ) (t : Trace w) (address v : ℕ)
-    → may_grant_seen complete n (alone t) address v ≡ may_grant n t address v
-may_grant-alone complete n t address v = rw (values-alone complete n address t, beats-alone t) refl
+may_grant-alone : {w : ℕ} (stores : List Bool) (n : ℕ) (t : Trace w) (address v : ℕ)
+    → may_grant_seen (with_stores stores) n (alone t) address v ≡ may_grant n t address v
+may_grant-alone stores n t address v = rw (values-alone stores n address t, beats-alone t) refl
 
-may_find-alone : {w : ℕ} (complete : List Bool) (n : ℕ) (access : Access w) (t : Trace w) (address v : ℕ)
-    → may_find_seen complete n access (alone t) address v ≡ may_find n access t address v
-may_find-alone complete n access t address v = rw (values-alone complete n address t, beats-alone t) refl
+may_find-alone : {w : ℕ} (stores : List Bool) (n : ℕ) (access : Access w) (t : Trace w) (address v : ℕ)
+    → may_find_seen (with_stores stores) n access (alone t) address v ≡ may_find n access t address v
+may_find-alone stores n access t address v = rw (values-alone stores n address t, beats-alone t) refl
 
-may_read-alone : {w : ℕ} (complete : List Bool) (n : ℕ) (access : Access w) (t : Trace w) (address v : ℕ)
-    → may_read_seen complete n access (alone t) address v ≡ may_read n access t address v
+may_read-alone : {w : ℕ} (stores : List Bool) (n : ℕ) (access : Access w) (t : Trace w) (address v : ℕ)
+    → may_read_seen (with_stores stores) n access (alone t) address v ≡ may_read n access t address v
 unfolding may_read_seen may_read
-may_read-alone complete n access [] address v = refl
-may_read-alone complete n access (x ∷ t) address v =
+may_read-alone stores n access [] address v = refl
+may_read-alone stores n access (x ∷ t) address v =
     rw (
-      may_read-alone complete n access t address v,
-      may_find-alone complete n access (x ∷ t) address v,
+      may_read-alone stores n access t address v,
+      may_find-alone stores n access (x ∷ t) address v,
       beats-alone (x ∷ t),
       beats-alone t,
     ) refl
@@ -102,22 +103,22 @@ before-alone {w} link (suc k) (x ∷ t) =
     go true p q r s e f = e
     go false p q r s e f = f
 
-grants-alone : {w : ℕ} (complete : List Bool) (n block k : ℕ) (x : BeatD w) (t : Trace w)
-    → grants_truly_seen complete n block k x (alone t) ≡ grants_truly n block k x t
-grants-alone {w} complete n block k x t =
-    each-same (may_grant_seen complete n (alone t)) (may_grant n t) (64 * block + w * k) (lanes_of (beat.D x))
-    (λ at v. may_grant-alone complete n t at v)
+grants-alone : {w : ℕ} (stores : List Bool) (n block k : ℕ) (x : BeatD w) (t : Trace w)
+    → grants_truly_seen (with_stores stores) n block k x (alone t) ≡ grants_truly n block k x t
+grants-alone {w} stores n block k x t =
+    each-same (may_grant_seen (with_stores stores) n (alone t)) (may_grant n t) (64 * block + w * k) (lanes_of (beat.D x))
+    (λ at v. may_grant-alone stores n t at v)
 
-reads-alone : {w : ℕ} (complete : List Bool) (n : ℕ) (o : Option (Access w)) (k : ℕ) (x : BeatD w) (t : Trace w)
-    → reads_truly_seen complete n o k x (alone t) ≡ reads_truly n o k x t
-reads-alone complete n None k x t = refl
-reads-alone {w} complete n (Some access) k x t =
+reads-alone : {w : ℕ} (stores : List Bool) (n : ℕ) (o : Option (Access w)) (k : ℕ) (x : BeatD w) (t : Trace w)
+    → reads_truly_seen (with_stores stores) n o k x (alone t) ≡ reads_truly n o k x t
+reads-alone stores n None k x t = refl
+reads-alone {w} stores n (Some access) k x t =
     each-same (λ at v. not (reaches access.request.address access.request.size at)
-    || may_read_seen complete n access (alone t) at v)
+    || may_read_seen (with_stores stores) n access (alone t) at v)
     (λ at v. not (reaches access.request.address access.request.size at) || may_read n access t at v)
     (w * (access.request.address / w) + w * k) (lanes_of (beat.D x))
     (λ at v. ap (λ (b : Bool). not (reaches access.request.address access.request.size at) || b)
-    (may_read-alone complete n access t at v))
+    (may_read-alone stores n access t at v))
 
 found-alone : {w : ℕ} (o : Option (Access w)) (link k : ℕ) (t : Trace w)
     → found_after_seen o link k (alone t) ≡ alone (found_after o link k t)
@@ -129,30 +130,30 @@ found-alone {w} (Some access) link k t = go (is_get access.request.opcode) _ _ (
     go true p r e = refl
     go false p r e = e
 
-grant-alone : {w : ℕ} (complete : List Bool) (n link : ℕ) (x : BeatD w) (asked : Option Request) (t : Trace w)
-    → is_true_grant_seen complete n link x asked (alone t) ≡ is_true_grant n link x asked t
-grant-alone complete n link x None t = refl
-grant-alone complete n link x (Some asked) t =
+grant-alone : {w : ℕ} (stores : List Bool) (n link : ℕ) (x : BeatD w) (asked : Option Request) (t : Trace w)
+    → is_true_grant_seen (with_stores stores) n link x asked (alone t) ≡ is_true_grant n link x asked t
+grant-alone stores n link x None t = refl
+grant-alone stores n link x (Some asked) t =
     let k = length (unfinished channel.D (on_link link t)) in
     rw (beats-alone t, before-alone link k t)
     (ap (λ (b : Bool). is_overtaken asked.block x (on_link link t) || b)
-    (grants-alone complete n asked.block k x (before_last link k t)))
+    (grants-alone stores n asked.block k x (before_last link k t)))
 
-read-alone : {w : ℕ} (complete : List Bool) (n link : ℕ) (x : BeatD w) (t : Trace w)
-    → is_true_read_seen complete n link x (alone t) ≡ is_true_read n link x t
-read-alone complete n link x t =
+read-alone : {w : ℕ} (stores : List Bool) (n link : ℕ) (x : BeatD w) (t : Trace w)
+    → is_true_read_seen (with_stores stores) n link x (alone t) ≡ is_true_read n link x t
+read-alone stores n link x t =
     let k = length (unfinished channel.D (on_link link t)) in
     let access = find (is_of link x.source) (pending_accesses t) in
-    rw (beats-alone t, found-alone access link k t) (reads-alone complete n access k x (found_after access link k t))
+    rw (beats-alone t, found-alone access link k t) (reads-alone stores n access k x (found_after access link k t))
 
-pub true-alone : {w : ℕ} (complete : List Bool) (opcode : OpD) (n link : ℕ) (x : BeatD w) (t : Trace w)
-    → is_true_seen complete opcode n link x (alone t) ≡ is_true opcode n link x t
-true-alone complete d.GrantData n link x t =
+pub true-alone : {w : ℕ} (stores : List Bool) (opcode : OpD) (n link : ℕ) (x : BeatD w) (t : Trace w)
+    → is_true_seen (with_stores stores) opcode n link x (alone t) ≡ is_true opcode n link x t
+true-alone stores d.GrantData n link x t =
     ap (λ (b : Bool). is_spoiled (beat.D x) || b)
-    (rw (beats-alone t) (grant-alone complete n link x (open_request x.source (on_link link t)) t))
-true-alone complete d.AccessAckData n link x t =
-    ap (λ (b : Bool). is_spoiled (beat.D x) || b) (read-alone complete n link x t)
-true-alone complete d.AccessAck n link x t = refl
-true-alone complete d.HintAck n link x t = refl
-true-alone complete d.Grant n link x t = refl
-true-alone complete d.ReleaseAck n link x t = refl
+    (rw (beats-alone t) (grant-alone stores n link x (open_request x.source (on_link link t)) t))
+true-alone stores d.AccessAckData n link x t =
+    ap (λ (b : Bool). is_spoiled (beat.D x) || b) (read-alone stores n link x t)
+true-alone stores d.AccessAck n link x t = refl
+true-alone stores d.HintAck n link x t = refl
+true-alone stores d.Grant n link x t = refl
+true-alone stores d.ReleaseAck n link x t = refl

@@ -38,6 +38,7 @@ use Rattle.tl_commits.specs.declared.fault.CommitFault.{CommitFault}
 use Rattle.tl_commits.specs.declared.judge.CommitJudge.{CommitJudge}
 use Rattle.tl_events.specs.declared.rule.CommitRule.{CommitRule}
 use Rattle.tl_events.specs.declared.rule.CommitRule.TheVariants.{M7}
+use Rattle.tl_commits.specs.statement.Completeness.{Completeness}
 use Rattle.tl_commits.specs.statement.Breaches.{breach_of, broken_event, broken_memory_seen}
 use Rattle.tl_commits.specs.statement.Commits.{broken_report, gives_truly, keeps_stores, takes_trunk}
 use Rattle.tl_commits.specs.code.GivingBack.{carries}
@@ -51,7 +52,7 @@ use Rattle.tl_commits.specs.statement.Events.{Events, beats_of}
 use Rattle.tl_commits.specs.statement.Knows.{Answers, KnowsCommits}
 
 -- M7 of a beat that has no data on channel C
-pub report-bare : {w : ℕ} (complete : List Bool) (n link : ℕ) (x : Beat w) (e : Events w) → carries x ≡ false
+pub report-bare : {w : ℕ} (complete : Completeness) (n link : ℕ) (x : Beat w) (e : Events w) → carries x ≡ false
     → (if keeps_stores complete n link (takes_trunk x (link_beats link e)) e then None else Some M7)
     ≡ broken_report complete n link x e
 report-bare complete n link (Beat.C x) e bare = rw bare refl
@@ -61,13 +62,13 @@ report-bare complete n link (Beat.D x) e bare = refl
 report-bare complete n link (Beat.E x) e bare = refl
 
 -- and of one that has
-pub report-full : {w : ℕ} (complete : List Bool) (n link : ℕ) (x : BeatC w) (e : Events w) (keeps : Bool)
+pub report-full : {w : ℕ} (complete : Completeness) (n link : ℕ) (x : BeatC w) (e : Events w) (keeps : Bool)
     → keeps ≡ gives_truly complete n link x e → c_carries_data x.opcode ≡ true
     → (if keeps then None else Some M7) ≡ broken_report complete n link (Beat.C x) e
 report-full complete n link x e keeps is on = rw (on, is) refl
 
 -- the judge of beats was asked
-pub judge-asked : {w : ℕ} (old new : CommitJudge w) (levels : List Level) (complete : List Bool) (l : Liberties)
+pub judge-asked : {w : ℕ} (old new : CommitJudge w) (levels : List Level) (complete : Completeness) (l : Liberties)
     (e : Events w) → KnowsCommits old levels complete l e → Knows new.judge levels l (beats_of e) false
     → new.levels ≡ old.levels → new.complete ≡ old.complete → new.loads ≡ old.loads → new.values ≡ old.values
     → new.grants ≡ old.grants → new.readings ≡ old.readings → KnowsCommits new levels complete l e
@@ -82,7 +83,7 @@ judge-asked old new levels complete l e k judge levels_are complete_are loads_ar
 }
 
 -- the values of a block, the bytes of a Grant and a reading were made, or weren't
-pub table-met : {w : ℕ} (old new : CommitJudge w) (levels : List Level) (complete : List Bool) (l : Liberties)
+pub table-met : {w : ℕ} (old new : CommitJudge w) (levels : List Level) (complete : Completeness) (l : Liberties)
     (e : Events w) → KnowsCommits old levels complete l e → Knows new.judge levels l (beats_of e) false
     → new.levels ≡ old.levels → new.complete ≡ old.complete → new.loads ≡ old.loads
     → (KnowsTable old.values complete (length levels) e → KnowsTable new.values complete (length levels) e)
@@ -161,7 +162,7 @@ beginning-kept n link x t = either (begins (Beat.D x) (on_link link t)) (broken_
         (either (is_access_ack x.opcode) _ (access (open_request x.source (on_link link t)))))
 
 -- a GrantData has other bytes than may be granted
-pub bytes-granted : {w : ℕ} (complete : List Bool) (n link : ℕ) (x : Beat w) (e : Events w)
+pub bytes-granted : {w : ℕ} (complete : Completeness) (n link : ℕ) (x : Beat w) (e : Events w)
     → grants_truly complete n link x e ≡ false → Some M2 ≡ broken_bytes complete n link x e
 bytes-granted {w} complete n link (Beat.D z) e off = go z.opcode off
   where
@@ -179,7 +180,7 @@ bytes-granted complete n link (Beat.C x) e off = absurd cc
 bytes-granted complete n link (Beat.E x) e off = absurd cc
 
 -- an AccessAckData has other bytes than the access may have found
-pub bytes-read : {w : ℕ} (complete : List Bool) (n link : ℕ) (x : Beat w) (e : Events w)
+pub bytes-read : {w : ℕ} (complete : Completeness) (n link : ℕ) (x : Beat w) (e : Events w)
     → reads_truly complete n link x e ≡ false → Some M3 ≡ broken_bytes complete n link x e
 bytes-read {w} complete n link (Beat.D z) e off = go z.opcode off
   where
@@ -197,7 +198,7 @@ bytes-read complete n link (Beat.C x) e off = absurd cc
 bytes-read complete n link (Beat.E x) e off = absurd cc
 
 -- neither has
-pub bytes-true : {w : ℕ} (complete : List Bool) (n link : ℕ) (x : Beat w) (e : Events w)
+pub bytes-true : {w : ℕ} (complete : Completeness) (n link : ℕ) (x : Beat w) (e : Events w)
     → grants_truly complete n link x e ≡ true → reads_truly complete n link x e ≡ true
     → None ≡ broken_bytes complete n link x e
 bytes-true {w} complete n link (Beat.D z) e on too = go z.opcode on too
@@ -229,7 +230,7 @@ bytes-left OpD.Grant None false kept = refl
 bytes-left OpD.ReleaseAck None false kept = refl
 
 -- the rule of memory that a beat breaks but for M2 and M3 is the first of all, if its bytes are true
-memory-judged : {w : ℕ} (complete : List Bool) (n link : ℕ) (x : Beat w) (e : Events w)
+memory-judged : {w : ℕ} (complete : Completeness) (n link : ℕ) (x : Beat w) (e : Events w)
     → broken_bytes complete n link x e ≡ None
     → but_bytes (broken_memory n link x (beats_of e)) ≡ broken_memory_seen complete n link x e
 memory-judged complete n link (Beat.D x) e truly =
@@ -242,12 +243,12 @@ memory-judged complete n link (Beat.C x) e truly = refl
 memory-judged complete n link (Beat.E x) e truly = refl
 
 -- the first rule of beats that a beat breaks by beats and commits
-abbrev pub broken_seen : {w : ℕ} → List Level → List Bool → Liberties → Link → Beat w → Events w → Option Breach
+abbrev pub broken_seen : {w : ℕ} → List Level → Completeness → Liberties → Link → Beat w → Events w → Option Breach
 broken_seen levels complete l link x e = first_broken (broken_on_link_under l levels (link, x) (beats_of e))
     (broken_memory_seen complete (length levels) link.0 x e)
 
 -- so is the first rule
-pub first-judged : {w : ℕ} (levels : List Level) (complete : List Bool) (l : Liberties) (link : Link) (x : Beat w)
+pub first-judged : {w : ℕ} (levels : List Level) (complete : Completeness) (l : Liberties) (link : Link) (x : Beat w)
     (e : Events w)
     → (KeepsRules l levels (link, x) (beats_of e) → broken_bytes complete (length levels) link.0 x e ≡ None)
     → broken_but_bytes levels l (link, x) (beats_of e) ≡ broken_seen levels complete l link x e
@@ -263,7 +264,7 @@ first-judged levels complete l link x e truly =
 -- ---- refusals
 
 -- a beat that breaks M7, if it breaks none of beats
-pub refused-report : {w : ℕ} (levels : List Level) (complete : List Bool) (l : Liberties) (link : Link) (x : Beat w)
+pub refused-report : {w : ℕ} (levels : List Level) (complete : Completeness) (l : Liberties) (link : Link) (x : Beat w)
     (e : Events w) (rule : CommitRule) (f : CommitFault)
     → Answers (breach_or (broken_together levels l (link, x) (beats_of e)) (OfCommits rule)) (Err f)
     → (KeepsRules l levels (link, x) (beats_of e)
@@ -288,7 +289,7 @@ refused-report {w} levels complete l link x e rule f is same =
     go None (Beat.E x) is same = subst (λ r. Answers (breach_of None r) (Err f)) (same refl) is
 
 -- a beat that breaks M2 or M3, if it breaks none of its link and neither M1 nor M4
-pub refused-bytes : {w : ℕ} (levels : List Level) (complete : List Bool) (l : Liberties) (link : Link) (x : Beat w)
+pub refused-bytes : {w : ℕ} (levels : List Level) (complete : Completeness) (l : Liberties) (link : Link) (x : Beat w)
     (e : Events w) (rule : MemoryRule) (f : CommitFault)
     → Answers (breach_or (broken_together levels l (link, x) (beats_of e)) (OfBeats (OfMemory rule))) (Err f)
     → (KeepsRules l levels (link, x) (beats_of e) → Some rule ≡ broken_bytes complete (length levels) link.0 x e)

@@ -16,10 +16,10 @@ use Rattle.tl_events.specs.declared.rule.CommitRule.TheVariants.{M5, M6}
 use Rattle.tl_events.specs.statement.CommitLine.{IsPiece}
 use Rattle.tl_commits.specs.code.Judging.{of_rule}
 use Rattle.tl_commits.specs.code.Loading.{IsLoadOf, IsLoading, IsNewer, IsRenewed, KnowsLoads, brings, had, is_of}
-use Rattle.tl_commits.specs.code.ValueTable.{KnowsTable}
-use Rattle.tl_commits.specs.declared.block_values.BlockValues.{BlockValues}
+use Rattle.tl_commits.specs.code.ValueTable.{KnowsTable, Table}
 use Rattle.tl_commits.specs.declared.fault.CommitFault.{CommitFault}
 use Rattle.tl_commits.specs.declared.loading.Loading.{Loading}
+use Rattle.tl_commits.specs.statement.Completeness.{Completeness}
 use Rattle.tl_commits.specs.statement.Breaches.{breach_of, has_cache}
 use Rattle.tl_commits.specs.statement.Commits.{broken_load, each_byte, is_piece_loadable, may_bring}
 use Rattle.tl_commits.specs.statement.Events.{Events, at_some, beats_of, is_loading, since_begun}
@@ -28,7 +28,7 @@ use Rattle.tl_commits.specs.statement.Seen.{byte_in}
 use Rattle.tl_commits.proofs.Loads.{HasKeyIfAny, found-key, or-comm}
 use Rattle.tl_commits.proofs.Pieces.{each-below-same, most-bytes}
 
-pub begun-is : {w : ℕ} (o : Option Loading) (complete : List Bool) (n link : ℕ) (piece : Piece) (e : Events w)
+pub begun-is : {w : ℕ} (o : Option Loading) (complete : Completeness) (n link : ℕ) (piece : Piece) (e : Events w)
     → IsLoading o complete n link piece e → is_some o ≡ is_loading link piece e
 begun-is None complete n link piece e is = sym is
 begun-is (Some y) complete n link piece e is = sym is.0
@@ -36,14 +36,15 @@ begun-is (Some y) complete n link piece e is = sym is.0
 -- ---- a load
 
 -- the load says whether the piece could be loaded at a moment, and which bytes it could have
-pub record SaysAll {w : ℕ} (x : Loading) (complete : List Bool) (n link : ℕ) (piece : Piece) (e : Events w) : Type 0 where
+pub record SaysAll {w : ℕ} (x : Loading) (complete : Completeness) (n link : ℕ) (piece : Piece) (e : Events w) : Type 0 where
   piece_is : x.piece ≡ piece
   pub loadable_is : x.loadable ≡ at_some (is_piece_loadable link piece) link piece e
   pub values_are : (i v : ℕ) → i < 2 ^ piece.size → v < 256
       → had x i v ≡ at_some (may_bring complete n link (piece.address + i) v) link piece e
 
 -- so does the load that has begun, or one that begins now, with what is possible now
-pub says-all : {w : ℕ} (complete : List Bool) (n : ℕ) (link : Link) (piece : Piece) (e : Events w) (o : Option Loading)
+pub says-all : {w : ℕ} (complete : Completeness) (n : ℕ) (link : Link) (piece : Piece) (e : Events w)
+    (o : Option Loading)
     (x y : Loading) → IsLoading o complete n link.0 piece e → HasKeyIfAny o link.0 piece → IsLoadOf o link piece x
     → IsPiece piece → IsNewer complete n e x y → SaysAll y complete n link.0 piece e
 says-all complete n link piece e None x y is key fresh small newer = record {
@@ -70,16 +71,16 @@ says-all complete n link piece e (Some z) x y is key same small newer =
     }
 
 -- so does the load that a judge takes
-pub judged-load : {w : ℕ} (judge : Judge w) (table : List (ℕ × BlockValues)) (loads : List Loading) (levels : List Level)
-    (complete : List Bool) (l : Liberties) (link : Link) (piece : Piece) (e : Events w) (x y : Loading)
+pub judged-load : {w : ℕ} (judge : Judge w) (table : Table) (loads : List Loading) (levels : List Level)
+    (complete : Completeness) (l : Liberties) (link : Link) (piece : Piece) (e : Events w) (x y : Loading)
     → Knows judge levels l (beats_of e) false → KnowsTable table complete (length levels) e
     → KnowsLoads loads complete (length levels) e → link.0 < length levels → IsPiece piece
-    → IsLoadOf (find (is_of link.0 piece) loads) link piece x → IsRenewed judge table complete x y
+    → IsLoadOf (find (is_of link.0 piece) loads) link piece x → IsRenewed judge table complete.stores x y
     → SaysAll y complete (length levels) link.0 piece e
 judged-load judge table loads levels complete l link piece e x y j t k lt is of renewed =
     let key = found-key link.0 piece loads in
     says-all complete (length levels) link piece e (find (is_of link.0 piece) loads) x y (k.are link.0 piece) key of is
-    (renewed levels l e j t (link-of (find (is_of link.0 piece) loads) key of).0
+    (renewed levels l complete e refl j t (link-of (find (is_of link.0 piece) loads) key of).0
     (link-of (find (is_of link.0 piece) loads) key of).1)
   where
     link-of : (o : Option Loading) → HasKeyIfAny o link.0 piece → IsLoadOf o link piece x
@@ -87,7 +88,7 @@ judged-load judge table loads levels complete l link piece e x y j t k lt is of 
     link-of None key fresh = (rw fresh.link_is lt, rw fresh.piece_is is)
     link-of (Some z) key same = rw same (rw key.link_is lt, rw key.piece_is is)
 
-module _ {w : ℕ} (complete : List Bool) (n link : ℕ) (piece : Piece) (value : ℕ) (e : Events w) (x : Loading)
+module _ {w : ℕ} (complete : Completeness) (n link : ℕ) (piece : Piece) (value : ℕ) (e : Events w) (x : Loading)
     (says : SaysAll x complete n link piece e) where
   -- the bytes of a value
   brings-each : brings x value

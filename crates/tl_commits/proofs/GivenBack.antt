@@ -25,8 +25,9 @@ use Rattle.tl_rules.specs.statement.Conformance.{Trace, on_link}
 use Rattle.tl_rules.specs.statement.History.{block_at}
 use Rattle.tl_commits.proofs.LoadedBytes.{brought-is, not-brought}
 use Rattle.tl_commits.specs.code.GivingBack.{is_seen}
+use Rattle.tl_commits.specs.statement.Completeness.{Completeness, is_complete}
 use Rattle.tl_commits.specs.statement.Commits.{gives, gives_truly, may_give}
-use Rattle.tl_commits.specs.statement.Copies.{brought, is_complete, link_beats}
+use Rattle.tl_commits.specs.statement.Copies.{brought, link_beats}
 use Rattle.tl_commits.specs.statement.Events.{Events}
 
 module _ {w : ℕ} (levels : List Level) (link : Link) (x : BeatC w) (t : Trace w) (is : IsWidth w)
@@ -45,7 +46,7 @@ module _ {w : ℕ} (levels : List Level) (link : Link) (x : BeatC w) (t : Trace 
       released-is all_liberties o x (on_link link.0 t)
       (lawful-beat all_liberties f.level (Beat.C x) (on_link link.0 t) f.fine).ordered known
 
-module _ {w : ℕ} (complete : List Bool) (n link : ℕ) (x : BeatC w) (e : Events w) where
+module _ {w : ℕ} (complete : Completeness) (n link : ℕ) (x : BeatC w) (e : Events w) where
   -- a link of which not all stores are there isn't judged
   pub gives-unknown : is_complete complete link ≡ false → true ≡ gives_truly complete n link x e
   gives-unknown off = rw off refl
@@ -94,7 +95,7 @@ module _ {w : ℕ} (complete : List Bool) (n link : ℕ) (x : BeatC w) (e : Even
 
 -- ---- a byte
 
-module _ {w : ℕ} (complete : List Bool) (n link : ℕ) (e : Events w) (block place v : ℕ) (small : place < 64) where
+module _ {w : ℕ} (complete : Completeness) (n link : ℕ) (e : Events w) (block place v : ℕ) (small : place < 64) where
   -- the byte that a Grant under way has brought
   pub gives-brought : (value : Option ℕ) → is_some (brought (64 * block + place) (link_beats link e)) ≡ true
       → value ≡ carried_byte (unfinished Channel.D (link_beats link e)) place

@@ -19,12 +19,13 @@ use Rattle.tl_commits.specs.code.Granting.{KnowsGrant, told_or_any}
 use Rattle.tl_commits.specs.code.ValueTable.{KnowsKept}
 use Rattle.tl_commits.specs.declared.block_values.BlockValues.{BlockValues}
 use Rattle.tl_commits.specs.declared.granting.GrantBytes.{GrantBytes}
+use Rattle.tl_commits.specs.statement.Completeness.{Completeness}
 use Rattle.tl_commits.specs.statement.Copies.{link_beats}
 use Rattle.tl_commits.specs.statement.Events.{Events, beats_of}
 use Rattle.tl_commits.specs.statement.Seen.{Seen, values_seen}
 use Rattle.tl_commits.specs.statement.True.{before_last_seen, is_true_seen, may_grant_seen}
 
-module _ {w : ℕ} (complete : List Bool) (n link : ℕ) (x : BeatD w) (e : Events w) (asked : Request)
+module _ {w : ℕ} (complete : Completeness) (n link : ℕ) (x : BeatD w) (e : Events w) (asked : Request)
     (opened : open_request x.source (link_beats link e) ≡ Some asked) (doubt spoiled both : Bool)
     (doubt_is : is_overtaken asked.block x (link_beats link e) ≡ doubt) (spoiled_is : spoiled ≡ is_spoiled (Beat.D x))
     (both_is : both ≡ (doubt || spoiled)) where
@@ -65,7 +66,7 @@ module _ {w : ℕ} (complete : List Bool) (n link : ℕ) (x : BeatD w) (e : Even
 -- ---- what a Grant may bring that begins now
 
 -- the values of a block that are kept, or any
-told-kept : {w : ℕ} (values : Option BlockValues) (told : Option (Vec Told)) (complete : List Bool) (n block : ℕ)
+told-kept : {w : ℕ} (values : Option BlockValues) (told : Option (Vec Told)) (complete : Completeness) (n block : ℕ)
     (e : Events w) → option_map (λ (v : Vec Told). v.items) told ≡ option_map (λ (v : BlockValues). v.seen.items) values
     → KnowsKept values complete n block e → (place v : ℕ) → place < 64
     → told_or_any told place v ≡ told_as v (values_seen complete n (64 * block + place) e)
@@ -79,7 +80,7 @@ told-kept (Some values) (Some told) complete n block e copied k place v small =
     same : {X : Type 0} {a b : X} → Some a ≡ Some b → a ≡ b
     same e = cc
 
-pub granted-now : {w : ℕ} (g : GrantBytes) (values : Option BlockValues) (complete : List Bool) (n block : ℕ)
+pub granted-now : {w : ℕ} (g : GrantBytes) (values : Option BlockValues) (complete : Completeness) (n block : ℕ)
     (e : Events w) → option_map (λ (v : Vec Told). v.items) g.told
     ≡ option_map (λ (v : BlockValues). v.seen.items) values → KnowsKept values complete n block e
     → MayWrite g.writes.items block (windowed n block (beats_of e)) (outrun_accesses (beats_of e))

@@ -34,13 +34,14 @@ use Rattle.tl_events.specs.declared.commit.Commit.{Commit}
 use Rattle.tl_events.specs.declared.commit.Event.TheVariants as event
 use Rattle.tl_commits.specs.code.Granting.{AreMet, KnowsGrant, KnowsGrantOf, KnowsGrants, KnowsUnfinished}
 use Rattle.tl_commits.specs.declared.granting.GrantBytes.{GrantBytes}
+use Rattle.tl_commits.specs.statement.Completeness.{Completeness}
 use Rattle.tl_commits.specs.statement.Copies.{link_beats}
 use Rattle.tl_commits.specs.statement.Events.{Events}
 unfoldable use Rattle.tl_commits.specs.statement.Events.{beats_of}
 unfoldable use Rattle.tl_commits.specs.statement.True.{before_last_seen}
 
 -- before the trace no Grant is under way
-pub no-grants : {w : ℕ} (grants : List GrantBytes) (complete : List Bool) (n : ℕ) → length grants ≡ n
+pub no-grants : {w : ℕ} (grants : List GrantBytes) (complete : Completeness) (n : ℕ) → length grants ≡ n
     → KnowsGrants {w = w} grants complete n []
 unfolding beats_of on_link unfinished
 no-grants grants complete n count = record {
@@ -49,7 +50,7 @@ no-grants grants complete n count = record {
 }
 
 -- a commit is no beat
-pub grants-commit : {w : ℕ} (grants : List GrantBytes) (complete : List Bool) (n : ℕ) (from : Link) (x : Commit)
+pub grants-commit : {w : ℕ} (grants : List GrantBytes) (complete : Completeness) (n : ℕ) (from : Link) (x : Commit)
     (e : Events w) → KnowsGrants grants complete n e → KnowsGrants grants complete n ((from, event.Commit x) ∷ e)
 unfolding beats_of before_last_seen
 grants-commit grants complete n from x e k = record { count_is = k.count_is; are = k.are }
@@ -97,7 +98,7 @@ before-on k link z e = rw (eq-eqb link.0 link.0 refl) refl
 
 -- ---- a beat of a GrantData
 
-module _ {w : ℕ} (levels : List Level) (complete : List Bool) (n : ℕ) (link : Link) (z : BeatD w) (e : Events w)
+module _ {w : ℕ} (levels : List Level) (complete : Completeness) (n : ℕ) (link : Link) (z : BeatD w) (e : Events w)
     (g : GrantBytes) where
   abbrev burst : List (Beat w)
   burst = unfinished Channel.D (link_beats link.0 e)
@@ -148,7 +149,7 @@ put-apart xs i k y x other at =
     ∙ ap Some (sym (get_or-set_other xs i k y y other) ∙ get_or_from_slice_get (slice_set xs i y) k x y at)
 
 -- they take the place of others, which no message needs
-pub grants-put : {w : ℕ} (grants new : List GrantBytes) (complete : List Bool) (n link : ℕ) (g : GrantBytes)
+pub grants-put : {w : ℕ} (grants new : List GrantBytes) (complete : Completeness) (n link : ℕ) (g : GrantBytes)
     (e : Events w) → new ≡ slice_set grants link g → length (unfinished Channel.D (link_beats link e)) ≡ 0
     → KnowsGrants grants complete n e → KnowsGrants new complete n e
 grants-put {w} grants new complete n link g e set none k = record {
@@ -162,7 +163,7 @@ grants-put {w} grants new complete n link g e set none k = record {
     some : (y : BeatD w) (older : List (Beat w)) → unfinished Channel.D (link_beats link e) ≡ Beat.D y ∷ older → ⊥
     some y older is = let no : suc (length older) ≡ 0 = sym (ap length is) ∙ none in omega (arith, no)
 
-module _ {w : ℕ} (levels : List Level) (complete : List Bool) (n : ℕ) (link : Link) (x : Beat w) (e : Events w)
+module _ {w : ℕ} (levels : List Level) (complete : Completeness) (n : ℕ) (link : Link) (x : Beat w) (e : Events w)
     (grants : List GrantBytes) where
   pub met-put : (new : List GrantBytes) (g : GrantBytes) (z : BeatD w) (asked : Request)
       → new ≡ slice_set grants link.0 g → x ≡ Beat.D z → open_request z.source (link_beats link.0 e) ≡ Some asked
@@ -182,7 +183,7 @@ module _ {w : ℕ} (levels : List Level) (complete : List Bool) (n : ℕ) (link 
 
 -- ---- one more beat
 
-module _ {w : ℕ} (levels : List Level) (width : IsWidth w) (complete : List Bool) (n : ℕ) (e : Events w)
+module _ {w : ℕ} (levels : List Level) (width : IsWidth w) (complete : Completeness) (n : ℕ) (e : Events w)
     (legal : AreLegal levels (beats_of e)) where
   -- of another link or another channel
   unfinished-off : (c : ℕ) (link : Link) (x : Beat w) (g : GrantBytes) → IsLegal levels (link, x) (beats_of e)

@@ -10,6 +10,7 @@ pub mod TableJudged
 pub mod ValuesJudged
 pub mod WorkedCommits
 pub mod WorkedEvents
+pub mod WorkedZero
 pub mod BeatsAlone
 pub mod JudgedAlone
 pub mod Filling

@@ -1,5 +1,5 @@
 -- The bytes that a load may bring.
-use Rattle.std.proofs.Common.{◌≡◌, ◌<◌, ◌+◌, ◌*◌, ◌/◌, ◌%◌, ℕ, Bool, true, false, ◌&&◌, ◌||◌, List, length, refl, sym, ap}
+use Rattle.std.proofs.Common.{◌≡◌, ◌<◌, ◌+◌, ◌*◌, ◌/◌, ◌%◌, ℕ, Bool, true, false, ◌&&◌, ◌||◌, length, refl, sym, ap}
 use Rattle.std.proofs.Common.{◌∙◌, arith}
 use Rattle.std.specs.Prelude.{if◌then◌else◌, nat_lt, Option, Some, None, is_some}
 use Rattle.tl_beat.specs.declared.channel.Channel.TheVariants as channel
@@ -7,6 +7,7 @@ use Rattle.tl_burst.specs.statement.Messages.{History, unfinished}
 use Rattle.tl_rules.specs.statement.History.{block_at}
 use Rattle.tl_bytes.specs.statement.Bytes.{carried_byte, could_be, told_as}
 use Rattle.tl_commits.specs.code.Filling.{filled}
+use Rattle.tl_commits.specs.statement.Completeness.{Completeness}
 use Rattle.tl_commits.specs.statement.Commits.{brings, may_bring, may_have}
 use Rattle.tl_commits.specs.statement.Copies.{brought, holds, is_filling, is_known, link_beats}
 use Rattle.tl_commits.specs.statement.Events.{Events}
@@ -33,7 +34,7 @@ pub not-brought : {X : Type 0} (o : Option X) → is_some o ≡ false → o ≡ 
 not-brought None e = refl
 not-brought (Some v) e = absurd cc
 
-module _ {w : ℕ} (complete : List Bool) (n link address v : ℕ) (e : Events w) where
+module _ {w : ℕ} (complete : Completeness) (n link address v : ℕ) (e : Events w) where
   -- what the copy may have: nothing if there is none, any byte if it isn't known
   pub have-none : holds (block_at address) (link_beats link e) ≡ false → may_have complete n link address v e ≡ false
   have-none off = rw off refl

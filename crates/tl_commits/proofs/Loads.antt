@@ -10,12 +10,12 @@ use Rattle.tl_params.specs.declared.liberties.Liberties.{Liberties}
 use Rattle.tl_together.specs.declared.judge.Judge.{Judge}
 use Rattle.tl_together.specs.statement.Knows.{Knows}
 use Rattle.tl_commits.specs.code.Loading.{ArePieces, AreRenewed, IsFresh, IsLoading, IsNewer, is_of}
-use Rattle.tl_commits.specs.code.ValueTable.{KnowsTable}
-use Rattle.tl_commits.specs.declared.block_values.BlockValues.{BlockValues}
+use Rattle.tl_commits.specs.code.ValueTable.{KnowsTable, Table}
 use Rattle.tl_events.specs.declared.commit.Event.{Event}
 use Rattle.tl_events.specs.declared.commit.Piece.{Piece}
 use Rattle.tl_commits.specs.declared.loading.Loading.{Loading}
 use Rattle.tl_events.specs.statement.CommitLine.{IsPiece}
+use Rattle.tl_commits.specs.statement.Completeness.{Completeness}
 use Rattle.tl_commits.specs.statement.Commits.{may_bring}
 use Rattle.tl_commits.proofs.Pieces.{most-bytes}
 use Rattle.tl_commits.specs.statement.Events.{Events, beats_of, begins_load, is_load, is_loading, same_piece, since_begun}
@@ -74,7 +74,7 @@ AreBoth R (Some y) (Some z) = R y z
 AreBoth R None (Some z) = ⊥
 AreBoth R (Some y) None = ⊥
 
-module _ {w : ℕ} (complete : List Bool) (n link : ℕ) (piece : Piece) (x : Link × Event w) (e : Events w) where
+module _ {w : ℕ} (complete : Completeness) (n link : ℕ) (piece : Piece) (x : Link × Event w) (e : Events w) where
   abbrev test : ℕ → ℕ → Events w → Bool
   test i v = may_bring complete n link (piece.address + i) v
 
@@ -138,25 +138,25 @@ found-zip R p same [] (z ∷ new) are = absurd are
 found-zip R p same (y ∷ old) [] are = absurd are
 
 -- a load keeps its key
-pub newer-key : {w : ℕ} (complete : List Bool) (n : ℕ) (e : Events w) (link : ℕ) (piece : Piece) (y z : Loading)
+pub newer-key : {w : ℕ} (complete : Completeness) (n : ℕ) (e : Events w) (link : ℕ) (piece : Piece) (y z : Loading)
     → IsNewer complete n e y z → is_of link piece z ≡ is_of link piece y
 newer-key complete n e link piece y z newer = rw (newer.link_is, newer.piece_is) refl
 
-pub newer-found : {w : ℕ} (complete : List Bool) (n : ℕ) (e : Events w) (link : ℕ) (piece : Piece)
+pub newer-found : {w : ℕ} (complete : Completeness) (n : ℕ) (e : Events w) (link : ℕ) (piece : Piece)
     (old new : List Loading) → AllZip (IsNewer complete n e) old new
     → AreBoth (IsNewer complete n e) (find (is_of link piece) old) (find (is_of link piece) new)
 newer-found complete n e link piece =
     found-zip (IsNewer complete n e) (is_of link piece) (newer-key complete n e link piece)
 
 -- each load is renewed
-pub all-renewed : {w : ℕ} (judge : Judge w) (table : List (ℕ × BlockValues)) (complete : List Bool) (levels : List Level)
+pub all-renewed : {w : ℕ} (judge : Judge w) (table : Table) (complete : Completeness) (levels : List Level)
     (l : Liberties) (e : Events w) (old new : List Loading)
-    → AreRenewed judge table complete old new → Knows judge levels l (beats_of e) false
+    → AreRenewed judge table complete.stores old new → Knows judge levels l (beats_of e) false
     → KnowsTable table complete (length levels) e → ArePieces (length levels) old
     → AllZip (IsNewer complete (length levels) e) old new
 all-renewed judge table complete levels l e [] [] are k t pieces = tt
 all-renewed judge table complete levels l e (x ∷ old) (y ∷ new) are k t pieces = (
-  are.0 levels l e k t pieces.0.0 pieces.0.1,
+  are.0 levels l complete e refl k t pieces.0.0 pieces.0.1,
   all-renewed judge table complete levels l e old new are.1 k t pieces.1,
 )
 all-renewed judge table complete levels l e [] (y ∷ new) are k t pieces = absurd are
@@ -171,7 +171,7 @@ pieces-zip n R stays (y ∷ old) (z ∷ new) are is = (stays y z are.0 is.0, pie
 pieces-zip n R stays [] (z ∷ new) are is = absurd are
 pieces-zip n R stays (y ∷ old) [] are is = absurd are
 
-pub pieces-newer : {w : ℕ} (complete : List Bool) (n : ℕ) (e : Events w) (old new : List Loading)
+pub pieces-newer : {w : ℕ} (complete : Completeness) (n : ℕ) (e : Events w) (old new : List Loading)
     → AllZip (IsNewer complete n e) old new → ArePieces n old → ArePieces n new
 pieces-newer complete n e = pieces-zip n (IsNewer complete n e)
     (λ y z newer is. (rw newer.link_is is.0, rw newer.piece_is is.1))

@@ -1,5 +1,5 @@
 -- The loads that a judge keeps are those that have begun, after one more event.
-use Rattle.std.proofs.Common.{◌≡◌, ◌<◌, ℕ, Bool, true, false, not, ◌&&◌, List, [], ◌∷◌, ◌++◌, refl, ap, filter, find}
+use Rattle.std.proofs.Common.{◌≡◌, ◌<◌, ℕ, true, false, not, ◌&&◌, List, [], ◌∷◌, ◌++◌, refl, ap, filter, find}
 use Rattle.std.proofs.Common.{inl, inr, subst}
 use Rattle.std.proofs.lemmas.Bool.{and_parts, cases_Bool, eqb-true}
 use Rattle.std.specs.List.{AllZip}
@@ -12,18 +12,19 @@ use Rattle.tl_events.specs.declared.commit.Event.TheVariants as event
 use Rattle.tl_events.specs.declared.commit.Piece.{Piece}
 use Rattle.tl_commits.specs.declared.loading.Loading.{Loading}
 use Rattle.tl_events.specs.statement.CommitLine.{IsPiece}
+use Rattle.tl_commits.specs.statement.Completeness.{Completeness}
 use Rattle.tl_commits.specs.statement.Events.{Events, begins_load, is_load, is_loading, same_piece}
 use Rattle.tl_commits.proofs.Loads.{AreBoth, HasKey, HasKeyIfAny, find-gone, find-kept, find-last, find-more, found-key}
 use Rattle.tl_commits.proofs.Loads.{found-zip, goes-on, has-begun, has-ended, key-of, newer-found, other-key, pieces-filter}
 use Rattle.tl_commits.proofs.Loads.{pieces-more, pieces-newer, pieces-zip, same-piece-is, same-self}
 
 -- before the trace none has begun
-pub no-loads : {w : ℕ} (complete : List Bool) (n : ℕ) → KnowsLoads {w = w} [] complete n []
+pub no-loads : {w : ℕ} (complete : Completeness) (n : ℕ) → KnowsLoads {w = w} [] complete n []
 unfolding is_loading
 no-loads complete n = record { pieces = tt; are = λ link piece. refl }
 
 -- an event that neither begins nor ends a load
-pub loads-other : {w : ℕ} (complete : List Bool) (n : ℕ) (x : Link × Event w) (e : Events w) (old new : List Loading)
+pub loads-other : {w : ℕ} (complete : Completeness) (n : ℕ) (x : Link × Event w) (e : Events w) (old new : List Loading)
     → KnowsLoads old complete n e → AllZip (IsNewer complete n (x ∷ e)) old new
     → ((link : ℕ) (piece : Piece) → begins_load link piece x ≡ false)
     → ((link : ℕ) (piece : Piece) → is_load link piece x ≡ false) → KnowsLoads new complete n (x ∷ e)
@@ -49,7 +50,7 @@ none-related R (Some y) None both none = refl
 none-related R (Some y) (Some z) both none = absurd cc
 
 -- a load ends
-pub loads-load : {w : ℕ} (complete : List Bool) (n : ℕ) (from : Link) (own : Piece) (value : ℕ) (e : Events w)
+pub loads-load : {w : ℕ} (complete : Completeness) (n : ℕ) (from : Link) (own : Piece) (value : ℕ) (e : Events w)
     (old mid new : List Loading)
     → KnowsLoads old complete n e → mid ≡ filter (λ y. not (is_of from.0 own y)) old
     → AllZip (IsNewer complete n ((from, event.Commit (commit.Load own value)) ∷ e)) mid new
@@ -174,7 +175,7 @@ begun-by : (from : Link) (own : Piece) (o : Option Loading) (old mid : List Load
 begun-by from own None old mid none (y, fresh, is) = first-begun from own old mid y fresh none is
 begun-by from own (Some y) old mid there is = again-begun from own old mid y there is
 
-pub loads-begun : {w : ℕ} (complete : List Bool) (n : ℕ) (from : Link) (own : Piece) (e : Events w)
+pub loads-begun : {w : ℕ} (complete : Completeness) (n : ℕ) (from : Link) (own : Piece) (e : Events w)
     (old mid new : List Loading) → KnowsLoads old complete n e
     → IsBegun from own (find (is_of from.0 own) old) old mid → from.0 < n → IsPiece own
     → AllZip (IsNewer complete n ((from, event.Commit (commit.Begin own)) ∷ e)) mid new

@@ -28,9 +28,9 @@ use Rattle.tl_together.specs.statement.Knows.{Knows}
 use Rattle.tl_beat.specs.declared.beat.BeatA.{BeatA}
 use Rattle.tl_commits.specs.code.Reading.{AreTakenBy, IsFresh, IsNoted, IsReadingOf, IsSameFound, IsTaken}
 use Rattle.tl_commits.specs.code.Reading.{IsMet, KnowsReadings, asks_bytes, come, finds, is_of}
-use Rattle.tl_commits.specs.code.ValueTable.{KnowsTable}
-use Rattle.tl_commits.specs.declared.block_values.BlockValues.{BlockValues}
+use Rattle.tl_commits.specs.code.ValueTable.{KnowsTable, Table}
 use Rattle.tl_commits.specs.declared.reading.Reading.{Reading}
+use Rattle.tl_commits.specs.statement.Completeness.{Completeness}
 use Rattle.tl_commits.specs.statement.Events.{Events}
 unfoldable use Rattle.tl_commits.specs.statement.Events.{beats_of}
 unfoldable use Rattle.tl_commits.specs.statement.True.{before_last_seen, may_read_seen}
@@ -38,7 +38,7 @@ use Rattle.tl_events.specs.declared.commit.Commit.{Commit}
 use Rattle.tl_events.specs.declared.commit.Event.TheVariants as event
 
 -- before the trace no access is pending
-pub no-readings : {w : ℕ} (readings : List Reading) (complete : List Bool) (n : ℕ)
+pub no-readings : {w : ℕ} (readings : List Reading) (complete : Completeness) (n : ℕ)
     → KnowsReadings {w = w} readings complete n []
 unfolding beats_of pending_accesses
 no-readings readings complete n link source access pending other = absurd cc
@@ -126,7 +126,7 @@ found-first {X} p (y ∷ xs) ys x found = go (p y) found (found-first p xs ys x)
     go true is more = is
     go false is more = more is
 
-pub readings-more : {w : ℕ} (r : Reading) (old : List Reading) (complete : List Bool) (n : ℕ) (e : Events w)
+pub readings-more : {w : ℕ} (r : Reading) (old : List Reading) (complete : Completeness) (n : ℕ) (e : Events w)
     → KnowsReadings old complete n e → KnowsReadings (old ++ r ∷ []) complete n e
 readings-more r old complete n e k link source access pending other =
     stays (find (is_of link source) old) refl (k link source access pending other)
@@ -165,7 +165,7 @@ met-new old link x z r at fresh =
     either false = refl
 
 -- the one that is left out is of no pending access that isn't a Put
-pub readings-without : {w : ℕ} (link source : ℕ) (old : List Reading) (complete : List Bool) (n : ℕ) (e : Events w)
+pub readings-without : {w : ℕ} (link source : ℕ) (old : List Reading) (complete : Completeness) (n : ℕ) (e : Events w)
     → ((access : Access w) → IsPending link source access (beats_of e) → is_put access.request.opcode ≡ false → ⊥)
     → KnowsReadings old complete n e → KnowsReadings (filter (λ r. not (is_of link source r)) old) complete n e
 readings-without {w} link source old complete n e none k c s access pending other = elim (cases_eq c link) [
@@ -197,14 +197,14 @@ unasked levels width link source t legal lt none access pending other =
 -- ---- a commit
 
 -- no access finds bytes with a commit
-skipped : {w : ℕ} (complete : List Bool) (n : ℕ) (access : Access w) (from : Link) (x : Commit) (e : Events w)
+skipped : {w : ℕ} (complete : Completeness) (n : ℕ) (access : Access w) (from : Link) (x : Commit) (e : Events w)
     (address v : ℕ) → access.asked ≤ length (beats_of e)
     → may_read_seen complete n access e address v
     ≡ may_read_seen complete n access ((from, event.Commit x) ∷ e) address v
 unfolding beats_of may_read_seen
 skipped complete n access from x e address v le = rw (le-leb access.asked (length (beats_of e)) le) refl
 
-skipped-before : {w : ℕ} (complete : List Bool) (n : ℕ) (access : Access w) (from : Link) (x : Commit) (e : Events w)
+skipped-before : {w : ℕ} (complete : Completeness) (n : ℕ) (access : Access w) (from : Link) (x : Commit) (e : Events w)
     (address v link k : ℕ) → access.asked ≤ length (beats_of e)
     → may_read_seen complete n access (before_last_seen link k e) address v
     ≡ may_read_seen complete n access (before_last_seen link k ((from, event.Commit x) ∷ e)) address v
@@ -212,7 +212,7 @@ unfolding before_last_seen
 skipped-before complete n access from x e address v link zero le = skipped complete n access from x e address v le
 skipped-before complete n access from x e address v link (suc k) le = refl
 
-pub readings-commit : {w : ℕ} (readings : List Reading) (complete : List Bool) (n : ℕ) (from : Link) (x : Commit)
+pub readings-commit : {w : ℕ} (readings : List Reading) (complete : Completeness) (n : ℕ) (from : Link) (x : Commit)
     (e : Events w) → KnowsReadings readings complete n e → KnowsReadings readings complete n ((from, event.Commit x) ∷ e)
 unfolding beats_of
 readings-commit {w} readings complete n from x e k link source access pending other =
@@ -242,8 +242,8 @@ readings-commit {w} readings complete n from x e k link source access pending ot
 
 -- ---- all readings, by the judge of beats
 
-pub all-taken : {w : ℕ} (judge : Judge w) (table : List (ℕ × BlockValues)) (link : Link) (x : Beat w) (shown : Option ℕ)
-    (levels : List Level) (l : Liberties) (complete : List Bool) (e : Events w) (old new : List Reading)
+pub all-taken : {w : ℕ} (judge : Judge w) (table : Table) (link : Link) (x : Beat w) (shown : Option ℕ)
+    (levels : List Level) (l : Liberties) (complete : Completeness) (e : Events w) (old new : List Reading)
     → Knows judge levels l ((link, x) ∷ beats_of e) false → link.0 < length levels
     → MayShow shown x (on_link link.0 (beats_of e))
     → KnowsTable table complete (length levels) ((link, event.Beat x) ∷ e)

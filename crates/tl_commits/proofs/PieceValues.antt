@@ -10,20 +10,21 @@ use Rattle.tl_bytes.specs.code.Tellings.{is_written}
 use Rattle.tl_bytes.specs.declared.write.Write.{Write}
 use Rattle.tl_commits.specs.code.BlockValues.{IsLoaded, IsPieceWrite, IsStored, KnowsValues, says_piece}
 use Rattle.tl_commits.specs.code.Tellings.{is_in, with_set}
-use Rattle.tl_commits.specs.code.ValueTable.{IsChanged, IsNext, KnowsKept, KnowsTable, values_in}
+use Rattle.tl_commits.specs.code.ValueTable.{has_own, IsChanged, IsNext, KnowsKept, KnowsTable, Table, values_in}
 use Rattle.tl_commits.specs.declared.block_values.BlockValues.{BlockValues}
 use Rattle.tl_events.specs.declared.commit.Commit.TheVariants as commit
 use Rattle.tl_events.specs.declared.commit.Event.TheVariants as event
 use Rattle.tl_events.specs.declared.commit.Event.{Event}
 use Rattle.tl_events.specs.declared.commit.Piece.{Piece}
 use Rattle.tl_events.specs.statement.CommitLine.{IsPiece}
+use Rattle.tl_commits.specs.statement.Completeness.{Completeness}
 use Rattle.tl_commits.specs.statement.Copies.{brought, is_known, link_beats}
 use Rattle.tl_commits.specs.statement.Events.{Events, is_loading}
 unfoldable use Rattle.tl_commits.specs.statement.Events.{beats_of}
 use Rattle.tl_commits.specs.statement.Seen.{says_byte, Seen, told_now}
 unfoldable use Rattle.tl_commits.specs.statement.Seen.{memory_may, seen}
 use Rattle.tl_commits.proofs.Pieces.{most-bytes}
-use Rattle.tl_commits.proofs.TableJudged.{kept-known, next-put}
+use Rattle.tl_commits.proofs.TableJudged.{kept-known, own-kept, next-put}
 use Rattle.tl_commits.proofs.ValuesJudged.{block-of}
 unfoldable use Rattle.tl_bytes.specs.statement.Known.{tellings_at}
 
@@ -80,7 +81,7 @@ piece-apart piece block p is lt apart =
 
 -- ---- a store
 
-module _ {w : ℕ} (complete : List Bool) (n : ℕ) (link : Link) (piece : Piece) (value : ℕ) (e : Events w) where
+module _ {w : ℕ} (complete : Completeness) (n : ℕ) (link : Link) (piece : Piece) (value : ℕ) (e : Events w) where
   abbrev pub stores : Link × Event w
   stores = (link, event.Commit (commit.Store piece value))
 
@@ -152,31 +153,31 @@ module _ {w : ℕ} (complete : List Bool) (n : ℕ) (link : Link) (piece : Piece
           → seen complete n (64 * block + p) (stores ∷ e) ≡ seen complete n (64 * block + p) e
       same p lt = seen-unstored (64 * block + p) (piece-apart piece block p is lt apart)
 
-  pub next-stored : (entries : List (ℕ × BlockValues)) (v : BlockValues) → IsPiece piece
-      → KnowsTable entries complete n e → is_some (values_in entries (block_at piece.address)) ≡ true
+  pub next-stored : (table : Table) (v : BlockValues) → IsPiece piece
+      → KnowsTable table complete n e → has_own table (block_at piece.address) ≡ true
       → KnowsValues v complete n (block_at piece.address) (stores ∷ e)
-      → IsNext (Some (block_at piece.address, v)) entries complete n stores e
-  next-stored entries v is k there known = (
+      → IsNext (Some (block_at piece.address, v)) table complete n stores e
+  next-stored table v is k there known = (
     there,
     known,
-    λ block apart. kept-stored (values_in entries block) block is apart (k block),
+    λ block apart. kept-stored (values_in table block) block is apart (k block),
   )
 
   -- the values of its block change so
-  pub table-stored : (old new : List (ℕ × BlockValues)) (write : Write) (moment : ℕ) → IsPiece piece
+  pub table-stored : (old new : Table) (write : Write) (moment : ℕ) → IsPiece piece
       → KnowsTable old complete n e → IsPieceWrite write piece value → moment ≡ length (beats_of e)
       → IsChanged (λ v v'. IsStored v v' write moment) (block_at piece.address) old new
       → KnowsTable new complete n (stores ∷ e)
   table-stored old new write moment is k writes now change =
       let block = block_at piece.address in
-      let kept = kept-known old complete n block change.was e k (sym change.there) in
+      let kept = kept-known old complete n block change.was e k (own-kept old block change.was change.there) in
       next-put old new complete n block change.now stores e
       (next-stored old change.now is k (rw change.there refl)
       (values-stored change.was change.now write moment writes change.changes now kept)) change.others
 
 -- ---- a load
 
-module _ {w : ℕ} (complete : List Bool) (n : ℕ) (link : Link) (piece : Piece) (value : ℕ) (e : Events w) where
+module _ {w : ℕ} (complete : Completeness) (n : ℕ) (link : Link) (piece : Piece) (value : ℕ) (e : Events w) where
   abbrev pub loads : Link × Event w
   loads = (link, event.Commit (commit.Load piece value))
 
@@ -207,9 +208,9 @@ module _ {w : ℕ} (complete : List Bool) (n : ℕ) (link : Link) (piece : Piece
   }
 
   -- one that says nothing changes nothing
-  pub table-unsaid : (entries : List (ℕ × BlockValues)) → says_piece complete link.0 piece e ≡ false → IsPiece piece
-      → KnowsTable entries complete n e → KnowsTable entries complete n (loads ∷ e)
-  table-unsaid entries off is k block = kept-unsaid (values_in entries block) block silent (k block)
+  pub table-unsaid : (table : Table) → says_piece complete link.0 piece e ≡ false → IsPiece piece
+      → KnowsTable table complete n e → KnowsTable table complete n (loads ∷ e)
+  table-unsaid table off is k block = kept-unsaid (values_in table block) block silent (k block)
     where
       none : (r l b y : Bool) → (l && y) ≡ false → (r && (l && (b && y))) ≡ false
       none true true true y f = f
@@ -274,18 +275,18 @@ module _ {w : ℕ} (complete : List Bool) (n : ℕ) (link : Link) (piece : Piece
         stays p lt true set = ap (λ (s : Seen). s.stored) (sym (seen-said (here p) (sym (says-place p lt) ∙ set)))
         stays p lt false set = ap (λ (s : Seen). s.stored) (sym (seen-unsaid (here p) (sym (says-place p lt) ∙ set)))
 
-  pub next-loaded : (entries : List (ℕ × BlockValues)) (v : BlockValues) → IsPiece piece
-      → KnowsTable entries complete n e → is_some (values_in entries (block_at piece.address)) ≡ true
+  pub next-loaded : (table : Table) (v : BlockValues) → IsPiece piece
+      → KnowsTable table complete n e → has_own table (block_at piece.address) ≡ true
       → KnowsValues v complete n (block_at piece.address) (loads ∷ e)
-      → IsNext (Some (block_at piece.address, v)) entries complete n loads e
-  next-loaded entries v is k there known = (
+      → IsNext (Some (block_at piece.address, v)) table complete n loads e
+  next-loaded table v is k there known = (
     there,
     known,
-    λ block apart. kept-unsaid (values_in entries block) block
+    λ block apart. kept-unsaid (values_in table block) block
         (λ p lt. rw (piece-apart piece block p is lt apart) refl) (k block),
   )
 
-  pub table-loaded : (old new : List (ℕ × BlockValues)) (places : List Bool) (write : Write) (moment : ℕ) → IsPiece piece
+  pub table-loaded : (old new : Table) (places : List Bool) (write : Write) (moment : ℕ) → IsPiece piece
       → says_piece complete link.0 piece e ≡ true → KnowsTable old complete n e → IsPieceWrite write piece value
       → ((p : ℕ) → p < 64 → is_in places p ≡ (is_written write p
       && not (is_some (brought (64 * block_at piece.address + p) (link_beats link.0 e)))))
@@ -294,7 +295,7 @@ module _ {w : ℕ} (complete : List Bool) (n : ℕ) (link : Link) (piece : Piece
       → KnowsTable new complete n (loads ∷ e)
   table-loaded old new places write moment is on k writes there now change =
       let block = block_at piece.address in
-      let kept = kept-known old complete n block change.was e k (sym change.there) in
+      let kept = kept-known old complete n block change.was e k (own-kept old block change.was change.there) in
       next-put old new complete n block change.now loads e
       (next-loaded old change.now is k (rw change.there refl)
       (values-loaded change.was change.now places write moment on writes there change.changes now kept)) change.others

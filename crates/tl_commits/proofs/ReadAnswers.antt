@@ -27,6 +27,7 @@ use Rattle.std.proofs.lemmas.Bool.{eq-eqb}
 use Rattle.tl_commits.specs.code.Reached.{is_reached}
 use Rattle.tl_commits.specs.code.Reading.{AllowsAs, IsReading, IsReadingOf, KnowsReadings, come, found_by, is_of}
 use Rattle.tl_commits.specs.declared.reading.Reading.{Reading}
+use Rattle.tl_commits.specs.statement.Completeness.{Completeness}
 use Rattle.tl_commits.specs.statement.Copies.{link_beats}
 use Rattle.tl_commits.specs.statement.Events.{Events, beats_of}
 use Rattle.tl_commits.specs.statement.True.{found_after_seen, is_true_seen, may_read_seen}
@@ -35,7 +36,7 @@ use Rattle.tl_commits.proofs.ReadSteps.{own-beats}
 
 module _ {w : ℕ} (levels : List Level) (width : IsWidth w) (link : Link) (z : BeatD w) (e : Events w)
     (legal : AreLegal levels (beats_of e)) (fine : IsLegal levels (link, Beat.D z) (beats_of e))
-    (complete : List Bool) (n : ℕ) (op : z.opcode ≡ OpD.AccessAckData) where
+    (complete : Completeness) (n : ℕ) (op : z.opcode ≡ OpD.AccessAckData) where
   abbrev t : Trace w
   t = beats_of e
 

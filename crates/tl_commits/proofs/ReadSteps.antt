@@ -48,6 +48,7 @@ use Rattle.tl_commits.specs.code.Reading.{answer_beats, come, finds, found_by}
 use Rattle.tl_commits.specs.code.Reading.{is_of, is_open, may_find}
 use Rattle.tl_commits.specs.code.Reading as code
 use Rattle.tl_commits.specs.declared.reading.Reading.{Reading}
+use Rattle.tl_commits.specs.statement.Completeness.{Completeness}
 use Rattle.tl_commits.specs.statement.Events.{Events}
 unfoldable use Rattle.tl_commits.specs.statement.Events.{beats_of}
 use Rattle.tl_commits.specs.statement.True.{found_after_seen, may_find_seen}
@@ -397,7 +398,7 @@ module _ {w : ℕ} (levels : List Level) (width : IsWidth w) (link : Link) (x : 
 
   -- ---- what is found with the beat
 
-  module _ (complete : List Bool) (n : ℕ) where
+  module _ (complete : Completeness) (n : ℕ) where
     -- an access finds bytes with the beat, or found them before
     read-more : (p : Access w) (a v : ℕ) → p.asked ≤ suc (length t)
         → may_read_seen complete n p (b ∷ e) a v

@@ -16,6 +16,7 @@ use Rattle.tl_commits.specs.code.BlockValues.{changed, KnowsValues, memory_told}
 use Rattle.tl_commits.specs.code.Tellings.{is_in}
 use Rattle.tl_commits.specs.declared.block_values.BlockValues.{BlockValues}
 use Rattle.tl_events.specs.declared.commit.Event.TheVariants as event
+use Rattle.tl_commits.specs.statement.Completeness.{Completeness}
 use Rattle.tl_commits.specs.statement.Copies.{link_beats}
 use Rattle.tl_commits.specs.statement.Events.{Events}
 unfoldable use Rattle.tl_commits.specs.statement.Events.{beats_of}
@@ -28,7 +29,7 @@ block-of block p lt = omega (arith, lt)
 pub place-of : (block p : ℕ) → p < 64 → (64 * block + p) % 64 ≡ p
 place-of block p lt = omega (arith, lt)
 
-module _ {w : ℕ} (complete : List Bool) (n block p : ℕ) (x : Link × Beat w) (e : Events w) (lt : p < 64) where
+module _ {w : ℕ} (complete : Completeness) (n block p : ℕ) (x : Link × Beat w) (e : Events w) (lt : p < 64) where
   abbrev pub address : ℕ
   address = 64 * block + p
 
@@ -50,7 +51,11 @@ module _ {w : ℕ} (complete : List Bool) (n block p : ℕ) (x : Link × Beat w)
   -- what was stored is lost
   pub seen-lost : tells block x.1 (link_beats x.0.0 e) ≡ false → before.stored ≡ true
       → loses_stores block x.1 (link_beats x.0.0 e) ≡ true
-      → seen complete n address more ≡ record { values = memory_may n address (beats_of e); stored = false }
+      → seen complete n address more ≡ record {
+        values = memory_may complete.zero n address
+            (beats_of e);
+        stored = false;
+      }
   unfolding seen
   seen-lost quiet stored loses = rw (block-of block p lt, quiet, stored, loses) refl
 
@@ -63,12 +68,14 @@ module _ {w : ℕ} (complete : List Bool) (n block p : ℕ) (x : Link × Beat w)
   seen-kept quiet kept = rw (block-of block p lt, quiet, kept) refl
 
   pub memory-told : tells block x.1 (link_beats x.0.0 e) ≡ true → grants_unread x.1 (link_beats x.0.0 e) ≡ false
-      → memory_may n address (beats_of more) ≡ told_by address x.1 (link_beats x.0.0 e) (length (beats_of e))
+      → memory_may complete.zero n address (beats_of more) ≡ told_by address x.1 (link_beats x.0.0 e)
+      (length (beats_of e))
   unfolding memory_may beats_of
   memory-told on known = rw (block-of block p lt, on, known) refl
 
   pub memory-kept : (tells block x.1 (link_beats x.0.0 e) && not (grants_unread x.1 (link_beats x.0.0 e))) ≡ false
-      → memory_may n address (beats_of more) ≡ after_values n address x (beats_of e) (memory_may n address (beats_of e))
+      → memory_may complete.zero n address (beats_of more) ≡ after_values n address x (beats_of e)
+      (memory_may complete.zero n address (beats_of e))
   unfolding memory_may beats_of
   memory-kept kept = rw (block-of block p lt, kept) refl
 
@@ -89,7 +96,8 @@ plain-change ByteChange.Same n block moment x t other now is = is
 plain-change (ByteChange.Written write standing) n block moment x t other now is = (is.0, λ p lt before. rw now (is.1 p lt before))
 plain-change (ByteChange.Told values unread) n block moment x t other now is = absurd (other values unread refl)
 
-module _ {w : ℕ} (old new : BlockValues) (complete : List Bool) (n block moment : ℕ) (x : Link × Beat w) (e : Events w)
+module _ {w : ℕ} (old new : BlockValues) (complete : Completeness) (n block moment : ℕ) (x : Link × Beat w)
+    (e : Events w)
     (k : KnowsValues old complete n block e) where
   -- a message sets the bytes
   pub values-told : (values : KnownBytes) (unread : Bool) → moment ≡ length (beats_of e)
@@ -112,10 +120,10 @@ module _ {w : ℕ} (old new : BlockValues) (complete : List Bool) (n block momen
 
       memory : (p : ℕ) → p < 64 → (u : Bool) → u ≡ grants_unread x.1 (link_beats x.0.0 e)
           → memory_told values u moment p (tellings_at p old.memory.items)
-          ≡ memory_may n (64 * block + p) (beats_of ((x.0, event.Beat x.1) ∷ e))
+          ≡ memory_may complete.zero n (64 * block + p) (beats_of ((x.0, event.Beat x.1) ∷ e))
       memory p lt true known =
           rw (memory-kept complete n block p x e lt (rw (is.0, ← known) refl))
-          (k.memory_is p lt ∙ sym (is.3 p lt (memory_may n (64 * block + p) (beats_of e))))
+          (k.memory_is p lt ∙ sym (is.3 p lt (memory_may complete.zero n (64 * block + p) (beats_of e))))
       memory p lt false known =
           rw (memory-told complete n block p x e lt is.0 (sym known)) (value p lt)
 
@@ -123,10 +131,10 @@ module _ {w : ℕ} (old new : BlockValues) (complete : List Bool) (n block momen
     memory-plain : ((p : ℕ) → p < 64
         → tellings_at p new.memory.items ≡ changed change moment p (tellings_at p old.memory.items))
         → (p : ℕ) → p < 64 → tellings_at p new.memory.items
-        ≡ memory_may n (64 * block + p) (beats_of ((x.0, event.Beat x.1) ∷ e))
+        ≡ memory_may complete.zero n (64 * block + p) (beats_of ((x.0, event.Beat x.1) ∷ e))
     memory-plain memory_new p lt =
         memory_new p lt ∙ ap (changed change moment p) (k.memory_is p lt)
-        ∙ sym (plain.1 p lt (memory_may n (64 * block + p) (beats_of e)))
+        ∙ sym (plain.1 p lt (memory_may complete.zero n (64 * block + p) (beats_of e)))
         ∙ sym (memory-kept complete n block p x e lt (rw plain.0 refl))
 
     -- none is set, and none that was stored is lost

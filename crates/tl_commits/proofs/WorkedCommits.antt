@@ -22,6 +22,7 @@ use Rattle.tl_together.specs.statement.Coherence.{is_grantable}
 use Rattle.tl_commits.specs.declared.rule.CommitBreach.TheVariants.{OfBeats, OfCommits}
 use Rattle.tl_events.specs.declared.rule.CommitRule.TheVariants.{M5, M6, M7}
 use Rattle.tl_commits.specs.statement.Breaches.{commit_breach_from, first_commit_breach}
+use Rattle.tl_commits.specs.statement.Completeness.{incomplete}
 use Rattle.tl_commits.specs.statement.Events.{beats_of, is_loading, since_begun}
 use Rattle.tl_commits.specs.statement.Seen.{memory_may, seen}
 use Rattle.tl_commits.specs.statement.True.{before_last_seen, may_read_seen}
@@ -184,7 +185,7 @@ unfolding commit_breach_from seen memory_may beats_of is_loading since_begun may
 loaded_back_stale = refl
 
 -- unless the trace doesn't have all stores of the link
-loaded_unrecorded : first_commit_breach {w = 16} two_caches [] no_liberties
+loaded_unrecorded : first_commit_breach {w = 16} two_caches incomplete no_liberties
     (writer (stores 0 0 3 9 ∷ loads 0 0 3 5 ∷ [])) ≡ None
 unfolding commit_breach_from seen memory_may beats_of is_loading since_begun may_read_seen before_last_seen is_free
     is_grantable
@@ -295,7 +296,7 @@ unfolding commit_breach_from seen memory_may beats_of is_loading since_begun may
 loaded_twice_slowly = refl
 
 -- nor one that isn't judged
-loaded_unjudged : first_commit_breach {w = 16} two_caches [] no_liberties
+loaded_unjudged : first_commit_breach {w = 16} two_caches incomplete no_liberties
     (writer (loads 0 0 3 7 ∷ gives_up probe_block ++ beats (acquire 1 0 0 65535 ∷ grant_beat 1 1 0 1 (wide 5) ∷ [])))
     ≡ None
 unfolding commit_breach_from seen memory_may beats_of is_loading since_begun may_read_seen before_last_seen is_free
@@ -328,7 +329,7 @@ unfolding commit_breach_from seen memory_may beats_of is_loading since_begun may
 given_back_stale = refl
 
 -- which nobody knows unless the trace has all stores
-given_back_unrecorded : first_commit_breach {w = 16} two_caches [] no_liberties
+given_back_unrecorded : first_commit_breach {w = 16} two_caches incomplete no_liberties
     (writer (stores 0 0 3 9 ∷ beats (release_beat 0 1 (wide 5) ∷ []))) ≡ None
 unfolding commit_breach_from seen memory_may beats_of is_loading since_begun may_read_seen before_last_seen is_free
     is_grantable
@@ -358,7 +359,7 @@ unfolding commit_breach_from seen memory_may beats_of is_loading since_begun may
 lost_nothing = refl
 
 -- nobody knows
-lost_unrecorded : first_commit_breach {w = 16} two_caches [] no_liberties
+lost_unrecorded : first_commit_breach {w = 16} two_caches incomplete no_liberties
     (writer (stores 0 0 3 9 ∷ gives_up probe_block)) ≡ None
 unfolding commit_breach_from seen memory_may beats_of is_loading since_begun may_read_seen before_last_seen is_free
     is_grantable
@@ -455,7 +456,7 @@ unfolding commit_breach_from seen memory_may beats_of is_loading since_begun may
 dropped_clean = refl
 
 -- a Grant doesn't bring what was stored
-granted_stale : first_commit_breach {w = 16} two_caches [] drops
+granted_stale : first_commit_breach {w = 16} two_caches incomplete drops
     (writer (stores 0 0 3 9 ∷ beats (acquire 0 1 0 65535 ∷ grant_beat 0 0 0 1 (wide 5) ∷ []))) ≡ Some
     (8, OfBeats (OfMemory M2))
 unfolding commit_breach_from seen memory_may beats_of is_loading since_begun may_read_seen before_last_seen is_free

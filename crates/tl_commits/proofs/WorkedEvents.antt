@@ -1,5 +1,5 @@
 -- Events of worked traces: beats of 16 bytes of block 0, and what cores store and load there.
-use Rattle.std.proofs.Common.{ℕ, Bool, refl, true, false, List, [], ◌∷◌, ◌++◌}
+use Rattle.std.proofs.Common.{ℕ, refl, true, false, List, [], ◌∷◌, ◌++◌}
 use Rattle.std.specs.Prelude.{map, None}
 use Rattle.tl_beat.specs.declared.beat.Beat.{Beat}
 use Rattle.tl_beat.specs.declared.beat.Beat.TheVariants as beat
@@ -14,14 +14,15 @@ use Rattle.tl_events.specs.declared.commit.Commit.TheVariants as commit
 use Rattle.tl_events.specs.declared.commit.Event.{Event}
 use Rattle.tl_events.specs.declared.commit.Event.TheVariants as event
 use Rattle.tl_events.specs.declared.commit.Piece.{Piece}
+use Rattle.tl_commits.specs.statement.Completeness.{Completeness, with_stores}
 use Rattle.tl_commits.specs.statement.Events.{Events}
 
 abbrev pub two_caches : List Level
 two_caches = level.C ∷ level.C ∷ []
 
 -- all stores of both links are in the trace
-abbrev pub all_told : List Bool
-all_told = true ∷ true ∷ []
+abbrev pub all_told : Completeness
+all_told = with_stores (true ∷ true ∷ [])
 
 -- beats alone
 abbrev pub beats : {w : ℕ} → Trace w → Events w

@@ -1,6 +1,7 @@
 pub mod Alone
 pub mod Breaches
 pub mod Commits
+pub mod Completeness
 pub mod Copied
 pub mod Copies
 pub mod Events

@@ -1,13 +1,15 @@
 //! The possible values of a block's bytes, by the beats and the commits.
 
-ghost use Rattle.std.specs.Prelude.{ℕ, ◌∷◌, ◌+◌, ◌*◌, ◌<◌, ◌≡◌, Bool, List, length, IfOk, OnErr, OnOk};
+ghost use Rattle.std.specs.Prelude.{ℕ, ◌∷◌, ◌+◌, ◌*◌, ◌<◌, ◌≡◌, length, IfOk, OnErr, OnOk};
 ghost use Rattle.tl_beat.specs.declared.beat.Beat.{Beat};
 ghost use Rattle.tl_beat.specs.declared.beat.Link.{Link};
 ghost use Rattle.tl_bytes.specs.code.Tellings.{with_write};
 ghost use Rattle.tl_bytes.specs.statement.Known.{tellings_at};
+ghost use Rattle.tl_bytes.specs.statement.KnownBytes.{known_at};
 ghost use Rattle.tl_commits.specs.code.BlockValues as code;
-ghost use Rattle.tl_commits.specs.code.BlockValues.{AreFirst, KnowsValues};
+ghost use Rattle.tl_commits.specs.code.BlockValues.{AreFirst, AreSame, KnowsValues};
 ghost use Rattle.tl_events.specs.declared.commit.Event.TheVariants as event;
+ghost use Rattle.tl_commits.specs.statement.Completeness.{Completeness, first_value};
 ghost use Rattle.tl_commits.specs.statement.Commits;
 ghost use Rattle.tl_commits.specs.statement.Copies.{link_beats};
 ghost use Rattle.tl_commits.specs.statement.Events.{Events, beats_of};
@@ -50,15 +52,40 @@ fn changed(
     }
 }
 
+/// The bytes of a block before the trace: zero, or none that is known.
+fn first_bytes(zero: bool) -> KnownBytes
+    ensures { (place : ℕ) → place < 64 → known_at result place ≡ first_value zero }
+{
+    if zero {
+        return KnownBytes::all(&[0; 64]);
+    }
+    KnownBytes::none()
+}
+
 impl BlockValues {
-    /// A block before the trace: its bytes may have any value. The error means that there is no memory left.
-    pub fn new(alloc: Global) -> Result<Self, AllocError>
-        ensures { IfOk result AreFirst }
+    /// A block before the trace: its bytes are zero, or may have any value. The error means that there is no memory
+    /// left.
+    pub fn new(alloc: Global, zero: bool) -> Result<Self, AllocError>
+        ensures { IfOk result (AreFirst zero) }
     {
+        let first = first_bytes(zero);
         Ok(BlockValues {
-            seen: told(alloc, &KnownBytes::none(), 0)?,
+            seen: told(alloc, &first, 0)?,
             stored: [false; 64],
-            memory: told(alloc, &KnownBytes::none(), 0)?,
+            memory: told(alloc, &first, 0)?,
+        })
+    }
+
+    /// A copy of these values. The error means that there is no memory left.
+    pub(crate) fn copied(&self, alloc: Global) -> Result<Self, AllocError>
+        ensures { IfOk result (AreSame self.now) }
+    {
+        let seen = Vec::from_slice(alloc, self.seen.as_slice())?;
+        let memory = Vec::from_slice(alloc, self.memory.as_slice())?;
+        Ok(BlockValues {
+            seen,
+            stored: self.stored,
+            memory,
         })
     }
 
@@ -89,7 +116,7 @@ impl BlockValues {
         loses: bool,
         moment: u64,
     ) -> Result<Self, AllocError>
-        ensures { IfOk result (λ v. (w : ℕ) (complete : List Bool) (n block : ℕ) (x : Link × Beat w) (e : Events w) →
+        ensures { IfOk result (λ v. (w : ℕ) (complete : Completeness) (n block : ℕ) (x : Link × Beat w) (e : Events w) →
             KnowsValues self.now complete n block e → IsByteChange change.now n block x (beats_of e) →
             loses ≡ seen.loses_stores block x.1 (link_beats x.0.0 e) → moment ≡ length (beats_of e) →
             KnowsValues v complete n block ((x.0, event.Beat x.1) ∷ e)) }
@@ -148,7 +175,7 @@ impl BlockValues {
 
     /// Whether the byte at a place may have a value that memory may have, if it was stored.
     pub fn is_kept(&self, place: u8) -> bool
-        ensures { (w : ℕ) (complete : List Bool) (n block : ℕ) (e : Events w) →
+        ensures { (w : ℕ) (complete : Completeness) (n block : ℕ) (e : Events w) →
             KnowsValues self.now complete n block e → place < 64 →
             result ≡ Commits.is_kept complete n (64 * block + place) e }
     {
@@ -158,7 +185,7 @@ impl BlockValues {
 
     /// Whether each byte that was stored may have a value that memory may have.
     pub fn is_clean(&self) -> bool
-        ensures { (w : ℕ) (complete : List Bool) (n block : ℕ) (e : Events w) →
+        ensures { (w : ℕ) (complete : Completeness) (n block : ℕ) (e : Events w) →
             KnowsValues self.now complete n block e → result ≡ Commits.is_clean complete n block e }
     {
         let mut all = true;

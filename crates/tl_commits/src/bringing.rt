@@ -1,6 +1,6 @@
 //! The bytes that a load may bring now.
 
-ghost use Rattle.std.specs.Prelude.{ℕ, false, Bool, List, ◌+◌, ◌*◌, ◌%◌, ◌<◌, ◌≡◌, ◌||◌, length};
+ghost use Rattle.std.specs.Prelude.{ℕ, false, List, ◌+◌, ◌*◌, ◌%◌, ◌<◌, ◌≡◌, ◌||◌, length};
 ghost use Rattle.tl_beat.specs.statement.Width.{IsWidth};
 ghost use Rattle.tl_params.specs.declared.level.Level.{Level};
 ghost use Rattle.tl_params.specs.declared.liberties.Liberties.{Liberties};
@@ -10,8 +10,9 @@ ghost use Rattle.tl_memory.specs.statement.Links.{KnowsMessages};
 ghost use Rattle.tl_memory.specs.code.ByteSet.{has, has_at};
 ghost use Rattle.tl_commits.specs.code.Filling.{filled};
 ghost use Rattle.tl_commits.specs.code.ValueTable.{KnowsTable};
+ghost use Rattle.tl_commits.specs.statement.Completeness.{Completeness, is_complete};
 ghost use Rattle.tl_commits.specs.statement.Commits;
-ghost use Rattle.tl_commits.specs.statement.Copies.{brought, holds, is_complete, link_beats};
+ghost use Rattle.tl_commits.specs.statement.Copies.{brought, holds, link_beats};
 ghost use Rattle.tl_commits.specs.statement.Events.{Events, beats_of};
 
 use crate::copies::has_brought_at;
@@ -43,7 +44,7 @@ fn with_held<const W: usize>(
     address: u32,
     sets: [ByteSet; 8],
 ) -> [ByteSet; 8]
-    ensures { (levels : List Level) (l : Liberties) (of_links : List Bool) (e : Events W) →
+    ensures { (levels : List Level) (l : Liberties) (of_links : Completeness) (e : Events W) →
         Knows judge.now levels l (beats_of e) false → link.0 < length levels →
         KnowsTable table.now of_links (length levels) e → complete ≡ is_complete of_links link.0 →
         (i v : ℕ) → i < 8 → address % 64 + i < 64 → v < 256 → has_at result i v
@@ -110,7 +111,7 @@ pub(crate) fn with_brought<const W: usize>(
     sets: [ByteSet; 8],
 ) -> [ByteSet; 8]
     requires { IsWidth W }
-    ensures { (levels : List Level) (l : Liberties) (of_links : List Bool) (e : Events W) →
+    ensures { (levels : List Level) (l : Liberties) (of_links : Completeness) (e : Events W) →
         Knows judge.now levels l (beats_of e) false → link.0 < length levels →
         KnowsTable table.now of_links (length levels) e → complete ≡ is_complete of_links link.0 →
         (i v : ℕ) → i < 8 → address % 64 + i < 64 → v < 256 → has_at result i v

@@ -1,6 +1,6 @@
 //! Whether a cache's copy of a block is coming or leaving, by the unfinished messages of its link.
 
-ghost use Rattle.std.specs.Prelude.{ℕ, ◌≡◌, ◌<◌, ◌+◌, ◌*◌, is_some};
+ghost use Rattle.std.specs.Prelude.{ℕ, false, ◌≡◌, ◌<◌, ◌+◌, ◌*◌, is_some, slice_index_or};
 ghost use Rattle.tl_beat.specs.declared.channel.Channel.TheVariants as channel;
 ghost use Rattle.tl_beat.specs.statement.Width.{IsWidth};
 ghost use Rattle.tl_burst.specs.statement.Messages.{History, unfinished};
@@ -17,7 +17,7 @@ use tl_rules::kind::is_release;
 
 /// Whether all stores of a link are in the trace.
 pub(crate) fn is_complete(complete: &Vec<bool>, link: Link) -> bool
-    ensures { result ≡ Copies.is_complete complete.now.items link.0 }
+    ensures { result ≡ slice_index_or complete.now.items link.0 false }
 {
     match complete.get(usize::from(link.0)) {
         Some(complete) => *complete,

@@ -1,6 +1,6 @@
 //! Reports that give back the bytes of a block.
 
-ghost use Rattle.std.specs.Prelude.{ℕ, false, Bool, List, ◌+◌, ◌*◌, ◌<◌, ◌≤◌, ◌≡◌, length, option_copied};
+ghost use Rattle.std.specs.Prelude.{ℕ, false, List, ◌+◌, ◌*◌, ◌<◌, ◌≤◌, ◌≡◌, length, option_copied};
 ghost use Rattle.tl_beat.specs.declared.beat.Beat.TheVariants as beat;
 ghost use Rattle.tl_beat.specs.statement.Width.{IsWidth};
 ghost use Rattle.tl_bytes.specs.statement.Bytes.{each_from};
@@ -10,8 +10,9 @@ ghost use Rattle.tl_params.specs.declared.liberties.Liberties.{Liberties};
 ghost use Rattle.tl_together.specs.statement.Knows.{Knows};
 ghost use Rattle.tl_commits.specs.code.GivingBack.{IsCarrier};
 ghost use Rattle.tl_commits.specs.code.ValueTable.{KnowsTable};
+ghost use Rattle.tl_commits.specs.statement.Completeness.{Completeness, is_complete};
 ghost use Rattle.tl_commits.specs.statement.Commits;
-ghost use Rattle.tl_commits.specs.statement.Copies.{is_complete, link_beats};
+ghost use Rattle.tl_commits.specs.statement.Copies.{link_beats};
 ghost use Rattle.tl_commits.specs.statement.Events.{Events, beats_of};
 
 use crate::copies::has_brought_at;
@@ -43,7 +44,7 @@ fn may_give<const W: usize>(
     byte: u8,
 ) -> bool
     requires { IsWidth W }
-    ensures { (complete : List Bool) (n link : ℕ) (e : Events W) → KnowsTable table.now complete n e →
+    ensures { (complete : Completeness) (n link : ℕ) (e : Events W) → KnowsTable table.now complete n e →
         KnowsMessages messages.now (link_beats link e) → place < 64 →
         result ≡ Commits.may_give complete n link e (64 * block + place) byte }
 {
@@ -62,7 +63,7 @@ fn gives_each<const W: usize>(
     lanes: &[u8; W],
 ) -> bool
     requires { IsWidth W }
-    ensures { (complete : List Bool) (n link : ℕ) (e : Events W) → KnowsTable table.now complete n e →
+    ensures { (complete : Completeness) (n link : ℕ) (e : Events W) → KnowsTable table.now complete n e →
         KnowsMessages messages.now (link_beats link e) → first + W ≤ 64 →
         result ≡ each_from (Commits.may_give complete n link e) (64 * block + first) lanes.now }
 {
@@ -85,7 +86,7 @@ pub(crate) fn gives_truly<const W: usize>(
     x: &BeatC<W>,
 ) -> bool
     requires { IsWidth W }
-    ensures { (levels : List Level) (l : Liberties) (of_links : List Bool) (e : Events W) →
+    ensures { (levels : List Level) (l : Liberties) (of_links : Completeness) (e : Events W) →
         Knows judge.now levels l (beats_of e) false → KeepsRules l levels (link, beat.C x.now) (beats_of e) →
         KnowsTable table.now of_links (length levels) e → complete ≡ is_complete of_links link.0 →
         result ≡ Commits.gives_truly of_links (length levels) link.0 x.now e }

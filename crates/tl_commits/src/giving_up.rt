@@ -1,6 +1,6 @@
 //! Beats that take Trunk of a block away without data.
 
-ghost use Rattle.std.specs.Prelude.{Bool, List, false, not, None, Some, ◌≡◌, ◌<◌, ◌&&◌, if◌then◌else◌, length};
+ghost use Rattle.std.specs.Prelude.{List, false, not, None, Some, ◌≡◌, ◌<◌, ◌&&◌, if◌then◌else◌, length};
 ghost use Rattle.tl_beat.specs.declared.beat.Beat.TheVariants as beat;
 ghost use Rattle.tl_params.specs.declared.level.Level.{Level};
 ghost use Rattle.tl_params.specs.declared.liberties.Liberties.{Liberties};
@@ -9,6 +9,7 @@ ghost use Rattle.tl_rules.specs.statement.Conformance.{same_perm};
 ghost use Rattle.tl_together.specs.statement.Knows.{Knows};
 ghost use Rattle.tl_commits.specs.code.GivingUp as code;
 ghost use Rattle.tl_commits.specs.code.ValueTable.{KnowsTable};
+ghost use Rattle.tl_commits.specs.statement.Completeness.{Completeness, is_complete};
 ghost use Rattle.tl_commits.specs.statement.Commits;
 ghost use Rattle.tl_commits.specs.statement.Copies;
 ghost use Rattle.tl_commits.specs.statement.Copies.{link_beats};
@@ -131,9 +132,9 @@ pub(crate) fn keeps_stores<const W: usize>(
     link: Link,
     beat: &Beat<W>,
 ) -> bool
-    ensures { (levels : List Level) (l : Liberties) (of_links : List Bool) (e : Events W) →
+    ensures { (levels : List Level) (l : Liberties) (of_links : Completeness) (e : Events W) →
         Knows judge.now levels l (beats_of e) false → link.0 < length levels →
-        KnowsTable table.now of_links (length levels) e → complete ≡ Copies.is_complete of_links link.0 →
+        KnowsTable table.now of_links (length levels) e → complete ≡ is_complete of_links link.0 →
         result ≡ Commits.keeps_stores of_links (length levels) link.0
         (Commits.takes_trunk beat.now (link_beats link.0 e)) e }
 {

@@ -1,6 +1,7 @@
 //! The bytes that Grants may bring, by the beats and the commits.
 
-ghost use Rattle.std.specs.Prelude.{ℕ, true, false, Bool, List, Some, ◌+◌, ◌*◌, ◌<◌, ◌≤◌, ◌≡◌, length, option_copied, option_map};
+ghost use Rattle.std.specs.Prelude.{ℕ, true, false, List, Some, ◌+◌, ◌*◌, ◌<◌, ◌≤◌, ◌≡◌, length, option_copied};
+ghost use Rattle.std.specs.Prelude.{option_map};
 ghost use Rattle.std.specs.Prelude.{IfOk, OnOk};
 ghost use Rattle.tl_beat.specs.declared.beat.Beat.TheVariants as beat;
 ghost use Rattle.tl_beat.specs.declared.opcode.OpD.TheVariants as d;
@@ -13,6 +14,7 @@ ghost use Rattle.tl_together.specs.statement.Knows.{Knows};
 ghost use Rattle.tl_commits.specs.code.Granting as code;
 ghost use Rattle.tl_commits.specs.code.Granting.{AreMet, IsGranter, KnowsGrant, KnowsGrantOf, KnowsGrants};
 ghost use Rattle.tl_commits.specs.code.ValueTable.{KnowsTable};
+ghost use Rattle.tl_commits.specs.statement.Completeness.{Completeness};
 ghost use Rattle.tl_commits.specs.statement.Events.{Events, beats_of};
 ghost use Rattle.tl_commits.specs.statement.True.{is_true_seen, may_grant_seen};
 
@@ -81,7 +83,7 @@ impl GrantBytes {
 
     /// Whether a Grant may bring each of these bytes, from a place on.
     fn may_bring_each<const W: usize>(&self, first: usize, lanes: &[u8; W]) -> bool
-        ensures { (w : ℕ) (complete : List Bool) (n block : ℕ) (e : Events w) →
+        ensures { (w : ℕ) (complete : Completeness) (n block : ℕ) (e : Events w) →
             KnowsGrant self.now complete n block e → first + W ≤ 64 →
             result ≡ each_from (may_grant_seen complete n e) (64 * block + first) lanes.now }
     {
@@ -96,7 +98,7 @@ impl GrantBytes {
     /// Whether the bytes of a beat of the Grant may be granted.
     fn grants_truly<const W: usize>(&self, judge: &Judge<W>, link: Link, x: &BeatD<W>) -> bool
         requires { IsWidth W }
-        ensures { (levels : List Level) (l : Liberties) (complete : List Bool) (e : Events W) →
+        ensures { (levels : List Level) (l : Liberties) (complete : Completeness) (e : Events W) →
             Knows judge.now levels l (beats_of e) false → KeepsRules l levels (link, beat.D x.now) (beats_of e) →
             KnowsGrantOf self.now complete (length levels) link.0 x.now e → x.now.opcode ≡ d.GrantData →
             result ≡ is_true_seen complete d.GrantData (length levels) link.0 x.now e }
@@ -146,7 +148,7 @@ fn granted_now<const W: usize>(
     table: &ValueTable,
     block: u32,
 ) -> Result<GrantBytes, AllocError>
-    ensures { IfOk result (λ granted. (levels : List Level) (l : Liberties) (complete : List Bool) (e : Events W) →
+    ensures { IfOk result (λ granted. (levels : List Level) (l : Liberties) (complete : Completeness) (e : Events W) →
         Knows judge.now levels l (beats_of e) false → KnowsTable table.now complete (length levels) e →
         KnowsGrant granted complete (length levels) block e) }
 {
@@ -165,10 +167,10 @@ pub(crate) fn meet_grant<const W: usize>(
     link: Link,
     beat: &Beat<W>,
 ) -> Result<(), AllocError>
-    ensures knows { (levels : List Level) (l : Liberties) (complete : List Bool) (e : Events W) →
+    ensures knows { (levels : List Level) (l : Liberties) (complete : Completeness) (e : Events W) →
         Knows judge.now levels l (beats_of e) false → KnowsGrants grants.old.items complete (length levels) e →
         KnowsGrants grants.new.items complete (length levels) e }
-    ensures met { OnOk result ((levels : List Level) (l : Liberties) (complete : List Bool) (e : Events W) →
+    ensures met { OnOk result ((levels : List Level) (l : Liberties) (complete : Completeness) (e : Events W) →
         Knows judge.now levels l (beats_of e) false → KeepsRules l levels (link, beat.now) (beats_of e) →
         KnowsTable table.now complete (length levels) e → KnowsGrants grants.old.items complete (length levels) e →
         AreMet grants.new.items complete (length levels) link.0 beat.now e) }
@@ -198,7 +200,7 @@ pub(crate) fn grants_truly<const W: usize>(
     beat: &Beat<W>,
 ) -> bool
     requires { IsWidth W }
-    ensures { (levels : List Level) (l : Liberties) (complete : List Bool) (e : Events W) →
+    ensures { (levels : List Level) (l : Liberties) (complete : Completeness) (e : Events W) →
         Knows judge.now levels l (beats_of e) false → KeepsRules l levels (link, beat.now) (beats_of e) →
         length grants.now.items ≡ length levels →
         AreMet grants.now.items complete (length levels) link.0 beat.now e →

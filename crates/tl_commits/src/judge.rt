@@ -1,6 +1,7 @@
 //! A judge of beats and commits.
 
-ghost use Rattle.std.specs.Prelude.{ℕ, Bool, List, ◌∷◌, None, Some, Err, OnErr, OnOk, ◌≡◌, ◌<◌, if◌then◌else◌, length, slice_get};
+ghost use Rattle.std.specs.Prelude.{ℕ, List, ◌∷◌, None, Some, Err, OnErr, OnOk, ◌≡◌, ◌<◌, if◌then◌else◌, length};
+ghost use Rattle.std.specs.Prelude.{slice_get};
 ghost use Rattle.tl_beat.specs.declared.beat.Beat.{Beat};
 ghost use Rattle.tl_beat.specs.declared.beat.Link.{Link};
 ghost use Rattle.tl_beat.specs.statement.Width.{IsWidth};
@@ -15,6 +16,7 @@ ghost use Rattle.tl_events.specs.declared.commit.Event.{Event};
 ghost use Rattle.tl_events.specs.declared.rule.CommitRule.TheVariants.{M6, M7};
 ghost use Rattle.tl_commits.specs.code.Granting.{AreMet};
 ghost use Rattle.tl_commits.specs.code.Reading.{IsMet};
+ghost use Rattle.tl_commits.specs.statement.Completeness.{Completeness};
 ghost use Rattle.tl_commits.specs.statement.Breaches.{breach_of, broken_event, has_cache};
 ghost use Rattle.tl_events.specs.statement.CommitLine.{IsCommit, IsPiece};
 ghost use Rattle.tl_commits.specs.statement.Commits;
@@ -99,15 +101,17 @@ impl<const W: usize> CommitJudge<W> {
     ghost use Rattle.tl_commits.specs.statement.Knows.{IsEvent, IsNew, KnowsCommits};
 
     /// A judge of links of these levels and with these liberties, which has seen no event. `complete` says for each link
-    /// whether all its stores will be in the trace. The error is `Levels` unless there are 1 to 16 levels, or `Memory`.
+    /// whether all its stores will be in the trace, and `zero` whether memory was zero before it. The error is `Levels`
+    /// unless there are 1 to 16 levels, or `Memory`.
     pub fn with_liberties(
         alloc: Global,
         levels: &[Level],
         complete: &[bool],
+        zero: bool,
         liberties: Liberties,
     ) -> Result<Self, CommitFault>
         requires { IsWidth W }
-        ensures { IsNew levels.now complete.now liberties result }
+        ensures { IsNew levels.now (record { stores = complete.now; zero = zero }) liberties result }
     {
         let judge = match Judge::with_liberties(alloc, levels, liberties) {
             Ok(judge) => judge,
@@ -123,13 +127,16 @@ impl<const W: usize> CommitJudge<W> {
         let Ok(grants) = any_grants(alloc, levels.len()) else {
             return Err(CommitFault::Memory);
         };
+        let Ok(values) = ValueTable::new(alloc, zero) else {
+            return Err(CommitFault::Memory);
+        };
         Ok(CommitJudge {
             alloc,
             judge,
             levels,
             complete,
             loads: Vec::new(alloc),
-            values: ValueTable::new(alloc),
+            values,
             grants,
             readings: Vec::new(alloc),
         })
@@ -138,7 +145,7 @@ impl<const W: usize> CommitJudge<W> {
     /// M7, if a beat breaks it.
     fn broken_report(&self, link: Link, beat: &Beat<W>) -> Option<CommitRule>
         requires { IsWidth W }
-        ensures { (levels : List Level) (complete : List Bool) (l : Liberties) (e : Events W) →
+        ensures { (levels : List Level) (complete : Completeness) (l : Liberties) (e : Events W) →
             KnowsCommits self.now levels complete l e → KeepsRules l levels (link, beat.now) (beats_of e) →
             result ≡ Commits.broken_report complete (length levels) link.0 beat.now e }
     {
@@ -153,10 +160,10 @@ impl<const W: usize> CommitJudge<W> {
     /// stays true.
     fn refused(&mut self, other: CommitBreach, link: Link, beat: &Beat<W>) -> CommitFault
         requires { IsWidth W }
-        ensures answer { (levels : List Level) (complete : List Bool) (l : Liberties) (e : Events W) →
+        ensures answer { (levels : List Level) (complete : Completeness) (l : Liberties) (e : Events W) →
             KnowsCommits self.old levels complete l e →
             Answers (code.breach_or (broken_together levels l (link, beat.now) (beats_of e)) other) (Err result) }
-        ensures knows { (levels : List Level) (complete : List Bool) (l : Liberties) (e : Events W) →
+        ensures knows { (levels : List Level) (complete : Completeness) (l : Liberties) (e : Events W) →
             KnowsCommits self.old levels complete l e → KnowsCommits self.new levels complete l e }
     {
         match self.judge.broken(link, beat) {
@@ -169,9 +176,9 @@ impl<const W: usize> CommitJudge<W> {
     /// Keeps the bytes that a GrantData may bring, if one begins with a beat, and makes a reading, if the beat is of a Get or an
     /// atomic. The error means that there is no memory left. All that is known stays true in either case.
     fn meet(&mut self, link: Link, beat: &Beat<W>) -> Result<(), AllocError>
-        ensures knows { (levels : List Level) (complete : List Bool) (l : Liberties) (e : Events W) →
+        ensures knows { (levels : List Level) (complete : Completeness) (l : Liberties) (e : Events W) →
             KnowsCommits self.old levels complete l e → KnowsCommits self.new levels complete l e }
-        ensures met { OnOk result ((levels : List Level) (complete : List Bool) (l : Liberties) (e : Events W) →
+        ensures met { OnOk result ((levels : List Level) (complete : Completeness) (l : Liberties) (e : Events W) →
             KnowsCommits self.old levels complete l e → KeepsRules l levels (link, beat.now) (beats_of e) →
             AreMet self.new.grants.items complete (length levels) link.0 beat.now e) }
         ensures read { OnOk result (IsMet self.new.readings.items link.0 beat.now) }
@@ -184,7 +191,7 @@ impl<const W: usize> CommitJudge<W> {
     /// M2 or M3, if the bytes of a beat break it.
     fn broken_bytes(&self, link: Link, beat: &Beat<W>) -> Option<MemoryRule>
         requires { IsWidth W }
-        ensures { (levels : List Level) (complete : List Bool) (l : Liberties) (e : Events W) →
+        ensures { (levels : List Level) (complete : Completeness) (l : Liberties) (e : Events W) →
             KnowsCommits self.now levels complete l e → KeepsRules l levels (link, beat.now) (beats_of e) →
             AreMet self.now.grants.items complete (length levels) link.0 beat.now e →
             result ≡ code.broken_bytes complete (length levels) link.0 beat.now e }
@@ -212,10 +219,10 @@ impl<const W: usize> CommitJudge<W> {
     /// Judges a beat, and takes it if it breaks no rule.
     fn take_beat(&mut self, link: Link, beat: &Beat<W>) -> Result<(), CommitFault>
         requires { IsWidth W }
-        ensures answer { (levels : List Level) (complete : List Bool) (l : Liberties) (e : Events W) →
+        ensures answer { (levels : List Level) (complete : Completeness) (l : Liberties) (e : Events W) →
             KnowsCommits self.old levels complete l e →
             Answers (broken_event levels complete l link (event.Beat beat.now) e) result }
-        ensures knows { (levels : List Level) (complete : List Bool) (l : Liberties) (e : Events W) →
+        ensures knows { (levels : List Level) (complete : Completeness) (l : Liberties) (e : Events W) →
             KnowsCommits self.old levels complete l e →
             KnowsCommits self.new levels complete l (recorded_after result (link, event.Beat beat.now) e) }
     {
@@ -246,10 +253,10 @@ impl<const W: usize> CommitJudge<W> {
     /// Judges a store, and takes it if it breaks no rule.
     fn take_store(&mut self, link: Link, piece: Piece, value: u64) -> Result<(), CommitFault>
         requires { IsWidth W }
-        ensures answer { (levels : List Level) (complete : List Bool) (l : Liberties) (e : Events W) →
+        ensures answer { (levels : List Level) (complete : Completeness) (l : Liberties) (e : Events W) →
             KnowsCommits self.old levels complete l e → link.0 < length levels →
             Answers (breach_of None (Commits.broken_store link.0 piece e)) result }
-        ensures knows { (levels : List Level) (complete : List Bool) (l : Liberties) (e : Events W) →
+        ensures knows { (levels : List Level) (complete : Completeness) (l : Liberties) (e : Events W) →
             KnowsCommits self.old levels complete l e → link.0 < length levels → IsPiece piece →
             KnowsCommits self.new levels complete l
             (recorded_after result (link, event.Commit (commit.Store piece value)) e) }
@@ -267,7 +274,7 @@ impl<const W: usize> CommitJudge<W> {
 
     /// Whether a load of a piece says bytes of its link's copy.
     fn says_piece(&self, link: Link, piece: Piece) -> bool
-        ensures { (levels : List Level) (complete : List Bool) (l : Liberties) (e : Events W) →
+        ensures { (levels : List Level) (complete : Completeness) (l : Liberties) (e : Events W) →
             KnowsCommits self.now levels complete l e → link.0 < length levels →
             result ≡ says_piece complete link.0 piece e }
     {
@@ -280,7 +287,7 @@ impl<const W: usize> CommitJudge<W> {
     /// The rule that a load breaks: M5 or M6.
     fn broken_load(&self, link: Link, piece: Piece, value: u64) -> Option<CommitRule>
         requires { IsWidth W }
-        ensures { (levels : List Level) (complete : List Bool) (l : Liberties) (e : Events W) →
+        ensures { (levels : List Level) (complete : Completeness) (l : Liberties) (e : Events W) →
             KnowsCommits self.now levels complete l e → link.0 < length levels → IsPiece piece →
             result ≡ Commits.broken_load complete (length levels) link.0 piece value e }
     {
@@ -295,10 +302,10 @@ impl<const W: usize> CommitJudge<W> {
     /// Judges a load, and takes it if it breaks no rule.
     fn take_load(&mut self, link: Link, piece: Piece, value: u64) -> Result<(), CommitFault>
         requires { IsWidth W }
-        ensures answer { (levels : List Level) (complete : List Bool) (l : Liberties) (e : Events W) →
+        ensures answer { (levels : List Level) (complete : Completeness) (l : Liberties) (e : Events W) →
             KnowsCommits self.old levels complete l e → link.0 < length levels → IsPiece piece →
             Answers (breach_of None (Commits.broken_load complete (length levels) link.0 piece value e)) result }
-        ensures knows { (levels : List Level) (complete : List Bool) (l : Liberties) (e : Events W) →
+        ensures knows { (levels : List Level) (complete : Completeness) (l : Liberties) (e : Events W) →
             KnowsCommits self.old levels complete l e → link.0 < length levels → IsPiece piece →
             KnowsCommits self.new levels complete l
             (recorded_after result (link, event.Commit (commit.Load piece value)) e) }
@@ -319,9 +326,9 @@ impl<const W: usize> CommitJudge<W> {
     fn load_values(&mut self, link: Link, piece: Piece, value: u64) -> Result<(), AllocError>
         requires { IsWidth W }
         ensures same { code.IsSameBut self.old self.new }
-        ensures kept { OnErr result ((complete : List Bool) (n : ℕ) (e : Events W) →
+        ensures kept { OnErr result ((complete : Completeness) (n : ℕ) (e : Events W) →
             KnowsTable self.old.values complete n e → KnowsTable self.new.values complete n e) }
-        ensures loaded { OnOk result ((levels : List Level) (complete : List Bool) (l : Liberties) (e : Events W) →
+        ensures loaded { OnOk result ((levels : List Level) (complete : Completeness) (l : Liberties) (e : Events W) →
             KnowsCommits self.old levels complete l e → link.0 < length levels → IsPiece piece →
             KnowsTable self.new.values complete (length levels)
             ((link, event.Commit (commit.Load piece value)) ∷ e)) }
@@ -343,7 +350,7 @@ impl<const W: usize> CommitJudge<W> {
     fn take_begin(&mut self, link: Link, piece: Piece) -> Result<(), CommitFault>
         requires { IsWidth W }
         ensures answer { Answers None result }
-        ensures knows { (levels : List Level) (complete : List Bool) (l : Liberties) (e : Events W) →
+        ensures knows { (levels : List Level) (complete : Completeness) (l : Liberties) (e : Events W) →
             KnowsCommits self.old levels complete l e → link.0 < length levels → IsPiece piece →
             KnowsCommits self.new levels complete l (recorded_after result (link, event.Commit (commit.Begin piece)) e) }
     {
@@ -357,10 +364,10 @@ impl<const W: usize> CommitJudge<W> {
     /// Judges a commit, and takes it if it breaks no rule.
     fn take_commit(&mut self, link: Link, commit: Commit) -> Result<(), CommitFault>
         requires { IsWidth W }
-        ensures answer { (levels : List Level) (complete : List Bool) (l : Liberties) (e : Events W) →
+        ensures answer { (levels : List Level) (complete : Completeness) (l : Liberties) (e : Events W) →
             KnowsCommits self.old levels complete l e → IsCommit commit →
             Answers (broken_event levels complete l link (event.Commit commit) e) result }
-        ensures knows { (levels : List Level) (complete : List Bool) (l : Liberties) (e : Events W) →
+        ensures knows { (levels : List Level) (complete : Completeness) (l : Liberties) (e : Events W) →
             KnowsCommits self.old levels complete l e → IsCommit commit →
             KnowsCommits self.new levels complete l (recorded_after result (link, event.Commit commit) e) }
     {
@@ -379,10 +386,10 @@ impl<const W: usize> CommitJudge<W> {
     /// on.
     pub fn try_push(&mut self, link: Link, event: &Event<W>) -> Result<(), CommitFault>
         requires { IsWidth W }
-        ensures answer { (levels : List Level) (complete : List Bool) (l : Liberties) (e : Events W) →
+        ensures answer { (levels : List Level) (complete : Completeness) (l : Liberties) (e : Events W) →
             KnowsCommits self.old levels complete l e → IsEvent event.now →
             Answers (broken_event levels complete l link event.now e) result }
-        ensures knows { (levels : List Level) (complete : List Bool) (l : Liberties) (e : Events W) →
+        ensures knows { (levels : List Level) (complete : Completeness) (l : Liberties) (e : Events W) →
             KnowsCommits self.old levels complete l e → IsEvent event.now →
             KnowsCommits self.new levels complete l (recorded_after result (link, event.now) e) }
     {

@@ -1,6 +1,6 @@
 //! The values of a block after a beat.
 
-ghost use Rattle.std.specs.Prelude.{ℕ, true, false, Bool, List, Some, ◌≡◌, ◌<◌, length, IfOk};
+ghost use Rattle.std.specs.Prelude.{ℕ, true, false, List, Some, ◌≡◌, ◌<◌, length, IfOk};
 ghost use Rattle.tl_beat.specs.statement.Width.{IsWidth};
 ghost use Rattle.tl_memory.specs.code.Elsewhere.{block_borne};
 ghost use Rattle.tl_memory.specs.declared.byte_change.ByteChange.TheVariants as changes;
@@ -10,6 +10,7 @@ ghost use Rattle.tl_params.specs.declared.liberties.Liberties.{Liberties};
 ghost use Rattle.tl_together.specs.statement.Knows.{Knows};
 ghost use Rattle.tl_commits.specs.code.ValueTable.{IsNext, KnowsTable};
 ghost use Rattle.tl_events.specs.declared.commit.Event.TheVariants as event;
+ghost use Rattle.tl_commits.specs.statement.Completeness.{Completeness};
 ghost use Rattle.tl_commits.specs.statement.Copies.{link_beats};
 ghost use Rattle.tl_commits.specs.statement.Events.{Events, beats_of};
 ghost use Rattle.tl_commits.specs.statement.Seen;
@@ -52,9 +53,9 @@ pub(crate) fn next_values<const W: usize>(
     beat: &Beat<W>,
 ) -> Result<Option<(u32, BlockValues)>, AllocError>
     requires { IsWidth W }
-    ensures knows { (complete : List Bool) (n : ℕ) (e : Events W) → KnowsTable table.old complete n e →
+    ensures knows { (complete : Completeness) (n : ℕ) (e : Events W) → KnowsTable table.old complete n e →
         KnowsTable table.new complete n e }
-    ensures next { IfOk result (λ next. (levels : List Level) (l : Liberties) (complete : List Bool) (e : Events W) →
+    ensures next { IfOk result (λ next. (levels : List Level) (l : Liberties) (complete : Completeness) (e : Events W) →
         Knows judge.now levels l (beats_of e) false → KeepsRules l levels (link, beat.now) (beats_of e) →
         KnowsTable table.old complete (length levels) e →
         IsNext next table.new complete (length levels) (link, event.Beat beat.now) e) }

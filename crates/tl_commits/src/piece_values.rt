@@ -1,6 +1,6 @@
 //! The values of a block after a store or a load.
 
-ghost use Rattle.std.specs.Prelude.{ℕ, true, false, not, Bool, List, ◌∷◌, ◌+◌, ◌*◌, ◌^◌, ◌<◌, ◌≡◌, ◌&&◌, length, OnErr, OnOk};
+ghost use Rattle.std.specs.Prelude.{ℕ, true, false, not, List, ◌∷◌, ◌+◌, ◌*◌, ◌^◌, ◌<◌, ◌≡◌, ◌&&◌, length, OnErr, OnOk};
 ghost use Rattle.std.specs.Prelude.{is_some, slice_index};
 ghost use Rattle.tl_beat.specs.statement.Width.{IsWidth};
 ghost use Rattle.tl_burst.specs.statement.Messages.{History};
@@ -17,6 +17,7 @@ ghost use Rattle.tl_commits.specs.code.ValueTable.{KnowsTable};
 ghost use Rattle.tl_events.specs.declared.commit.Commit.TheVariants as commit;
 ghost use Rattle.tl_events.specs.declared.commit.Event.TheVariants as event;
 ghost use Rattle.tl_events.specs.statement.CommitLine.{IsPiece};
+ghost use Rattle.tl_commits.specs.statement.Completeness.{Completeness};
 ghost use Rattle.tl_commits.specs.statement.Copies;
 ghost use Rattle.tl_commits.specs.statement.Events.{Events, beats_of};
 
@@ -66,9 +67,9 @@ pub(crate) fn store_piece<const W: usize>(
     piece: Piece,
     value: u64,
 ) -> Result<(), AllocError>
-    ensures kept { OnErr result ((complete : List Bool) (n : ℕ) (e : Events W) → KnowsTable table.old complete n e →
+    ensures kept { OnErr result ((complete : Completeness) (n : ℕ) (e : Events W) → KnowsTable table.old complete n e →
         KnowsTable table.new complete n e) }
-    ensures stored { OnOk result ((levels : List Level) (l : Liberties) (complete : List Bool) (link : Link)
+    ensures stored { OnOk result ((levels : List Level) (l : Liberties) (complete : Completeness) (link : Link)
         (e : Events W) → Knows judge.now levels l (beats_of e) false → IsPiece piece →
         KnowsTable table.old complete (length levels) e →
         KnowsTable table.new complete (length levels) ((link, event.Commit (commit.Store piece value)) ∷ e)) }
@@ -109,9 +110,9 @@ pub(crate) fn load_piece<const W: usize>(
     value: u64,
 ) -> Result<(), AllocError>
     requires { IsWidth W }
-    ensures kept { OnErr result ((complete : List Bool) (n : ℕ) (e : Events W) → KnowsTable table.old complete n e →
+    ensures kept { OnErr result ((complete : Completeness) (n : ℕ) (e : Events W) → KnowsTable table.old complete n e →
         KnowsTable table.new complete n e) }
-    ensures loaded { OnOk result ((levels : List Level) (l : Liberties) (complete : List Bool) (e : Events W) →
+    ensures loaded { OnOk result ((levels : List Level) (l : Liberties) (complete : Completeness) (e : Events W) →
         Knows judge.now levels l (beats_of e) false → link.0 < length levels → IsPiece piece →
         says_piece complete link.0 piece e ≡ true → KnowsTable table.old complete (length levels) e →
         KnowsTable table.new complete (length levels) ((link, event.Commit (commit.Load piece value)) ∷ e)) }

@@ -12,6 +12,7 @@ ghost use Rattle.tl_together.specs.statement.Knows.{Knows};
 ghost use Rattle.tl_commits.specs.code.Reading as code;
 ghost use Rattle.tl_commits.specs.code.Reading.{AllowsAs, IsAnswered, IsAsked, IsFound, IsFresh, IsNoted, IsReader, IsTakenBy};
 ghost use Rattle.tl_commits.specs.code.ValueTable.{KnowsTable};
+ghost use Rattle.tl_commits.specs.statement.Completeness.{Completeness};
 ghost use Rattle.tl_commits.specs.statement.Events.{Events, beats_of};
 
 use crate::reached::put_reached;
@@ -155,7 +156,7 @@ impl Reading {
 
     /// Adds the bytes that the access may find now, if it finds some.
     fn find<const W: usize>(&mut self, judge: &Judge<W>, table: &ValueTable, now: bool)
-        ensures { (levels : List Level) (l : Liberties) (complete : List Bool) (e : Events W) →
+        ensures { (levels : List Level) (l : Liberties) (complete : Completeness) (e : Events W) →
             Knows judge.now levels l (beats_of e) false → KnowsTable table.now complete (length levels) e →
             IsFound complete (length levels) now e self.old self.new }
     {

@@ -1,6 +1,7 @@
 //! The bytes that all pending Gets and atomics may have found.
 
-ghost use Rattle.std.specs.Prelude.{ℕ, true, false, Bool, List, Some, ◌≡◌, ◌<◌, ◌∷◌, filter, find, length, not, OnOk, option_copied};
+ghost use Rattle.std.specs.Prelude.{ℕ, true, false, List, Some, ◌≡◌, ◌<◌, ◌∷◌, filter, find, length, not, OnOk};
+ghost use Rattle.std.specs.Prelude.{option_copied};
 ghost use Rattle.tl_beat.specs.declared.beat.Beat.TheVariants as beat;
 ghost use Rattle.tl_beat.specs.declared.opcode.OpD.TheVariants as d;
 ghost use Rattle.tl_beat.specs.statement.Width.{IsWidth};
@@ -13,6 +14,7 @@ ghost use Rattle.tl_events.specs.declared.commit.Event.TheVariants as event;
 ghost use Rattle.tl_commits.specs.code.Reading as code;
 ghost use Rattle.tl_commits.specs.code.Reading.{AreTakenBy, IsMet, IsRead, KnowsReadings};
 ghost use Rattle.tl_commits.specs.code.ValueTable.{KnowsTable};
+ghost use Rattle.tl_commits.specs.statement.Completeness.{Completeness};
 ghost use Rattle.tl_commits.specs.statement.Copies.{link_beats};
 ghost use Rattle.tl_commits.specs.statement.Events.{Events, beats_of};
 ghost use Rattle.tl_commits.specs.statement.True.{is_true_seen};
@@ -46,7 +48,7 @@ pub(crate) fn meet_reading<const W: usize>(
     link: Link,
     beat: &Beat<W>,
 ) -> Result<(), AllocError>
-    ensures knows { (complete : List Bool) (n : ℕ) (e : Events W) →
+    ensures knows { (complete : Completeness) (n : ℕ) (e : Events W) →
         KnowsReadings readings.old.items complete n e → KnowsReadings readings.new.items complete n e }
     ensures met { OnOk result (IsMet readings.new.items link.0 beat.now) }
 {
@@ -92,7 +94,7 @@ fn forget_answered<const W: usize>(
     beat: &Beat<W>,
 )
     requires { IsWidth W }
-    ensures { (levels : List Level) (l : Liberties) (complete : List Bool) (n : ℕ) (e : Events W) →
+    ensures { (levels : List Level) (l : Liberties) (complete : Completeness) (n : ℕ) (e : Events W) →
         Knows judge.now levels l (beats_of e) false → link.0 < length levels →
         KnowsReadings readings.old.items complete n e → KnowsReadings readings.new.items complete n e }
 {
@@ -115,7 +117,7 @@ pub(crate) fn take_beat<const W: usize>(
     shown: Option<u32>,
 )
     requires { IsWidth W }
-    ensures { (levels : List Level) (l : Liberties) (complete : List Bool) (e : Events W) →
+    ensures { (levels : List Level) (l : Liberties) (complete : Completeness) (e : Events W) →
         Knows judge.now levels l ((link, beat.now) ∷ beats_of e) false →
         KnowsTable table.now complete (length levels) ((link, event.Beat beat.now) ∷ e) →
         MayShow shown beat.now (link_beats link.0 e) → IsMet readings.old.items link.0 beat.now →
@@ -144,7 +146,7 @@ fn has_found<const W: usize>(
     x: &BeatD<W>,
 ) -> bool
     requires { IsWidth W }
-    ensures { (levels : List Level) (l : Liberties) (complete : List Bool) (e : Events W) →
+    ensures { (levels : List Level) (l : Liberties) (complete : Completeness) (e : Events W) →
         Knows judge.now levels l (beats_of e) false → KeepsRules l levels (link, beat.D x.now) (beats_of e) →
         KnowsReadings readings.now.items complete (length levels) e → x.now.opcode ≡ d.AccessAckData →
         result ≡ is_true_seen complete d.AccessAckData (length levels) link.0 x.now e }
@@ -176,7 +178,7 @@ pub(crate) fn reads_truly<const W: usize>(
     beat: &Beat<W>,
 ) -> bool
     requires { IsWidth W }
-    ensures { (levels : List Level) (l : Liberties) (complete : List Bool) (e : Events W) →
+    ensures { (levels : List Level) (l : Liberties) (complete : Completeness) (e : Events W) →
         Knows judge.now levels l (beats_of e) false → KeepsRules l levels (link, beat.now) (beats_of e) →
         KnowsReadings readings.now.items complete (length levels) e →
         result ≡ code.reads_truly complete (length levels) link.0 beat.now e }

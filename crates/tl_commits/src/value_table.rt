@@ -1,12 +1,15 @@
 //! The possible values of the bytes of all blocks.
 
-ghost use Rattle.std.specs.Prelude.{ℕ, Bool, List, Some, true, if◌then◌else◌, ◌==◌, ◌+◌, ◌*◌, ◌<◌, ◌≡◌, [], is_some, option_copied, OnErr, OnOk, ◌||◌};
+ghost use Rattle.std.specs.Prelude.{ℕ, Some, true, if◌then◌else◌, ◌==◌, ◌+◌, ◌*◌, ◌<◌, ◌≡◌, option_copied, IfOk};
+ghost use Rattle.std.specs.Prelude.{OnErr, OnOk, ◌||◌};
 ghost use Rattle.tl_memory.specs.code.ByteSet.{has_at};
 ghost use Rattle.tl_rules.specs.statement.History.{block_at};
 ghost use Rattle.tl_commits.specs.code.GivingBack.{is_seen};
 ghost use Rattle.tl_commits.specs.code.BlockValues.{IsLoaded, IsStored};
 ghost use Rattle.tl_commits.specs.code.Reached.{is_reached};
-ghost use Rattle.tl_commits.specs.code.ValueTable.{IsChanged, KnowsTable, values_in};
+ghost use Rattle.tl_commits.specs.code.ValueTable.{AreFirstKept, IsChanged, IsFirstTable, IsFresh, KnowsTable};
+ghost use Rattle.tl_commits.specs.code.ValueTable.{has_own, values_in};
+ghost use Rattle.tl_commits.specs.statement.Completeness.{Completeness};
 ghost use Rattle.tl_commits.specs.statement.Commits;
 ghost use Rattle.tl_commits.specs.statement.Events.{Events};
 
@@ -20,57 +23,86 @@ use tl_bytes::write::Write;
 use tl_memory::byte_set::{ByteSet, with_told};
 use tl_rules::key::block_at;
 
-/// The possible values of the bytes of blocks. A block without values is as before the trace.
+/// The possible values of the bytes of blocks. A block without values of its own is as before the trace.
 #[derive(Drop)]
 pub struct ValueTable {
     blocks: BTreeMap<u32, BlockValues>,
+    /// The values of each other block. None if they may be any.
+    first: Option<BlockValues>,
 }
 
 impl Model for ValueTable {
-    ghost use Rattle.std.specs.Prelude.{ℕ, List};
-    ghost use Rattle.tl_commits.specs.declared.block_values.BlockValues.{BlockValues};
+    ghost use Rattle.tl_commits.specs.code.ValueTable.{Table};
 
-    ghost Value = { List (ℕ × BlockValues) };
+    ghost Value = { Table };
 
-    ghost view = { λ t. t.blocks.entries };
+    ghost view = { λ t. record { entries = t.blocks.entries; first = t.first } };
+}
+
+/// The values of each block before the trace, if they aren't any: `zero` says whether memory was zero. The error means
+/// that there is no memory left.
+fn first_values(alloc: Global, zero: bool) -> Result<Option<BlockValues>, AllocError>
+    ensures { IfOk result (λ first. AreFirstKept first zero) }
+{
+    if zero {
+        return Ok(Some(BlockValues::new(alloc, zero)?));
+    }
+    Ok(None)
 }
 
 impl ValueTable {
-    /// No values of any block.
-    pub fn new(alloc: Global) -> Self
-        ensures { result ≡ [] }
+    /// The values before the trace: `zero` says whether memory was zero then. The error means that there is no memory
+    /// left.
+    pub fn new(alloc: Global, zero: bool) -> Result<Self, AllocError>
+        ensures { IfOk result (λ table. IsFirstTable table zero) }
     {
-        ValueTable {
+        let first = first_values(alloc, zero)?;
+        Ok(ValueTable {
             blocks: BTreeMap::new(alloc),
-        }
+            first,
+        })
     }
 
-    /// The values of a block, if there are some.
+    /// The values of a block, if they aren't any.
     pub fn get(&self, block: u32) -> Option<&BlockValues>
         ensures { option_copied result ≡ values_in self.now block }
     {
-        self.blocks.get(&block)
+        match self.blocks.get(&block) {
+            None => self.first.as_ref(),
+            own => own,
+        }
     }
 
-    /// Makes sure that a block has values. The error means that there is no memory left. All that is known stays true in
-    /// either case.
+    /// A copy of the values of a block that has none of its own. The error means that there is no memory left.
+    fn fresh(&self, alloc: Global) -> Result<BlockValues, AllocError>
+        ensures { IfOk result (λ v. IsFresh self.now.first v) }
+    {
+        match &self.first {
+            None => BlockValues::new(alloc, false),
+            Some(first) => first.copied(alloc),
+        }
+    }
+
+    /// Makes sure that a block has values of its own. The error means that there is no memory left. All that is known
+    /// stays true in either case.
     pub fn meet(&mut self, alloc: Global, block: u32) -> Result<(), AllocError>
-        ensures knows { (w : ℕ) (complete : List Bool) (n : ℕ) (e : Events w) → KnowsTable self.old complete n e →
+        ensures knows { (w : ℕ) (complete : Completeness) (n : ℕ) (e : Events w) → KnowsTable self.old complete n e →
             KnowsTable self.new complete n e }
-        ensures met { OnOk result (is_some (values_in self.new block) ≡ true) }
+        ensures met { OnOk result (has_own self.new block ≡ true) }
     {
         if self.blocks.get(&block).is_some() {
             return Ok(());
         }
-        match self.blocks.insert(block, BlockValues::new(alloc)?) {
+        let fresh = self.fresh(alloc)?;
+        match self.blocks.insert(block, fresh) {
             Ok(_) => Ok(()),
             Err(_) => Err(AllocError),
         }
     }
 
-    /// Replaces the values of a block that has some.
+    /// Replaces the values of a block that has some of its own.
     pub fn put(&mut self, block: u32, values: BlockValues)
-        ensures { is_some (values_in self.old block) ≡ true → (k : ℕ) → values_in self.new k
+        ensures { has_own self.old block ≡ true → (k : ℕ) → values_in self.new k
             ≡ (if k == block then Some values else values_in self.old k) }
     {
         if let Some(there) = self.blocks.get_mut(&block) {
@@ -78,8 +110,8 @@ impl ValueTable {
         }
     }
 
-    /// Takes a store to a block that has values, which writes these places; `moment` is the number of beats before it. The
-    /// error means that there is no memory left; then the values are as before.
+    /// Takes a store to a block that has values of its own, which writes these places; `moment` is the number of beats
+    /// before it. The error means that there is no memory left; then the values are as before.
     pub fn store(
         &mut self,
         alloc: Global,
@@ -87,7 +119,7 @@ impl ValueTable {
         write: &Write,
         moment: u64,
     ) -> Result<(), AllocError>
-        ensures stored { OnOk result (is_some (values_in self.old block) ≡ true →
+        ensures stored { OnOk result (has_own self.old block ≡ true →
             IsChanged (λ was now. IsStored was now write.now moment) block self.old self.new) }
         ensures kept { OnErr result ((k : ℕ) → values_in self.new k ≡ values_in self.old k) }
     {
@@ -97,8 +129,8 @@ impl ValueTable {
         }
     }
 
-    /// Takes a load of a block that has values, which says the bytes of these places; `moment` is the number of beats before
-    /// it. The error is the same.
+    /// Takes a load of a block that has values of its own, which says the bytes of these places; `moment` is the number
+    /// of beats before it. The error is the same.
     pub fn load(
         &mut self,
         alloc: Global,
@@ -107,7 +139,7 @@ impl ValueTable {
         write: &Write,
         moment: u64,
     ) -> Result<(), AllocError>
-        ensures loaded { OnOk result (is_some (values_in self.old block) ≡ true →
+        ensures loaded { OnOk result (has_own self.old block ≡ true →
             IsChanged (λ was now. IsLoaded was now places.now write.now moment) block self.old self.new) }
         ensures kept { OnErr result ((k : ℕ) → values_in self.new k ≡ values_in self.old k) }
     {
@@ -119,7 +151,7 @@ impl ValueTable {
 
     /// Whether each byte of a block that was stored may have a value that memory may have.
     pub fn is_clean(&self, block: u32) -> bool
-        ensures { (w : ℕ) (complete : List Bool) (n : ℕ) (e : Events w) → KnowsTable self.now complete n e →
+        ensures { (w : ℕ) (complete : Completeness) (n : ℕ) (e : Events w) → KnowsTable self.now complete n e →
             result ≡ Commits.is_clean complete n block e }
     {
         match self.get(block) {
@@ -130,7 +162,7 @@ impl ValueTable {
 
     /// Whether this byte is a possible value of the byte at a place of a block.
     pub fn is_seen(&self, block: u32, place: usize, byte: u8) -> bool
-        ensures { (w : ℕ) (complete : List Bool) (n : ℕ) (e : Events w) → KnowsTable self.now complete n e →
+        ensures { (w : ℕ) (complete : Completeness) (n : ℕ) (e : Events w) → KnowsTable self.now complete n e →
             place < 64 → result ≡ is_seen complete n e (64 * block + place) byte }
     {
         if place >= 64 {
@@ -150,7 +182,7 @@ impl ValueTable {
         block: u32,
         first: u8,
     ) -> [ByteSet; N]
-        ensures { (w : ℕ) (complete : List Bool) (n : ℕ) (e : Events w) → KnowsTable self.now complete n e →
+        ensures { (w : ℕ) (complete : Completeness) (n : ℕ) (e : Events w) → KnowsTable self.now complete n e →
             (i v : ℕ) → i < N → first + i < 64 → v < 256 →
             has_at result i v ≡ (has_at sets.entry i v || is_seen complete n e (64 * block + (first + i)) v) }
     {
@@ -163,7 +195,7 @@ impl ValueTable {
     /// Adds to the set of each place of its block that an access of this address and size reaches the values that its byte
     /// may have.
     pub(crate) fn add_seen(&self, sets: &mut [ByteSet; 64], address: u32, size: u8)
-        ensures { (w : ℕ) (complete : List Bool) (n : ℕ) (e : Events w) → KnowsTable self.now complete n e →
+        ensures { (w : ℕ) (complete : Completeness) (n : ℕ) (e : Events w) → KnowsTable self.now complete n e →
             (place v : ℕ) → place < 64 → v < 256 → is_reached address size place ≡ true → has_at sets.new place v
             ≡ (has_at sets.old place v || is_seen complete n e (64 * block_at address + place) v) }
     {

@@ -9,6 +9,7 @@ use Rattle.tl_chart.specs.declared.names.Names.{Names}
 use Rattle.tl_chart.specs.declared.note.Note.{Note}
 use Rattle.tl_chart.specs.declared.window.Window.{Window}
 use Rattle.tl_chart.specs.statement.Chart.{IsChartBeside}
+use Rattle.tl_commit_lines.specs.statement.MarkedHeader.{MarkedLinks}
 use Rattle.tl_commit_lines.specs.statement.JudgedEvents.{JudgedCommits, JudgedEvents}
 use Rattle.tl_commits.specs.statement.Events.{Events}
 use Rattle.tl_engine.proofs.ChartedLines.{verdict_ended}
@@ -24,7 +25,6 @@ use Rattle.tl_event_chart.specs.declared.canvas.Canvas.{Canvas}
 use Rattle.tl_event_chart.specs.statement.EventCharted.{ChartsEvents, IsChartedBeside}
 use Rattle.tl_event_chart.specs.statement.Noted.{AreNoted}
 use Rattle.tl_params.specs.declared.liberties.Liberties.{Liberties}
-use Rattle.tl_commit_lines.specs.declared.header.MarkedLevel.{MarkedLevel}
 use Rattle.tl_wide_lines.specs.statement.JudgedTrace.{JudgedTrace, SaidOf}
 
 -- the text is a line
@@ -46,7 +46,7 @@ unfolding clean_text
 clean-said n text is =
     (codes "clean " ++ decimal n, is ∙ sym (append_assoc (codes "clean ") (decimal n) (codes "\n")))
 
-events-said : (w : ℕ) (links : List MarkedLevel) (may : Liberties) (e : Events w) (lines : List (List ℕ))
+events-said : (w : ℕ) (links : MarkedLinks) (may : Liberties) (e : Events w) (lines : List (List ℕ))
     (text : List ℕ) (status : Status) → JudgedEvents w false links may e lines text status → IsSaid text
 unfolding JudgedEvents
 events-said w links may e [] text status (is, clean) = clean-said (length e) text is

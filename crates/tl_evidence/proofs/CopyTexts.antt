@@ -12,6 +12,7 @@ use Rattle.tl_beat.specs.declared.channel.Channel.TheVariants as channel
 use Rattle.tl_burst.specs.statement.Messages.{unfinished}
 use Rattle.tl_bytes.specs.statement.Bytes.{could_be, told_as}
 use Rattle.tl_bytes.specs.statement.Known.{tellings_at}
+use Rattle.tl_commits.specs.statement.Completeness.{Completeness}
 use Rattle.tl_commits.specs.statement.Commits.{gives, is_kept, may_bring, may_give}
 use Rattle.tl_commits.specs.statement.Copied.{copied, copy_values}
 use Rattle.tl_commits.specs.statement.Copies.{brought, link_beats}
@@ -68,7 +69,7 @@ pub so-many : (i count value : ℕ) → length (bytes_low_first i count value) �
 so-many i zero value = refl
 so-many i (suc count) value = ap suc (so-many (suc i) count value)
 
-module _ {w : ℕ} (r : CopyRecord w) (may : Liberties) (levels : List Level) (complete : List Bool) (e : Events w)
+module _ {w : ℕ} (r : CopyRecord w) (may : Liberties) (levels : List Level) (complete : Completeness) (e : Events w)
     (k : KnowsCopy r may levels complete e) where
   abbrev n : ℕ
   n = length levels
@@ -185,14 +186,14 @@ module _ {w : ℕ} (r : CopyRecord w) (may : Liberties) (levels : List Level) (c
   -- ---- bytes that are lost
 
   memory-set : (place v : ℕ) → place < 64 → v < 256
-      → set_in r.memory (base + place - base) v ≡ set_in_memory n e (base + place) v
+      → set_in r.memory (base + place - base) v ≡ set_in_memory complete.zero n e (base + place) v
   memory-set place v small fits =
       let whole : base + place - base ≡ place = omega arith in
       rw whole (k.memory_is.set_is place v small fits)
 
   memory-now : (place v : ℕ) → place < 64
       → told_as v (tellings_at (base + place - base) r.memory.values.items)
-      ≡ told_as v (memory_may n (base + place) (beats_of e))
+      ≡ told_as v (memory_may complete.zero n (base + place) (beats_of e))
   memory-now place v small =
       let whole : base + place - base ≡ place = omega arith in
       rw whole (ap (told_as v) (k.memory_is.now_is place small))
@@ -211,8 +212,8 @@ module _ {w : ℕ} (r : CopyRecord w) (may : Liberties) (levels : List Level) (c
   pub memory-values : (place : ℕ) → place < 64
       → values_text as_recorded (λ v. told_as v (tellings_at (base + place - base) r.memory.values.items))
       (λ v. set_in r.memory (base + place - base) v) false 256 0
-      ≡ values_text as_recorded (λ v. told_as v (memory_may n (base + place) (beats_of e)))
-      (set_in_memory n e (base + place)) false 256 0
+      ≡ values_text as_recorded (λ v. told_as v (memory_may complete.zero n (base + place) (beats_of e)))
+      (set_in_memory complete.zero n e (base + place)) false 256 0
   memory-values place small = all-same as_recorded (λ _. ⊤) (λ v lt. tt) _ _ _ _ (
     λ v any. memory-now place v small,
     λ v fits. memory-set place v small fits,
@@ -228,8 +229,8 @@ module _ {w : ℕ} (r : CopyRecord w) (may : Liberties) (levels : List Level) (c
   memory-by : (place b : ℕ) (s : SetLines) → place < 64 → b ≡ r.block → s ≡ r.memory
       → values_text as_recorded (λ v. told_as v (tellings_at (64 * b + place - 64 * b) s.values.items))
       (λ v. set_in s (64 * b + place - 64 * b) v) false 256 0
-      ≡ values_text as_recorded (λ v. told_as v (memory_may n (base + place) (beats_of e)))
-      (set_in_memory n e (base + place)) false 256 0
+      ≡ values_text as_recorded (λ v. told_as v (memory_may complete.zero n (base + place) (beats_of e)))
+      (set_in_memory complete.zero n e (base + place)) false 256 0
   memory-by place b s small block set = rw (block, set) (memory-values place small)
 
   -- the line of a byte that is lost
@@ -297,7 +298,7 @@ room-count (suc (suc (suc (suc n)))) le = absurd (omega arith)
 
 -- ---- all
 
-module _ {w : ℕ} (complete : List Bool) (n link : ℕ) (e : Events w) where
+module _ {w : ℕ} (complete : Completeness) (n link : ℕ) (e : Events w) where
   -- one of the first eight bytes
   pub counted-first : (others address : ℕ) → others < 8
       → lost_line complete n link address e ≡ counted_line complete n link others address e

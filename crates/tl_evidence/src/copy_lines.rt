@@ -1,9 +1,10 @@
 //! Lists bytes of a copy: those that a load or a report has and can't have, and stored ones that are lost.
 
-ghost use Rattle.std.specs.Prelude.{ℕ, suc, Bool, List, true, length, ◌≡◌, ◌+◌, ◌*◌, ◌<◌, ◌≤◌, ◌++◌, IfOk, IfSome, OnOk};
+ghost use Rattle.std.specs.Prelude.{ℕ, suc, List, true, length, ◌≡◌, ◌+◌, ◌*◌, ◌<◌, ◌≤◌, ◌++◌, IfOk, IfSome, OnOk};
 ghost use Rattle.tl_beat.specs.declared.channel.Channel.TheVariants as channel;
 ghost use Rattle.tl_beat.specs.statement.Width.{IsWidth};
 ghost use Rattle.tl_burst.specs.statement.Messages.{unfinished};
+ghost use Rattle.tl_commits.specs.statement.Completeness.{Completeness};
 ghost use Rattle.tl_commits.specs.statement.Copies.{link_beats};
 ghost use Rattle.tl_evidence.specs.code.Following.{IsRoom};
 ghost use Rattle.tl_commits.specs.statement.Events.{Events};
@@ -67,7 +68,7 @@ impl<const W: usize> CopyRecord<W> {
     /// Appends the lines of the bytes of a load that it can't have loaded. Returns true if it is of this block.
     fn tell_loaded(&self, piece: Piece, value: u64, out: &mut Vec<u8>) -> Result<bool, AllocError>
         requires { IsWidth W }
-        ensures { IfOk result (λ told. told ≡ true → (may : Liberties) (levels : List Level) (complete : List Bool)
+        ensures { IfOk result (λ told. told ≡ true → (may : Liberties) (levels : List Level) (complete : Completeness)
             (e : Events W) → KnowsCopy self.now may levels complete e → out.new.items
             ≡ out.old.items ++ loaded_lines complete (length levels) self.now.link.0 piece value e) }
     {
@@ -98,7 +99,7 @@ impl<const W: usize> CopyRecord<W> {
     /// it. Returns true if it is of this block, and the block has room for its bytes.
     fn tell_given(&self, x: &BeatC<W>, came: u64, out: &mut Vec<u8>) -> Result<bool, AllocError>
         requires { IsWidth W }
-        ensures { IfOk result (λ told. told ≡ true → (may : Liberties) (levels : List Level) (complete : List Bool)
+        ensures { IfOk result (λ told. told ≡ true → (may : Liberties) (levels : List Level) (complete : Completeness)
             (e : Events W) → KnowsCopy self.now may levels complete e →
             came ≡ length (unfinished channel.C (link_beats self.now.link.0 e)) → out.new.items
             ≡ out.old.items ++ given_lines complete (length levels) self.now.link.0 x.now e) }
@@ -122,7 +123,7 @@ impl<const W: usize> CopyRecord<W> {
     /// Appends the line of a byte that was stored and is lost.
     fn append_lost(&self, place: u8, out: &mut Vec<u8>) -> Result<(), AllocError>
         requires { place < 64 }
-        ensures { OnOk result ((may : Liberties) (levels : List Level) (complete : List Bool) (e : Events W) →
+        ensures { OnOk result ((may : Liberties) (levels : List Level) (complete : Completeness) (e : Events W) →
             KnowsCopy self.now may levels complete e → out.new.items ≡ out.old.items
             ++ lost_line complete (length levels) self.now.link.0 (64 * self.now.block + place) e) }
     {
@@ -141,7 +142,7 @@ impl<const W: usize> CopyRecord<W> {
     /// Appends the line of a byte that was stored and is lost, after `count` others, if it is one of the first eight.
     fn append_counted(&self, place: u8, count: u8, out: &mut Vec<u8>) -> Result<(), AllocError>
         requires { place < 64 }
-        ensures { OnOk result ((may : Liberties) (levels : List Level) (complete : List Bool) (e : Events W) →
+        ensures { OnOk result ((may : Liberties) (levels : List Level) (complete : Completeness) (e : Events W) →
             KnowsCopy self.now may levels complete e → out.new.items ≡ out.old.items
             ++ counted_line complete (length levels) self.now.link.0 count (64 * self.now.block + place) e) }
     {
@@ -156,7 +157,7 @@ impl<const W: usize> CopyRecord<W> {
     fn tell_place(&self, place: u8, count: u8, out: &mut Vec<u8>) -> Result<u8, AllocError>
         requires place { place < 64 }
         requires count { count < 64 }
-        ensures told { IfOk result (λ now. (may : Liberties) (levels : List Level) (complete : List Bool)
+        ensures told { IfOk result (λ now. (may : Liberties) (levels : List Level) (complete : Completeness)
             (e : Events W) → KnowsCopy self.now may levels complete e → (rest : ℕ) → out.new.items
             ++ lost_from complete (length levels) self.now.link.0 now (64 * self.now.block + place + 1) rest e
             ≡ out.old.items
@@ -172,7 +173,7 @@ impl<const W: usize> CopyRecord<W> {
 
     /// Appends the lines of the bytes that were stored and are lost.
     fn tell_lost(&self, out: &mut Vec<u8>) -> Result<(), AllocError>
-        ensures { OnOk result ((may : Liberties) (levels : List Level) (complete : List Bool) (e : Events W) →
+        ensures { OnOk result ((may : Liberties) (levels : List Level) (complete : Completeness) (e : Events W) →
             KnowsCopy self.now may levels complete e → out.new.items
             ≡ out.old.items ++ lost_lines complete (length levels) self.now.link.0 self.now.block e) }
     {
@@ -185,7 +186,7 @@ impl<const W: usize> CopyRecord<W> {
 
     /// The same, if they are of this block. Returns true if they are.
     fn tell_lost_of(&self, block: u32, out: &mut Vec<u8>) -> Result<bool, AllocError>
-        ensures { IfOk result (λ told. told ≡ true → (may : Liberties) (levels : List Level) (complete : List Bool)
+        ensures { IfOk result (λ told. told ≡ true → (may : Liberties) (levels : List Level) (complete : Completeness)
             (e : Events W) → KnowsCopy self.now may levels complete e → out.new.items
             ≡ out.old.items ++ lost_lines complete (length levels) self.now.link.0 block e) }
     {
@@ -199,7 +200,7 @@ impl<const W: usize> CopyRecord<W> {
     /// Appends the lines for a beat, if `came` beats of its message came before it. Returns true if they are for it.
     fn tell_beat(&self, beat: &Beat<W>, came: u64, out: &mut Vec<u8>) -> Result<bool, AllocError>
         requires { IsWidth W }
-        ensures { IfOk result (λ told. told ≡ true → (may : Liberties) (levels : List Level) (complete : List Bool)
+        ensures { IfOk result (λ told. told ≡ true → (may : Liberties) (levels : List Level) (complete : Completeness)
             (e : Events W) → KnowsCopy self.now may levels complete e →
             came ≡ length (unfinished channel.C (link_beats self.now.link.0 e)) → out.new.items
             ≡ out.old.items ++ beat_lines complete (length levels) self.now.link.0 beat.now e) }
@@ -215,7 +216,7 @@ impl<const W: usize> CopyRecord<W> {
     /// Appends the lines for a store or a load. Returns true if they are for it.
     fn tell_commit(&self, commit: Commit, out: &mut Vec<u8>) -> Result<bool, AllocError>
         requires { IsWidth W }
-        ensures { IfOk result (λ told. told ≡ true → (may : Liberties) (levels : List Level) (complete : List Bool)
+        ensures { IfOk result (λ told. told ≡ true → (may : Liberties) (levels : List Level) (complete : Completeness)
             (e : Events W) → KnowsCopy self.now may levels complete e → out.new.items
             ≡ out.old.items ++ commit_lines complete (length levels) self.now.link.0 commit e) }
     {
@@ -228,7 +229,7 @@ impl<const W: usize> CopyRecord<W> {
     /// Appends the lines for an event, if `came` beats of its message came before it. Returns true if they are for it.
     fn tell_event(&self, event: &Event<W>, came: u64, out: &mut Vec<u8>) -> Result<bool, AllocError>
         requires { IsWidth W }
-        ensures { IfOk result (λ told. told ≡ true → (may : Liberties) (levels : List Level) (complete : List Bool)
+        ensures { IfOk result (λ told. told ≡ true → (may : Liberties) (levels : List Level) (complete : Completeness)
             (e : Events W) → KnowsCopy self.now may levels complete e →
             came ≡ length (unfinished channel.C (link_beats self.now.link.0 e)) → out.new.items
             ≡ out.old.items ++ event_lines complete (length levels) self.now.link.0 event.now e) }
@@ -249,7 +250,7 @@ impl<const W: usize> CopyRecord<W> {
         out: &mut Vec<u8>,
     ) -> Result<bool, AllocError>
         requires { IsWidth W }
-        ensures { IfOk result (λ told. told ≡ true → (may : Liberties) (levels : List Level) (complete : List Bool)
+        ensures { IfOk result (λ told. told ≡ true → (may : Liberties) (levels : List Level) (complete : Completeness)
             (e : Events W) → KnowsCopy self.now may levels complete e →
             came ≡ length (unfinished channel.C (link_beats self.now.link.0 e)) → out.new.items
             ≡ out.old.items ++ copy_lines rule complete (length levels) self.now.link.0 event.now e) }

@@ -1,8 +1,9 @@
 //! Follows the values of a block's bytes through the events of a trace.
 
-ghost use Rattle.std.specs.Prelude.{Bool, List, [], ◌∷◌, true, length, IfOk, IfSome, ◌+◌, ◌*◌, ◌<◌, ◌≡◌};
+ghost use Rattle.std.specs.Prelude.{List, [], ◌∷◌, true, length, IfOk, IfSome, ◌+◌, ◌*◌, ◌<◌, ◌≡◌};
 ghost use Rattle.tl_beat.specs.statement.Width.{IsWidth};
 ghost use Rattle.tl_evidence.specs.code.Following.{KnowsCopy, KnowsSet, RecordsCopy};
+ghost use Rattle.tl_commits.specs.statement.Completeness.{Completeness};
 ghost use Rattle.tl_commits.specs.statement.Copied.{copy_values};
 ghost use Rattle.tl_commits.specs.statement.Events.{Events, beats_of};
 ghost use Rattle.tl_commits.specs.statement.Knows.{IsEvent, KnowsCommits};
@@ -23,18 +24,20 @@ use tl_params::liberties::Liberties;
 /// The number of blocks: an address has 32 bits.
 const BLOCKS: u32 = 1 << 26;
 
-/// A judge of links of these levels, of those with all their stores in the trace, and with these liberties. None unless there
-/// are 1 to 16 levels.
+/// A judge of links of these levels, of those with all their stores in the trace, and with these liberties. `zero` says
+/// whether memory was zero before the trace. None unless there are 1 to 16 levels.
 fn judge_of<const W: usize>(
     alloc: Global,
     levels: &[Level],
     complete: &[bool],
+    zero: bool,
     may: Liberties,
 ) -> Result<Option<CommitJudge<W>>, AllocError>
     requires { IsWidth W }
-    ensures { IfOk result (λ judge. IfSome judge (λ j. KnowsCommits j levels.now complete.now may [])) }
+    ensures { IfOk result (λ judge. IfSome judge (λ j. KnowsCommits j levels.now
+        (record { stores = complete.now; zero = zero }) may [])) }
 {
-    match CommitJudge::with_liberties(alloc, levels, complete, may) {
+    match CommitJudge::with_liberties(alloc, levels, complete, zero, may) {
         Ok(judge) => Ok(Some(judge)),
         Err(CommitFault::Memory) => Err(AllocError),
         Err(_) => Ok(None),
@@ -49,7 +52,7 @@ fn push<const W: usize>(
 ) -> Result<bool, AllocError>
     requires width { IsWidth W }
     requires valid { IsEvent event.now }
-    ensures { IfOk result (λ on. on ≡ true → (levels : List Level) (complete : List Bool) (may : Liberties)
+    ensures { IfOk result (λ on. on ≡ true → (levels : List Level) (complete : Completeness) (may : Liberties)
         (e : Events W) → KnowsCommits judge.old levels complete may e →
         KnowsCommits judge.new levels complete may ((link, event.now) ∷ e)) }
 {
@@ -68,10 +71,11 @@ fn sets_of<const W: usize>(
     block: u32,
 ) -> Result<(SetLines, SetLines), AllocError>
     requires { IsWidth W }
-    ensures { IfOk result (λ sets. (may : Liberties) (levels : List Level) (complete : List Bool) →
+    ensures { IfOk result (λ sets. (may : Liberties) (levels : List Level) (complete : Completeness) →
         KnowsCommits judge.now levels complete may [] → link.0 < length levels →
         KnowsSet {w = W} sets.0 (λ place. copy_values complete (length levels) link.0 (64 * block + place)) []
-        × KnowsSet {w = W} sets.1 (λ place e. memory_may (length levels) (64 * block + place) (beats_of e)) []) }
+        × KnowsSet {w = W} sets.1
+        (λ place e. memory_may complete.zero (length levels) (64 * block + place) (beats_of e)) []) }
 {
     let copy = judge.copy_of(alloc, link, block)?;
     let memory = judge.memory_of(alloc, block)?;
@@ -81,23 +85,25 @@ fn sets_of<const W: usize>(
 }
 
 impl<const W: usize> CopyRecord<W> {
-    /// The record of a block in the cache of a link, before any event. None if there is no such link or block.
+    /// The record of a block in the cache of a link, before any event. `zero` says whether memory was zero then. None
+    /// if there is no such link or block.
     pub fn new(
         alloc: Global,
         link: Link,
         block: u32,
         levels: &[Level],
         complete: &[bool],
+        zero: bool,
         may: Liberties,
     ) -> Result<Option<Self>, AllocError>
         requires { IsWidth W }
-        ensures { IfOk result (λ kept. IfSome kept (λ r. KnowsCopy r may levels.now complete.now []
-            × (r.link ≡ link) × (r.block ≡ block))) }
+        ensures { IfOk result (λ kept. IfSome kept (λ r. KnowsCopy r may levels.now
+            (record { stores = complete.now; zero = zero }) [] × (r.link ≡ link) × (r.block ≡ block))) }
     {
         if block >= BLOCKS {
             return Ok(None);
         }
-        let Some(judge) = judge_of(alloc, levels, complete, may)? else {
+        let Some(judge) = judge_of(alloc, levels, complete, zero, may)? else {
             return Ok(None);
         };
         if !judge.has_link(link) {

@@ -227,7 +227,7 @@ const WIDE: [&str; 13] = [
 ];
 
 /// The traces with stores and loads.
-const COMMITS: [&str; 22] = [
+const COMMITS: [&str; 33] = [
     "rules/L1_commit.trace",
     "rules/L1_commit_right.trace",
     "rules/M2_stored.trace",
@@ -250,6 +250,17 @@ const COMMITS: [&str; 22] = [
     "rules/M7_asked_right.trace",
     "rules/M7_coming.trace",
     "rules/M7_coming_right.trace",
+    "rules/M2_zero.trace",
+    "rules/M2_zero_right.trace",
+    "rules/M2_unsaid_right.trace",
+    "rules/M3_zero.trace",
+    "rules/M3_zero_right.trace",
+    "rules/M6_zero.trace",
+    "rules/M6_zero_right.trace",
+    "rules/M6_unsaid_right.trace",
+    "rules/M7_zero.trace",
+    "rules/M7_zero_right.trace",
+    "rules/M7_unsaid_right.trace",
 ];
 
 /// The names of the rules and faults that are explained.

@@ -24,8 +24,7 @@ use Rattle.tl_lines.proofs.LinksHeaders.{open_allowed}
 use Rattle.tl_commit_lines.proofs.JudgedLines.{open-event}
 use Rattle.tl_commit_lines.proofs.MarkedHeaders.{open_marked}
 use Rattle.tl_commit_lines.specs.declared.header.CommitHeader.{CommitHeader}
-use Rattle.tl_commit_lines.specs.declared.header.MarkedLevel.{MarkedLevel}
-use Rattle.tl_commit_lines.specs.statement.MarkedHeader.{NamesMarked}
+use Rattle.tl_commit_lines.specs.statement.MarkedHeader.{MarkedLinks, NamesMarked}
 use Rattle.tl_report.proofs.Searched.{found_in, knows_header, opened}
 use Rattle.tl_report.proofs.Variants.{IsSearch}
 use Rattle.tl_report.specs.code.EventJudging.{event_ways}
@@ -81,7 +80,7 @@ begun_wide line width may levels aim s spells is =
     (terms_of aim.together may levels) s line is
     (λ lines found beats cells finds. inl (width, may, levels, spells, finds))
 
-pub begun_events : (line : List ℕ) (width : Width) (may : Liberties) (links : List MarkedLevel) (aim : Aim)
+pub begun_events : (line : List ℕ) (width : Width) (may : Liberties) (links : MarkedLinks) (aim : Aim)
     (s : Search (EventLineJudge (bytes_of width))) → NamesMarked aim.allow line width may links
     → StartsSearch (event_ways (bytes_of width)) aim (event_terms_of aim.together may links) s
     → KnowsSearch (event_ways (bytes_of width)) s (line ∷ [])
@@ -90,7 +89,7 @@ begun_events line width may links aim s spells is =
     knows_header (event_ways (bytes_of width)) aim (event_terms_of aim.together may links) s line is
     (λ lines found beats cells finds. inr (inr (inl (width, may, links, spells, finds))))
 
-pub begun_wide_events : (line : List ℕ) (width : WideWidth) (may : Liberties) (links : List MarkedLevel) (aim : Aim)
+pub begun_wide_events : (line : List ℕ) (width : WideWidth) (may : Liberties) (links : MarkedLinks) (aim : Aim)
     (s : Search (KeptLineJudge (WideEventTaker (wide_bytes_of width) (part_width (wide_bytes_of width))) CommitHeader
     (SpelledEvent (wide_bytes_of width)))) → NamesWideMarked aim.allow line width may links
     → StartsSearch (wide_event_ways (wide_bytes_of width) (part_width (wide_bytes_of width))) aim

@@ -20,13 +20,14 @@ pub struct EventLineJudge<const W: usize> {
 
 impl<const W: usize> EventLineJudge<W> {
     ghost use Rattle.tl_report.specs.code.EventJudging.{KnowsTaken};
+    ghost use Rattle.tl_commit_lines.specs.statement.MarkedHeader.{links_in};
     ghost use Rattle.tl_report.specs.statement.Found.{event_terms_of};
 
     /// A judge of the links that a header names, which has taken no event.
     pub fn new(alloc: Global, together: bool, header: &CommitHeader) -> Result<Self, AllocError>
         requires { IsWidth W }
         ensures { IfOk result (λ judge. KnowsTaken W judge
-            (event_terms_of together header.now.may header.now.links.items) []) }
+            (event_terms_of together header.now.may (links_in header.now)) []) }
     {
         Ok(EventLineJudge {
             judge: EventJudge::new(alloc, together, header)?,

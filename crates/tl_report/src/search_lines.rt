@@ -1,6 +1,7 @@
 //! Searches the lines of an input for those at fault.
 
 ghost use Rattle.std.specs.Prelude.{◌≡◌, [], IfOk};
+ghost use Rattle.tl_commit_lines.specs.statement.MarkedHeader.{links_in};
 ghost use Rattle.tl_beat.specs.statement.Width.{IsWidth};
 ghost use Rattle.tl_lines.specs.declared.status.Status.{Status};
 ghost use Rattle.tl_report.specs.code.EventJudging.{event_ways};
@@ -94,7 +95,7 @@ fn events<const W: usize>(
 ) -> Result<Search<EventLineJudge<W>>, AllocError>
     requires { IsWidth W }
     ensures { IfOk result (StartsSearch (event_ways W) aim (event_terms_of aim.together header.now.may
-        header.now.links.items)) }
+        (links_in header.now))) }
 {
     let judge = EventLineJudge::new(alloc, aim.together, header)?;
     Search::new(alloc, aim, judge)
@@ -109,7 +110,7 @@ fn wide_events<const W: usize, const P: usize>(
     requires width { IsWideWidth W }
     requires part { P ≡ part_width W }
     ensures { IfOk result (StartsSearch (wide_event_ways W P) aim (event_terms_of aim.together links.may
-        links.links.items)) }
+        (links_in links))) }
 {
     let judge = WideEventTaker::new(alloc, aim.together, &links)?;
     Search::new(alloc, aim, KeptLineJudge::new(alloc, aim, judge, links))

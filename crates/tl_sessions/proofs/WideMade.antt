@@ -1,6 +1,7 @@
 -- Monitors and judges of wide beats, and of these and commits, that were made.
 use Rattle.std.proofs.Common.{◌≡◌, ℕ, List, [], subst, sym, inl}
 use Rattle.std.specs.Prelude.{map, Result, Ok, Err}
+use Rattle.tl_commits.specs.statement.Completeness.{with_stores}
 use Rattle.tl_commits.specs.statement.Events.{beats_of}
 use Rattle.tl_monitor.specs.declared.monitor.Monitor.{Monitor}
 use Rattle.tl_params.specs.declared.liberties.Liberties.{Liberties}
@@ -48,6 +49,6 @@ made_together codes liberties l j result is fresh empty =
 pub made_with_commits : {p : ℕ} (codes complete : List ℕ) (liberties : ℕ) (j : EventJudge p)
     (result : Result (WideJudge p) Answer)
     → IsFreshEvents codes complete liberties j → IsEmpty (OfEvents j.judge) result
-    → MakesWide (WithCommits (map flag_at complete)) codes liberties result
+    → MakesWide (WithCommits (with_stores (map flag_at complete))) codes liberties result
 made_with_commits codes complete liberties j result fresh empty =
-    made_of (WithCommits (map flag_at complete)) codes liberties (OfEvents j.judge) result fresh.1 empty
+    made_of (WithCommits (with_stores (map flag_at complete))) codes liberties (OfEvents j.judge) result fresh.1 empty

@@ -1,5 +1,5 @@
 -- The events that a wide event becomes, judged one after another.
-use Rattle.std.proofs.Common.{◌≡◌, ◌∙◌, ℕ, Bool, List, [], ◌∷◌, ap, refl, subst, sym, inl, inr}
+use Rattle.std.proofs.Common.{◌≡◌, ◌∙◌, ℕ, List, [], ◌∷◌, ap, refl, subst, sym, inl, inr}
 use Rattle.std.specs.Prelude.{false, option_map, Option, Some, None, Err}
 use Rattle.tl_beat.specs.declared.beat.Beat.{Beat}
 use Rattle.tl_beat.specs.declared.beat.Link.{Link}
@@ -7,6 +7,7 @@ use Rattle.tl_beat.specs.statement.Width.{IsWidth}
 use Rattle.tl_commits.specs.declared.judge.CommitJudge.{CommitJudge}
 use Rattle.tl_commits.specs.declared.rule.CommitBreach.{CommitBreach}
 use Rattle.tl_commits.specs.declared.rule.CommitBreach.TheVariants.{OfBeats}
+use Rattle.tl_commits.specs.statement.Completeness.{Completeness}
 use Rattle.tl_commits.specs.statement.Breaches.{broken_event}
 use Rattle.tl_commits.specs.statement.Events.{Events, beats_of}
 use Rattle.tl_commits.specs.statement.Knows.{IsEvent, KnowsCommits}
@@ -183,9 +184,9 @@ together-commit link x j (WithCommits complete) levels l e known valid = absurd 
 -- ---- one event of a judge of beats and commits
 
 module _ {p : ℕ} (link : Link) (x : Event p) (old new : CommitJudge p) where
-  pub events-good : ((levels : List Level) (complete : List Bool) (l : Liberties) (e : Events p)
+  pub events-good : ((levels : List Level) (complete : Completeness) (l : Liberties) (e : Events p)
       → KnowsCommits old levels complete l e → IsEvent x → broken_event levels complete l link x e ≡ None)
-      → ((levels : List Level) (complete : List Bool) (l : Liberties) (e : Events p)
+      → ((levels : List Level) (complete : Completeness) (l : Liberties) (e : Events p)
       → KnowsCommits old levels complete l e → IsEvent x → KnowsCommits new levels complete l ((link, x) ∷ e))
       → (judging : Judging) (levels : List Level) (l : Liberties) (e : Events p)
       → KnowsParts judging (OfEvents old) levels l e → IsEvent x
@@ -195,7 +196,8 @@ module _ {p : ℕ} (link : Link) (x : Event p) (old new : CommitJudge p) where
   events-good answer knows Alone levels l e known valid = absurd known
   events-good answer knows Together levels l e known valid = absurd known
 
-  pub events-bad : (breach : CommitBreach) → ((levels : List Level) (complete : List Bool) (l : Liberties) (e : Events p)
+  pub events-bad : (breach : CommitBreach) →
+      ((levels : List Level) (complete : Completeness) (l : Liberties) (e : Events p)
       → KnowsCommits old levels complete l e → IsEvent x → broken_event levels complete l link x e ≡ Some breach)
       → (judging : Judging) (levels : List Level) (l : Liberties) (e : Events p)
       → KnowsParts judging (OfEvents old) levels l e → IsEvent x → breach_of judging levels l link x e ≡ Some breach
@@ -203,7 +205,7 @@ module _ {p : ℕ} (link : Link) (x : Event p) (old new : CommitJudge p) where
   events-bad breach answer Alone levels l e known valid = absurd known
   events-bad breach answer Together levels l e known valid = absurd known
 
-  pub events-kept : ((levels : List Level) (complete : List Bool) (l : Liberties) (e : Events p)
+  pub events-kept : ((levels : List Level) (complete : Completeness) (l : Liberties) (e : Events p)
       → KnowsCommits old levels complete l e → IsEvent x → KnowsCommits new levels complete l e)
       → (judging : Judging) (levels : List Level) (l : Liberties) (e : Events p)
       → KnowsParts judging (OfEvents old) levels l e → IsEvent x

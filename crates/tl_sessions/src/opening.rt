@@ -160,7 +160,8 @@ pub fn make_events<const W: usize>(
         return Err(Answer::NO_MEMORY);
     };
     let liberties = liberties_of(liberties);
-    match CommitJudge::with_liberties(alloc, levels.as_slice(), flags.as_slice(), liberties) {
+    let (levels, flags) = (levels.as_slice(), flags.as_slice());
+    match CommitJudge::with_liberties(alloc, levels, flags, false, liberties) {
         Ok(judge) => Ok(EventJudge {
             judge,
             closed: false,

@@ -2,6 +2,7 @@
 //! bad input.
 
 ghost use Rattle.std.specs.Prelude.{map};
+ghost use Rattle.tl_commits.specs.statement.Completeness.{with_stores};
 ghost use Rattle.tl_sessions.specs.code.WideJudging.{MakesWide};
 ghost use Rattle.tl_sessions.specs.statement.Opened.{ok_of, answer_in};
 ghost use Rattle.tl_sessions.specs.statement.Wide.{Alone, Together, WithCommits};
@@ -75,7 +76,7 @@ fn make_wide_events<const P: usize>(
     liberties: u8,
 ) -> Result<WideJudge<P>, Answer>
     requires width { IsWidth P }
-    ensures { MakesWide (WithCommits (map flag_at complete.now)) codes.now liberties result }
+    ensures { MakesWide (WithCommits (with_stores (map flag_at complete.now))) codes.now liberties result }
 {
     let EventJudge { judge, .. } = make_events(alloc, codes, complete, liberties)?;
     WideJudge::of(alloc, PartJudge::OfEvents(judge))

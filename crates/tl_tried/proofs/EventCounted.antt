@@ -6,9 +6,8 @@ use Rattle.tl_beat.specs.declared.beat.Link.{Link}
 use Rattle.tl_beat.specs.declared.fault.LineFault.{LineFault}
 use Rattle.tl_beat.specs.declared.fault.LineFault.TheVariants.{F1}
 use Rattle.tl_commit_lines.proofs.JudgedLines.{header-known, line-stops, line-taken, open-event}
-use Rattle.tl_commit_lines.specs.declared.header.MarkedLevel.{MarkedLevel}
 use Rattle.tl_commit_lines.specs.statement.JudgedEvents.{JudgedCommits}
-use Rattle.tl_commit_lines.specs.statement.MarkedHeader.{NamesMarked}
+use Rattle.tl_commit_lines.specs.statement.MarkedHeader.{MarkedLinks, NamesMarked}
 use Rattle.tl_lines.specs.declared.fault.Fault.{Fault}
 use Rattle.tl_lines.specs.declared.fault.Fault.TheVariants.{Line}
 use Rattle.tl_lines.specs.declared.status.Status.TheVariants.{Broken}
@@ -98,7 +97,7 @@ module _ {wide : Width} (allow : Liberties) (old : EventCovering (bytes_of wide)
         )
 
 -- what its header begins
-pub header-counted : (wide : Width) (allow : Liberties) (line : List ℕ) (may : Liberties) (links : List MarkedLevel)
+pub header-counted : (wide : Width) (allow : Liberties) (line : List ℕ) (may : Liberties) (links : MarkedLinks)
     (c : EventCovering (bytes_of wide)) → NamesMarked allow line wide may links → CoversEvents c links may []
     → KnowsEventCovering wide allow c (line ∷ []) []
 header-counted wide allow line may links c named none = record {

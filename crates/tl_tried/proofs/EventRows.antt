@@ -5,8 +5,7 @@ use Rattle.std.proofs.lemmas.List.{length-map, length-reverse, map-append}
 use Rattle.std.specs.Prelude.{IfOk, Option, Some, None, Result, Ok, Err, reverse}
 use Rattle.tl_beat.specs.declared.beat.Beat.{Beat}
 use Rattle.tl_beat.specs.declared.beat.Link.{Link}
-use Rattle.tl_commit_lines.specs.declared.header.MarkedLevel.{MarkedLevel}
-use Rattle.tl_commit_lines.specs.statement.MarkedHeader.{levels_of}
+use Rattle.tl_commit_lines.specs.statement.MarkedHeader.{MarkedLinks, levels_of}
 use Rattle.tl_commits.specs.statement.Events.{Events, beats_of}
 use Rattle.tl_cover.specs.declared.covering.Covering.{Covering}
 use Rattle.tl_cover.specs.declared.row.Row.{Row}
@@ -74,14 +73,14 @@ each-one e = length-map (reverse e) beats_at ∙ length-reverse e
 -- ---- the covering
 
 -- the situations of a covering are those of its events
-pub found-so : {w : ℕ} (c : EventCovering w) (links : List MarkedLevel) (may : Liberties) (e : Events w)
+pub found-so : {w : ℕ} (c : EventCovering w) (links : MarkedLinks) (may : Liberties) (e : Events w)
     → CoversEvents c links may e → events_found_in c ≡ events_found links may e
 found-so c links may e k =
     let counts = ap (λ (found : Found). found.1) (found_are c.covering (levels_of links) may (beats_of e) false k.covers) in
     ap₂ (λ (rows : List Row) (cells : List (Option ℕ)). (rows, cells)) k.rows_are counts
 
 -- a covering that has seen no event
-pub none-covered : {w : ℕ} (c : EventCovering w) (links : List MarkedLevel) (levels : List Level) (may : Liberties)
+pub none-covered : {w : ℕ} (c : EventCovering w) (links : MarkedLinks) (levels : List Level) (may : Liberties)
     (before rows : List Row) → levels ≡ levels_of links → Covers c.covering levels may [] false
     → rows ≡ rows_in c.covering → before ≡ [] → c.rows.items ≡ with_each (followed 1) (first_in 1) before rows
     → c.line ≡ 1 → CoversEvents c links may []

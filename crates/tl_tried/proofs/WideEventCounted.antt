@@ -6,9 +6,8 @@ use Rattle.std.specs.Prelude.{Option, Some, None}
 use Rattle.tl_beat.specs.declared.beat.Beat.{Beat}
 use Rattle.tl_beat.specs.declared.beat.Link.{Link}
 use Rattle.tl_beat.specs.declared.fault.LineFault.TheVariants.{F1}
-use Rattle.tl_commit_lines.specs.declared.header.MarkedLevel.{MarkedLevel}
 use Rattle.tl_commit_lines.specs.statement.JudgedEvents.{fault_by}
-use Rattle.tl_commit_lines.specs.statement.MarkedHeader.{levels_of}
+use Rattle.tl_commit_lines.specs.statement.MarkedHeader.{MarkedLinks, levels_of}
 use Rattle.tl_commits.specs.statement.Events.{Events, beats_of}
 use Rattle.tl_cover.specs.declared.row.Row.{Row}
 use Rattle.tl_cover.specs.statement.Covered.{covered}
@@ -60,7 +59,7 @@ use Rattle.tl_wide_lines.specs.statement.PartFaults.{or_fault, part_fault, parts
 
 -- ---- parts as events
 
-module _ {p : ℕ} (links : List MarkedLevel) (may : Liberties) (link : Link) where
+module _ {p : ℕ} (links : MarkedLinks) (may : Liberties) (link : Link) where
   -- the fault of parts is that of the events which they are
   parts-fault : (parts : List (Beat p)) (e : Events p) → first_fault false links may link (as_events parts) e
       ≡ part_fault false (levels_of links) may link parts (beats_of e)
@@ -338,7 +337,7 @@ module _ {wide : WideWidth} (allow : Liberties) (old : WideCovering (part_width 
     line-counted answer (inr (link, x, spells, takes)) = event-says link x answer spells takes
 
 -- what its header begins
-pub header-counted : (wide : WideWidth) (allow : Liberties) (line : List ℕ) (may : Liberties) (links : List MarkedLevel)
+pub header-counted : (wide : WideWidth) (allow : Liberties) (line : List ℕ) (may : Liberties) (links : MarkedLinks)
     (c : WideCovering (part_width (wide_bytes_of wide))) → NamesWideMarked allow line wide may links
     → CoversNone (levels_of links) may c → KnowsWideEventCovering wide allow c (line ∷ []) []
 unfolding header-known narrowed beats_of parts_each

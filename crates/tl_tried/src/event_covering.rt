@@ -2,7 +2,7 @@
 
 ghost use Rattle.std.specs.Prelude.{◌≡◌, [], false, IfOk};
 ghost use Rattle.tl_beat.specs.statement.Width.{IsWidth};
-ghost use Rattle.tl_commit_lines.specs.statement.MarkedHeader.{levels_of};
+ghost use Rattle.tl_commit_lines.specs.statement.MarkedHeader.{levels_of, links_in};
 ghost use Rattle.tl_cover.specs.statement.Covers.{Covers};
 ghost use Rattle.tl_tried.specs.code.EventCover.{CoversEvents, ReadsEvent, TakesBeatOf, TakesEvent, events_found_in};
 
@@ -34,7 +34,7 @@ pub fn follow_events<const W: usize>(
     header: &CommitHeader,
 ) -> Result<Covering<W>, AllocError>
     requires { IsWidth W }
-    ensures { IfOk result (λ c. Covers c (levels_of header.now.links.items) header.now.may [] false) }
+    ensures { IfOk result (λ c. Covers c (levels_of (links_in header.now)) header.now.may [] false) }
 {
     let levels = levels_of(alloc, header.links.as_slice())?;
     match Covering::new(alloc, levels.as_slice(), header.may) {
@@ -63,7 +63,7 @@ impl<const W: usize> EventCovering<W> {
     /// left.
     pub fn new(alloc: Global, header: &CommitHeader) -> Result<Self, AllocError>
         requires { IsWidth W }
-        ensures { IfOk result (λ c. CoversEvents c header.now.links.items header.now.may []) }
+        ensures { IfOk result (λ c. CoversEvents c (links_in header.now) header.now.may []) }
     {
         let covering = follow_events(alloc, header)?;
         let mut rows = Vec::new(alloc);

@@ -3,7 +3,7 @@
 ghost use Rattle.std.specs.Prelude.{◌≡◌, [], false, IfOk, List};
 ghost use Rattle.tl_beat.specs.statement.Width.{IsWidth};
 ghost use Rattle.tl_cover.specs.statement.Covers.{Covers};
-ghost use Rattle.tl_commit_lines.specs.statement.MarkedHeader.{levels_of};
+ghost use Rattle.tl_commit_lines.specs.statement.MarkedHeader.{levels_of, links_in};
 ghost use Rattle.tl_params.specs.declared.level.Level.{Level};
 ghost use Rattle.tl_params.specs.declared.liberties.Liberties.{Liberties};
 ghost use Rattle.tl_tried.specs.code.WideCover.{CoversNone, TakesEventLine, TakesParts, TakesWideBeat, TakesWideCommit};
@@ -90,7 +90,7 @@ impl<const P: usize> WideCovering<P> {
     /// The same of the links that a header of a trace with commits names.
     pub fn of_events(alloc: Global, header: &CommitHeader) -> Result<Self, AllocError>
         requires { IsWidth P }
-        ensures { IfOk result (CoversNone (levels_of header.now.links.items) header.now.may) }
+        ensures { IfOk result (CoversNone (levels_of (links_in header.now)) header.now.may) }
     {
         let covering = follow_events(alloc, header)?;
         WideCovering::over(alloc, covering)

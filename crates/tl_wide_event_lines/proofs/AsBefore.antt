@@ -1,9 +1,8 @@
 -- A trace with another header is judged as before, and no other header is that of a wide trace with commits.
 use Rattle.std.proofs.Common.{◌≡◌, ◌∙◌, ℕ, Bool, true, false, List, ◌∷◌, ◌++◌, ap, arith, sym, inl, inr, refl}
-use Rattle.tl_commit_lines.proofs.AsBefore.{fifth-header-without, has_plus, links-with, links-without}
-use Rattle.tl_commit_lines.specs.declared.header.MarkedLevel.{MarkedLevel}
+use Rattle.tl_commit_lines.proofs.AsBefore.{fifth-header-without, has_sign, links-with, links-without}
 use Rattle.tl_commit_lines.specs.statement.JudgedEvents.{JudgedCommits}
-use Rattle.tl_commit_lines.specs.statement.MarkedHeader.{SpellsMarked}
+use Rattle.tl_commit_lines.specs.statement.MarkedHeader.{MarkedLinks, SpellsMarked}
 use Rattle.tl_lines.specs.declared.status.Status.{Status}
 use Rattle.tl_lines.specs.statement.LinksHeader.{NamesLinks, fourth_front}
 use Rattle.tl_params.specs.declared.level.Level.{Level}
@@ -19,25 +18,25 @@ use Rattle.tl_wide_event_lines.specs.statement.WideMarkedHeader.{SpellsWideMarke
 
 pub as-before : (together : Bool) (allow : Liberties) (line : List ℕ) (lines : List (List ℕ)) (text : List ℕ)
     (status : Status)
-    → ((width : WideWidth) (own : Liberties) (links : List MarkedLevel) → ¬ SpellsWideMarked line width own links)
+    → ((width : WideWidth) (own : Liberties) (links : MarkedLinks) → ¬ SpellsWideMarked line width own links)
     → JudgedAny together allow (line ∷ lines) text status → JudgedCommits together allow (line ∷ lines) text status
 as-before together allow line lines text status none (inr (unnamed, judged)) = judged
 as-before together allow line lines text status none (inl (width, may, links, named, judged)) =
     absurd (none_for allow line none width may links named)
 
 -- a header of a wide trace with commits has a plus
-header-with : (line : List ℕ) (width : WideWidth) (may : Liberties) (links : List MarkedLevel)
-    → SpellsWideMarked line width may links → has_plus line ≡ true
+header-with : (line : List ℕ) (width : WideWidth) (may : Liberties) (links : MarkedLinks)
+    → SpellsWideMarked line width may links → has_sign line ≡ true
 header-with line width may links (rest, is, h) = rw is (links-with (fifth_front width) rest may links h)
 
 pub links-apart : (line : List ℕ) (width : Width) (other : WideWidth) (may own : Liberties) (levels : List Level)
-    (links : List MarkedLevel) → NamesLinks line width may levels → ¬ SpellsWideMarked line other own links
+    (links : MarkedLinks) → NamesLinks line width may levels → ¬ SpellsWideMarked line other own links
 links-apart line width other may own levels links named h =
     let both : false ≡ true = sym (links-without line width may levels named) ∙ header-with line other own links h in
     absurd cc
 
 pub wide-apart : (line : List ℕ) (width other : WideWidth) (may own : Liberties) (levels : List Level)
-    (links : List MarkedLevel) → SpellsFifth line width may levels → ¬ SpellsWideMarked line other own links
+    (links : MarkedLinks) → SpellsFifth line width may levels → ¬ SpellsWideMarked line other own links
 wide-apart line width other may own levels links named h =
     let both : false ≡ true = sym (fifth-header-without line width may levels named)
     ∙ header-with line other own links h in
@@ -63,6 +62,6 @@ fifth-ninth ThirtyTwo rest = refl
 fifth-ninth SixtyFour rest = refl
 
 pub marked-apart : (line : List ℕ) (width : Width) (other : WideWidth) (may own : Liberties)
-    (links others : List MarkedLevel) → SpellsMarked line width may links → ¬ SpellsWideMarked line other own others
+    (links others : MarkedLinks) → SpellsMarked line width may links → ¬ SpellsWideMarked line other own others
 marked-apart line width other may own links others (left, is, h) (right, also, i) =
     absurd (omega (arith, ap ninth is ∙ fourth-ninth width left, ap ninth also ∙ fifth-ninth other right))

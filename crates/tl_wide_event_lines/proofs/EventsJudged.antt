@@ -3,8 +3,8 @@ use Rattle.std.proofs.Common.{◌≡◌, ◌∙◌, ℕ, Bool, false, List, [], 
 use Rattle.std.specs.Prelude.{Option, Some, None}
 use Rattle.tl_beat.specs.declared.beat.Link.{Link}
 use Rattle.tl_commit_lines.specs.code.EventWatching.{JudgesEvent, KnowsEvents}
-use Rattle.tl_commit_lines.specs.declared.header.MarkedLevel.{MarkedLevel}
 use Rattle.tl_commit_lines.specs.declared.judge.EventJudge.{EventJudge}
+use Rattle.tl_commit_lines.specs.statement.MarkedHeader.{MarkedLinks}
 use Rattle.tl_commit_lines.specs.statement.JudgedEvents.{fault_by}
 use Rattle.tl_commits.specs.statement.Events.{Events}
 use Rattle.tl_lines.specs.declared.fault.Fault.{Fault}
@@ -29,7 +29,7 @@ use Rattle.tl_wide_lines.specs.statement.PartFaults.{or_fault}
 -- what a judge says of one event after what it knows
 abbrev pub JudgesOne : {p : ℕ} → EventJudge p → EventJudge p → Link → Event p → Option Fault → Type 0
 JudgesOne {p} old new link x answer =
-    (together : Bool) (links : List MarkedLevel) (may : Liberties) (e : Events p)
+    (together : Bool) (links : MarkedLinks) (may : Liberties) (e : Events p)
     → KnowsEvents together old links may e → JudgesEvent together new links may e link x answer
 
 -- nothing has been judged
@@ -84,7 +84,7 @@ one-judged old new link x (Some found) h =
     event_bad old old link (x ∷ []) new x (x ∷ []) [] found refl (none-judged old link (x ∷ [])) h
 
 -- where no event is at fault all are taken
-pub all-taken : {p : ℕ} (together : Bool) (links : List MarkedLevel) (may : Liberties) (link : Link)
+pub all-taken : {p : ℕ} (together : Bool) (links : MarkedLinks) (may : Liberties) (link : Link)
     (events : List (Event p)) (e : Events p) → first_fault together links may link events e ≡ None
     → events_taken together links may link events e ≡ with_events link events e
 unfolding first_fault events_taken with_events

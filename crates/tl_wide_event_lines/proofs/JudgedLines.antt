@@ -6,7 +6,6 @@ use Rattle.std.specs.Prelude.{◌⊎◌, Option, Some, None}
 use Rattle.tl_beat.specs.declared.beat.Link.{Link}
 use Rattle.tl_beat.specs.declared.fault.LineFault.TheVariants.{F1}
 use Rattle.tl_commit_lines.specs.code.EventWatching.{KnowsEvents}
-use Rattle.tl_commit_lines.specs.declared.header.MarkedLevel.{MarkedLevel}
 use Rattle.tl_commits.specs.statement.Events.{Events}
 use Rattle.tl_lines.specs.declared.fault.Fault.{Fault}
 use Rattle.tl_lines.specs.declared.fault.Fault.TheVariants.{Beyond, Line}
@@ -25,6 +24,7 @@ use Rattle.tl_wide_events.specs.declared.commit.WideEvent.{WideEvent}
 use Rattle.tl_wide_events.specs.statement.Narrowed.{WideEvents, events_of, names_of, narrowed, with_events}
 use Rattle.tl_wide_events.specs.statement.WideEventLine.{SpellsWideEvent, wide_event_fault}
 use Rattle.tl_wide_lines.proofs.JudgedLines.{open-fault}
+use Rattle.tl_commit_lines.specs.statement.MarkedHeader.{MarkedLinks}
 use Rattle.tl_wide_event_lines.proofs.EventsJudged.{all-taken}
 use Rattle.tl_wide_event_lines.specs.code.EventJudging.{JudgesLineOf, JudgesWideEvent}
 use Rattle.tl_wide_event_lines.specs.code.EventWatching.{KnowsWideEvents}
@@ -39,7 +39,7 @@ open-event w line is = rw (open-fault w line is) refl
 
 -- ---- the fault of an event
 
-module _ (w : ℕ) (together : Bool) (links : List MarkedLevel) (may : Liberties) (link : Link) (x : WideEvent w)
+module _ (w : ℕ) (together : Bool) (links : MarkedLinks) (may : Liberties) (link : Link) (x : WideEvent w)
     (t : WideEvents w) where
   -- what becomes of it
   abbrev parts_fault : Option Fault
@@ -55,7 +55,7 @@ module _ (w : ℕ) (together : Bool) (links : List MarkedLevel) (may : Liberties
 
 -- ---- the lines of events have a text
 
-module _ (w : ℕ) (width : IsWideWidth w) (together : Bool) (links : List MarkedLevel) (may : Liberties) where
+module _ (w : ℕ) (width : IsWideWidth w) (together : Bool) (links : MarkedLinks) (may : Liberties) where
   -- the line spells an event that isn't at fault, or it is at fault
   abbrev GoodOrBad : WideEvents w → List ℕ → Type 0
   GoodOrBad t line =
@@ -204,7 +204,7 @@ module _ {wide : WideWidth} (together : Bool) (allow : Liberties)
 
 -- what its header begins
 unfoldable pub header-known : (wide : WideWidth) (together : Bool) (allow : Liberties) (line : List ℕ) (may : Liberties)
-    (links : List MarkedLevel) (judge : WideEventJudge (part_width (wide_bytes_of wide)))
+    (links : MarkedLinks) (judge : WideEventJudge (part_width (wide_bytes_of wide)))
     → NamesWideMarked allow line wide may links → ((w : ℕ) → Follows {w = w} judge.narrower [])
     → KnowsEvents together judge.judge links may [] → KnowsWideEvents wide together allow judge (line ∷ []) []
 unfolding narrowed

@@ -3,7 +3,6 @@ use Rattle.std.proofs.Common.{◌≡◌, ◌∙◌, ◌+◌, ℕ, Bool, List, []
 use Rattle.std.specs.Prelude.{Option, Some, None}
 use Rattle.tl_beat.specs.declared.beat.Link.{Link}
 use Rattle.tl_beat.specs.declared.fault.LineFault.{LineFault}
-use Rattle.tl_commit_lines.specs.declared.header.MarkedLevel.{MarkedLevel}
 use Rattle.tl_lines.specs.declared.fault.Fault.{Fault}
 use Rattle.tl_lines.specs.declared.fault.Fault.TheVariants.{Line}
 use Rattle.tl_lines.specs.declared.status.Status.{Status}
@@ -14,13 +13,14 @@ use Rattle.tl_wide_events.proofs.EventLines.{one-event, spelled-event}
 use Rattle.tl_wide_events.specs.declared.commit.WideEvent.{WideEvent}
 use Rattle.tl_wide_events.specs.statement.Narrowed.{WideEvents}
 use Rattle.tl_wide_events.specs.statement.WideEventLine.{SpellsWideEvent, wide_event_fault}
+use Rattle.tl_commit_lines.specs.statement.MarkedHeader.{MarkedLinks}
 use Rattle.tl_wide_event_lines.specs.statement.EventFaults.{wide_fault_by}
 use Rattle.tl_wide_event_lines.specs.statement.JudgedWideEvents.{IsWideAtFault, JudgedWideEvents}
 
 some-same : {A : Type 0} {x y : A} → Some x ≡ Some y → x ≡ y
 some-same e = cc
 
-module _ (w : ℕ) (width : IsWideWidth w) (together : Bool) (links : List MarkedLevel) (may : Liberties) where
+module _ (w : ℕ) (width : IsWideWidth w) (together : Bool) (links : MarkedLinks) (may : Liberties) where
   -- the fault of an event, with its link
   abbrev fault_of : WideEvents w → Link × WideEvent w → Option Fault
   fault_of t x = wide_fault_by w together links may x.0 x.1 t

@@ -2,8 +2,7 @@
 use Rattle.std.proofs.Common.{◌≡◌, ◌≢◌, ◌∙◌, ◌≤◌, ℕ, List, length, refl, ap, sym, inl, inr, arith}
 use Rattle.std.specs.Prelude.{◌⊎◌, Option, Some, None}
 use Rattle.tl_commit_lines.proofs.MarkedHeaders.{LinksOrNone, links_open, links_or_none}
-use Rattle.tl_commit_lines.specs.declared.header.MarkedLevel.{MarkedLevel}
-use Rattle.tl_commit_lines.specs.statement.MarkedHeader.{SpellsLinks}
+use Rattle.tl_commit_lines.specs.statement.MarkedHeader.{MarkedLinks, SpellsLinks}
 use Rattle.tl_lines.specs.statement.Lines.{IsOpen}
 use Rattle.tl_params.proofs.Options.{some_pair}
 use Rattle.tl_params.specs.declared.liberties.Liberties.{Liberties}
@@ -16,7 +15,7 @@ use Rattle.tl_wide_lines.specs.statement.WideHeader.{fifth_front}
 use Rattle.tl_wide_event_lines.specs.declared.header.WideCommitHeader.{WideCommitHeader}
 use Rattle.tl_wide_event_lines.specs.statement.WideMarkedHeader.{IsWideMarked, NamesWideMarked, SpellsWideMarked}
 
-module _ (line : List ℕ) (width : WideWidth) (may : Liberties) (links : List MarkedLevel)
+module _ (line : List ℕ) (width : WideWidth) (may : Liberties) (links : MarkedLinks)
     (h : SpellsWideMarked line width may links) where
   front_is : wide_front_at line ≡ Some (width, h.0)
   front_is = ap wide_front_at h.1 ∙ front_again width h.0
@@ -34,8 +33,8 @@ module _ (line : List ℕ) (width : WideWidth) (may : Liberties) (links : List M
 
 abbrev WideOrNone : List ℕ → Type 0
 WideOrNone line =
-    ((width : WideWidth) × (may : Liberties) × (links : List MarkedLevel) × SpellsWideMarked line width may links)
-    ⊎ ((width : WideWidth) (may : Liberties) (links : List MarkedLevel) → ¬ SpellsWideMarked line width may links)
+    ((width : WideWidth) × (may : Liberties) × (links : MarkedLinks) × SpellsWideMarked line width may links)
+    ⊎ ((width : WideWidth) (may : Liberties) (links : MarkedLinks) → ¬ SpellsWideMarked line width may links)
 
 wide_or_none : (line : List ℕ) → WideOrNone line
 wide_or_none line = go (wide_front_at line) refl
@@ -54,8 +53,8 @@ wide_or_none line = go (wide_front_at line) refl
 -- with what is allowed besides
 abbrev pub NamedOrNone : Liberties → List ℕ → Type 0
 NamedOrNone allow line =
-    ((width : WideWidth) × (may : Liberties) × (links : List MarkedLevel) × NamesWideMarked allow line width may links)
-    ⊎ ((width : WideWidth) (may : Liberties) (links : List MarkedLevel) → ¬ NamesWideMarked allow line width may links)
+    ((width : WideWidth) × (may : Liberties) × (links : MarkedLinks) × NamesWideMarked allow line width may links)
+    ⊎ ((width : WideWidth) (may : Liberties) (links : MarkedLinks) → ¬ NamesWideMarked allow line width may links)
 
 pub named_or_none : (allow : Liberties) (line : List ℕ) → NamedOrNone allow line
 named_or_none allow line = go (wide_or_none line)
@@ -66,14 +65,14 @@ named_or_none allow line = go (wide_or_none line)
 
 -- nothing is named by a line that is no such header
 pub none_for : (allow : Liberties) (line : List ℕ)
-    → ((width : WideWidth) (may : Liberties) (links : List MarkedLevel) → ¬ SpellsWideMarked line width may links)
-    → (width : WideWidth) (may : Liberties) (links : List MarkedLevel) → ¬ NamesWideMarked allow line width may links
+    → ((width : WideWidth) (may : Liberties) (links : MarkedLinks) → ¬ SpellsWideMarked line width may links)
+    → (width : WideWidth) (may : Liberties) (links : MarkedLinks) → ¬ NamesWideMarked allow line width may links
 none_for allow line none width may links (own, named, same) = none width own links named
 
 pub unnamed : (allow : Liberties) (line : List ℕ) (found : Option WideCommitHeader) → found ≡ None
-    → ((width : WideWidth) (may : Liberties) (links : List MarkedLevel) → SpellsWideMarked line width may links
+    → ((width : WideWidth) (may : Liberties) (links : MarkedLinks) → SpellsWideMarked line width may links
     → IsWideMarked found width may links)
-    → (width : WideWidth) (may : Liberties) (links : List MarkedLevel) → ¬ NamesWideMarked allow line width may links
+    → (width : WideWidth) (may : Liberties) (links : MarkedLinks) → ¬ NamesWideMarked allow line width may links
 unnamed allow line found none every = none_for allow line (λ width may links h. rw none at (every width may links h))
 
 -- ---- a header's line ends in LF, and is short
@@ -86,6 +85,6 @@ front-short ThirtyTwo = omega arith
 front-short SixtyFour = omega arith
 
 pub open_wide : (allow : Liberties) (line : List ℕ) → IsOpen line → (width : WideWidth) (may : Liberties)
-    (links : List MarkedLevel) → ¬ NamesWideMarked allow line width may links
+    (links : MarkedLinks) → ¬ NamesWideMarked allow line width may links
 open_wide allow line is width may links (own, (rest, is_line, h), same) =
     links_open line (fifth_front width) rest is (front-short width) is_line own links h

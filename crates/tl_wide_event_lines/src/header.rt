@@ -1,9 +1,9 @@
 //! Reads the header of a wide trace with commits.
 
-ghost use Rattle.std.specs.Prelude.{List, IfSome};
-ghost use Rattle.tl_commit_lines.specs.declared.header.MarkedLevel.{MarkedLevel};
+ghost use Rattle.std.specs.Prelude.{IfSome};
 ghost use Rattle.tl_params.specs.declared.liberties.Liberties.{Liberties};
 ghost use Rattle.tl_wide.specs.declared.width.WideWidth.{WideWidth};
+ghost use Rattle.tl_commit_lines.specs.statement.MarkedHeader.{MarkedLinks, links_in};
 ghost use Rattle.tl_wide_event_lines.specs.code.EventWatching.{ReadsWideMarked};
 ghost use Rattle.tl_wide_event_lines.specs.statement.WideMarkedHeader.{IsWideMarked, SpellsWideMarked};
 
@@ -20,22 +20,23 @@ pub struct WideCommitHeader {
     pub narrow: CommitHeader,
 }
 
-/// Reads the first line of a wide trace with commits, with its LF: `tltrace 5 W LIBERTIES LEVELS..`, of which at least one
-/// level is `C+`. A line of another form is no such header.
+/// Reads the first line of a wide trace with commits, with its LF: `tltrace 5 W LIBERTIES LEVELS..` with the word
+/// `zero` before the levels, or at least one level `C+`. A line of another form is no such header.
 pub fn read_wide_marked(line: &[u8]) -> Option<WideCommitHeader>
     // The line spells the header that is read, and each header that a line spells is read.
     ensures spelled { IfSome result (λ header. SpellsWideMarked line.now header.width header.narrow.may
-        header.narrow.links.items) }
-    ensures every_spelling { (width : WideWidth) (may : Liberties) (links : List MarkedLevel) →
+        (links_in header.narrow)) }
+    ensures every_spelling { (width : WideWidth) (may : Liberties) (links : MarkedLinks) →
         SpellsWideMarked line.now width may links → IsWideMarked result width may links }
 {
     let (width, rest) = front(line)?;
-    let (may, links) = read_marked_links(rest)?;
+    let (may, zero, links) = read_marked_links(rest)?;
     Some(WideCommitHeader {
         width,
         narrow: CommitHeader {
             width: part_of(width),
             may,
+            zero,
             links,
         },
     })

@@ -2,6 +2,7 @@
 
 ghost use Rattle.std.specs.Prelude.{◌≡◌, IfOk};
 ghost use Rattle.tl_beat.specs.statement.Width.{IsWidth};
+ghost use Rattle.tl_commit_lines.specs.statement.MarkedHeader.{links_in};
 ghost use Rattle.tl_wide.specs.statement.Pieces.{left_of};
 ghost use Rattle.tl_wide.specs.statement.Width.{IsWideWidth, part_width};
 ghost use Rattle.tl_wide_events.specs.declared.commit.WideEvent.TheVariants as wide;
@@ -55,7 +56,7 @@ impl<const P: usize> WideEventJudge<P> {
     /// A judge of the links that a header names, which has seen no event. The error means that there is no memory left.
     pub fn new(alloc: Global, together: bool, header: &CommitHeader) -> Result<Self, AllocError>
         requires { IsWidth P }
-        ensures { IfOk result (KnowsNone together header.now.links.items header.now.may) }
+        ensures { IfOk result (KnowsNone together (links_in header.now) header.now.may) }
     {
         let judge = EventJudge::new(alloc, together, header)?;
         Ok(WideEventJudge {

@@ -1,9 +1,8 @@
 //! Laws: the verdict on a trace with another header is as it was, and each verdict is unique.
 
 ghost use Rattle.std.specs.Prelude.{◌≡◌, ◌∷◌, ℕ, Bool, List};
-ghost use Rattle.tl_commit_lines.specs.declared.header.MarkedLevel.{MarkedLevel};
 ghost use Rattle.tl_commit_lines.specs.statement.JudgedEvents.{JudgedCommits};
-ghost use Rattle.tl_commit_lines.specs.statement.MarkedHeader.{SpellsMarked};
+ghost use Rattle.tl_commit_lines.specs.statement.MarkedHeader.{MarkedLinks, SpellsMarked};
 ghost use Rattle.tl_lines.specs.declared.status.Status.{Status};
 ghost use Rattle.tl_lines.specs.statement.LinksHeader.{NamesLinks};
 ghost use Rattle.tl_params.specs.declared.level.Level.{Level};
@@ -21,20 +20,20 @@ ghost use Rattle.tl_wide_event_lines.specs.statement.WideMarkedHeader.{SpellsWid
 pub fn judged_as_before()
     ensures judged { (together : Bool) (allow : Liberties) (line : List ℕ) (lines : List (List ℕ)) (text : List ℕ)
         (status : Status) →
-        ((width : WideWidth) (own : Liberties) (links : List MarkedLevel) → ¬ SpellsWideMarked line width own links) →
+        ((width : WideWidth) (own : Liberties) (links : MarkedLinks) → ¬ SpellsWideMarked line width own links) →
         JudgedAny together allow (line ∷ lines) text status → JudgedCommits together allow (line ∷ lines) text status }
     ensures links { (line : List ℕ) (width : Width) (other : WideWidth) (may own : Liberties) (levels : List Level)
-        (links : List MarkedLevel) → NamesLinks line width may levels → ¬ SpellsWideMarked line other own links }
+        (links : MarkedLinks) → NamesLinks line width may levels → ¬ SpellsWideMarked line other own links }
     ensures wide { (line : List ℕ) (width other : WideWidth) (may own : Liberties) (levels : List Level)
-        (links : List MarkedLevel) → SpellsFifth line width may levels → ¬ SpellsWideMarked line other own links }
+        (links : MarkedLinks) → SpellsFifth line width may levels → ¬ SpellsWideMarked line other own links }
     ensures marked { (line : List ℕ) (width : Width) (other : WideWidth) (may own : Liberties)
-        (links others : List MarkedLevel) → SpellsMarked line width may links → ¬ SpellsWideMarked line other own others }
+        (links others : MarkedLinks) → SpellsMarked line width may links → ¬ SpellsWideMarked line other own others }
 {}
 
 /// Two verdicts on the same lines of wide events are equal.
 pub fn judged_once<const W: usize>()
     requires { IsWideWidth W }
-    ensures { (together : Bool) (links : List MarkedLevel) (may : Liberties) (t : WideEvents W) (lines : List (List ℕ))
+    ensures { (together : Bool) (links : MarkedLinks) (may : Liberties) (t : WideEvents W) (lines : List (List ℕ))
         (text other : List ℕ) (status another : Status) → JudgedWideEvents W together links may t lines text status →
         JudgedWideEvents W together links may t lines other another → (text ≡ other) × (status ≡ another) }
 {}

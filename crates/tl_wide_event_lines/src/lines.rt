@@ -31,7 +31,7 @@ pub enum WideEventLinks {
 }
 
 /// Judges the lines of a trace of any version: the header, and then the beats of up to 16 links, with the commits of their
-/// cores if the header names a link of level C+.
+/// cores if the header names a link of level C+ or says that memory was zero.
 #[derive(Drop)]
 pub struct WideEventLines {
     alloc: Global,

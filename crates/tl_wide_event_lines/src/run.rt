@@ -14,10 +14,10 @@ use tl_params::liberties::Liberties;
 /// Judges a recorded trace, each link by itself or all together: reads the input to its end or to the first line at
 /// fault, and writes `clean N`, `coherent N` for links judged together, or `line N X`.
 ///
-/// If the header is that of a wide trace and names a link of level C+, stores and loads of cores may be between the wide
-/// beats. The verdict is that on the trace that the wide one becomes, at the line of the wide event that becomes the event
-/// at fault, and N counts wide events. After another header the text is that of `tl_commit_lines::run::run_events`. The
-/// status and the errors are those of `tl_engine::tool::run_tool`.
+/// If the header is that of a wide trace, and names a link of level C+ or says that memory was zero, stores and loads
+/// of cores may be between the wide beats. The verdict is that on the trace that the wide one becomes, at the line of
+/// the wide event that becomes the event at fault, and N counts wide events. After another header the text is that of
+/// `tl_commit_lines::run::run_events`. The status and the errors are those of `tl_engine::tool::run_tool`.
 pub fn run_any<R: Read, W: Write>(
     alloc: Global,
     together: bool,

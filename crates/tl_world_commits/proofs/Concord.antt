@@ -17,6 +17,7 @@ use Rattle.tl_together.specs.statement.Coherence.{breach_or, broken_beginning, b
 use Rattle.tl_together.specs.statement.Coherence.{broken_together}
 use Rattle.tl_together.specs.statement.Coherence.{first_breach, first_broken, memory_rule_or}
 use Rattle.tl_events.specs.declared.commit.Event.TheVariants as event
+use Rattle.tl_commits.specs.statement.Completeness.{Completeness}
 use Rattle.tl_commits.specs.statement.Breaches.{broken_beat, broken_event}
 unfoldable use Rattle.tl_commits.specs.statement.Breaches.{commit_breach_from}
 use Rattle.tl_commits.specs.statement.Commits.{broken_report}
@@ -31,7 +32,7 @@ use Rattle.tl_coherence.specs.statement.Flow.{trace_of}
 use Rattle.tl_true_bytes.proofs.Together.{concord}
 use Rattle.tl_world_commits.proofs.Beats.{events-beats}
 use Rattle.tl_world_commits.proofs.Events.{unbroken_commits}
-use Rattle.tl_world_commits.proofs.Reports.{zeros}
+use Rattle.tl_world_commits.proofs.Reports.{zeros, zeros-start}
 use Rattle.tl_world_commits.proofs.WorldSteps.{world-steps}
 use Rattle.tl_world_commits.specs.statement.CommitConcord.{CommitConcord}
 use Rattle.tl_world_commits.specs.statement.Unbroken.{complete_of}
@@ -85,7 +86,7 @@ first-none None n e = refl
 first-none (Some rule) n e = absurd cc
 
 -- a beat that breaks no rule of beats, has true bytes, and loses no stores breaks no rule
-quiet-beat : {w : ℕ} (levels : List Level) (complete : List Bool) (l : Liberties) (link : Link) (x : Beat w)
+quiet-beat : {w : ℕ} (levels : List Level) (complete : Completeness) (l : Liberties) (link : Link) (x : Beat w)
     (e : Events w) → broken_together levels l (link, x) (beats_of e) ≡ None
     → IsTrueEvent complete (length levels) link.0 (event.Beat x) e
     → broken_report complete (length levels) link.0 x e ≡ None → broken_beat levels complete l link x e ≡ None
@@ -107,32 +108,33 @@ quiet-beat {w} levels complete l link (Beat.E y) e quiet brought report =
 -- ---- all events
 
 -- each event, the newest first, breaks no rule after the older ones
-unfoldable AreQuietEvents : {w : ℕ} → List Level → List Bool → Liberties → Events w → Type 0
+unfoldable AreQuietEvents : {w : ℕ} → List Level → Completeness → Liberties → Events w → Type 0
 AreQuietEvents levels complete l [] = ⊤
 AreQuietEvents levels complete l (x ∷ e) =
     (broken_event levels complete l x.0 x.1 e ≡ None) × AreQuietEvents levels complete l e
 
-quiet-events : {w : ℕ} (config : Config) (l : Liberties) (e : Events w) → AreQuiet (levels_of config) l (beats_of e)
-    → AreTrueEvents (complete_of config) (length (levels_of config)) e → AreUnbroken config e
-    → AreQuietEvents (levels_of config) (complete_of config) l e
+quiet-events : {w : ℕ} (from_zero : Bool) (config : Config) (l : Liberties) (e : Events w) → AreQuiet
+    (levels_of config) l (beats_of e)
+    → AreTrueEvents (complete_of from_zero config) (length (levels_of config)) e → AreUnbroken from_zero config e
+    → AreQuietEvents (levels_of config) (complete_of from_zero config) l e
 unfolding AreQuiet AreQuietEvents AreTrueEvents AreUnbroken beats_of
-quiet-events config l [] quiet brought are = tt
-quiet-events config l ((link, event.Beat x) ∷ e) quiet brought are = (
-  quiet-beat (levels_of config) (complete_of config) l link x e quiet.0 brought.0
-      (subst (λ (n : ℕ). broken_report (complete_of config) n link.0 x e ≡ None)
+quiet-events from_zero config l [] quiet brought are = tt
+quiet-events from_zero config l ((link, event.Beat x) ∷ e) quiet brought are = (
+  quiet-beat (levels_of config) (complete_of from_zero config) l link x e quiet.0 brought.0
+      (subst (λ (n : ℕ). broken_report (complete_of from_zero config) n link.0 x e ≡ None)
       (sym (length-map config.clients.items (λ client. client.level))) are.0),
-  quiet-events config l e quiet.1 brought.1 are.1,
+  quiet-events from_zero config l e quiet.1 brought.1 are.1,
 )
-quiet-events config l ((link, event.Commit x) ∷ e) quiet brought are =
-    (are.0, quiet-events config l e quiet brought.1 are.1)
+quiet-events from_zero config l ((link, event.Commit x) ∷ e) quiet brought are =
+    (are.0, quiet-events from_zero config l e quiet brought.1 are.1)
 
-older-quiet : {w : ℕ} (levels : List Level) (complete : List Bool) (l : Liberties) (newer e : Events w)
+older-quiet : {w : ℕ} (levels : List Level) (complete : Completeness) (l : Liberties) (newer e : Events w)
     → AreQuietEvents levels complete l (newer ++ e) → AreQuietEvents levels complete l e
 unfolding AreQuietEvents
 older-quiet levels complete l [] e quiet = quiet
 older-quiet levels complete l (x ∷ newer) e quiet = older-quiet levels complete l newer e quiet.1
 
-no-breach : {w : ℕ} (levels : List Level) (complete : List Bool) (l : Liberties) (before trace : Events w)
+no-breach : {w : ℕ} (levels : List Level) (complete : Completeness) (l : Liberties) (before trace : Events w)
     → AreQuietEvents levels complete l (reverse trace ++ before)
     → commit_breach_from levels complete l before trace ≡ None
 unfolding AreQuietEvents commit_breach_from
@@ -143,20 +145,20 @@ no-breach levels complete l before (x ∷ trace) quiet =
     (no-breach levels complete l (x ∷ before) trace all)
 
 pub commit_concord : {w : ℕ} → CommitConcord w
-commit_concord {w} config l log given ranged within =
-    no-breach (levels_of config) (complete_of config) l [] (reverse (events_of log))
-    (subst (AreQuietEvents (levels_of config) (complete_of config) l)
+commit_concord {w} from_zero config l log given ranged within =
+    no-breach (levels_of config) (complete_of from_zero config) l [] (reverse (events_of log))
+    (subst (AreQuietEvents (levels_of config) (complete_of from_zero config) l)
     (sym (append-nil (reverse (reverse (events_of log))) ∙ reverse-reverse (events_of log)))
-    (quiet-events config l (events_of log) quiet brought (unbroken_commits config log given ranged)))
+    (quiet-events from_zero config l (events_of log) quiet brought (unbroken_commits from_zero config log given ranged)))
   where
     quiet : AreQuiet (levels_of config) l (beats_of (events_of log))
     quiet = subst (AreQuiet (levels_of config) l) (sym (events-beats log))
         (quiet-beats (levels_of config) l (trace_of log) (concord config l log given within))
 
-    brought : AreTrueEvents (complete_of config) (length (levels_of config)) (events_of log)
+    brought : AreTrueEvents (complete_of from_zero config) (length (levels_of config)) (events_of log)
     brought =
-        let has = world-steps config log given ranged in
-        subst (AreTrueEvents (complete_of config) (length (levels_of config))) has.events_are
-        (true_commit_runs (complete_of config) (length (levels_of config)) zeros has.steps
+        let has = world-steps from_zero config log given ranged in
+        subst (AreTrueEvents (complete_of from_zero config) (length (levels_of config))) has.events_are
+        (true_commit_runs (complete_of from_zero config) (length (levels_of config)) zeros has.steps (zeros-start from_zero)
         (subst (λ (n : ℕ). IsCommitRun n zeros has.steps)
         (sym (length-map config.clients.items (λ client. client.level))) has.is_run))

@@ -69,7 +69,7 @@ use Rattle.tl_one_memory.specs.statement.Run.{OneOf, Run}
 unfoldable use Rattle.tl_one_memory.specs.statement.Run.{memory_in}
 use Rattle.tl_true_bytes.proofs.Runs.{beside-log}
 unfoldable use Rattle.tl_true_bytes.specs.code.Beside.{run_of}
-use Rattle.tl_commit_memory.specs.statement.CommitRun.{CommitRun}
+use Rattle.tl_commit_memory.specs.statement.CommitRun.{StartsAs, CommitRun}
 unfoldable use Rattle.tl_commit_memory.specs.statement.CommitRun.{events_in, run_in}
 use Rattle.tl_commit_memory.specs.statement.KeptCopies.{CopyHas, GivesCopy, GivesUp, HasByte, IsKnownByte}
 use Rattle.tl_commit_memory.specs.statement.KeptCopies.{ReportsRightly}
@@ -87,6 +87,11 @@ links config = length config.clients.items
 
 abbrev pub zeros : Memory
 zeros address = 0
+
+-- it starts as a header may say
+pub zeros-start : (from_zero : Bool) → StartsAs from_zero zeros
+zeros-start true = λ address. refl
+zeros-start false = tt
 
 -- each byte of a list passes a test
 pub each-byte : (test : ℕ → ℕ → Bool) (bytes : List ℕ) (base : ℕ)
@@ -182,7 +187,7 @@ each-passes test from (u ∷ bytes) all (suc j) v e =
     ap (λ (i : ℕ). test i v) (sym next)
     ∙ each-passes test (from + 1) bytes (and_parts (test from u) (each_from test (from + 1) bytes) all).1 j v e
 
-module _ {w : ℕ} (config : Config) (log : Log w) (given : IsGiven config log) (c : ℕ)
+module _ {w : ℕ} (from_zero : Bool) (config : Config) (log : Log w) (given : IsGiven config log) (c : ℕ)
     (client : c < length config.clients.items) (steps : CommitRun w) (run_is : run_in steps ≡ run_of config log)
     (events_are : events_in steps ≡ events_of log)
     (recorded : (address : ℕ) → IsRecorded (links config) zeros address steps) where
@@ -197,10 +202,10 @@ module _ {w : ℕ} (config : Config) (log : Log w) (given : IsGiven config log) 
 
   -- a copy has the byte of memory
   pub copy-byte : (address : ℕ) → same_perm (may_hold (block_at address) (on_link c t)) Perm.None ≡ false
-      → HasByte (complete_of config) (links config) zeros c address (memory address) steps
+      → HasByte (complete_of from_zero config) (links config) zeros c address (memory address) steps
   copy-byte address some = (
     client,
-    subst (λ (u : Trace w). CopyHas (complete_of config) (links config) zeros c address (memory address)
+    subst (λ (u : Trace w). CopyHas (complete_of from_zero config) (links config) zeros c address (memory address)
         (brought address (on_link c u)) steps) (sym same-beats) (go (brought address (on_link c t)) refl),
   )
     where
@@ -216,9 +221,9 @@ module _ {w : ℕ} (config : Config) (log : Log w) (given : IsGiven config log) 
       known false = tt
 
       go : (o : Option (Option ℕ)) → brought address (on_link c t) ≡ o
-          → CopyHas (complete_of config) (links config) zeros c address (memory address) o steps
+          → CopyHas (complete_of from_zero config) (links config) zeros c address (memory address) o steps
       go (Some value) e = brought-so config log given c address value e
-      go None e = (held, known (is_known (complete_of config) c (block_at address) (link_beats c (events_in steps))))
+      go None e = (held, known (is_known (complete_of from_zero config) c (block_at address) (link_beats c (events_in steps))))
 
   module _ (y : BeatC w) (report : IsReport config log c y) where
     by-link : may_hold (block_at y.address) (on_link c t) ≡ held report.number (flow c log)
@@ -251,14 +256,14 @@ module _ {w : ℕ} (config : Config) (log : Log w) (given : IsGiven config log) 
     abbrev Gives : Trace w → Type 0
     Gives u = is_released (block_at y.address) (Beat.C y) (on_link c u) ≡ false → is_spoiled (Beat.C y) ≡ false
         → (j v : ℕ) → slice_get (lanes_of (Beat.C y)) j ≡ Some v
-        → HasByte (complete_of config) (links config) zeros c (from u + j) v steps
+        → HasByte (complete_of from_zero config) (links config) zeros c (from u + j) v steps
 
     gives-copy : c_carries_data y.opcode ≡ true → IsTrueReturn memory c (Beat.C y) t
-        → GivesCopy (complete_of config) (links config) zeros c y steps
+        → GivesCopy (complete_of from_zero config) (links config) zeros c y steps
     gives-copy bears returns = subst Gives (sym same-beats) (λ released sound j v lane.
         let both = and_parts (memory (from t + j) == v) (block_at (from t + j) == block_at y.address)
         (each-passes test (from t) (lanes_of (Beat.C y)) (true-lanes bears returns) j v lane) in
-        subst (λ (u : ℕ). HasByte (complete_of config) (links config) zeros c (from t + j) u steps)
+        subst (λ (u : ℕ). HasByte (complete_of from_zero config) (links config) zeros c (from t + j) u steps)
         (eqb-true (memory (from t + j)) v both.0) (copy-byte (from t + j)
         (trunk-some (may_hold (block_at (from t + j)) (on_link c t))
         (ap (λ (b : ℕ). same_perm (may_hold b (on_link c t)) Perm.Trunk)
@@ -341,7 +346,7 @@ module _ {w : ℕ} (config : Config) (log : Log w) (given : IsGiven config log) 
 
   pub reports-rightly : (link : Link) (x : Beat w) → link.0 ≡ c
       → KeepRules (liberties_of config.profile) (levels_of config) ((link, x) ∷ t) → IsMarked config log c x
-      → IsTrueReturn memory c x t → ReportsRightly (complete_of config) (links config) zeros link x steps
+      → IsTrueReturn memory c x t → ReportsRightly (complete_of from_zero config) (links config) zeros link x steps
   reports-rightly link (Beat.A y) same rules is returns =
       given-up link (Beat.A y) same (acquire-takes link y same rules is)
   reports-rightly link (Beat.B y) same rules is returns = given-up link (Beat.B y) same refl
@@ -350,8 +355,8 @@ module _ {w : ℕ} (config : Config) (log : Log w) (given : IsGiven config log) 
   reports-rightly link (Beat.C y) same rules is returns = go (c_carries_data y.opcode) refl
     where
       go : (b : Bool) → c_carries_data y.opcode ≡ b
-          → OneOf b (GivesCopy (complete_of config) (links config) zeros link.0 y steps)
+          → OneOf b (GivesCopy (complete_of from_zero config) (links config) zeros link.0 y steps)
           (GivesUp (links config) link (Beat.C y) steps)
-      go true bears = subst (λ (k : ℕ). GivesCopy (complete_of config) (links config) zeros k y steps) (sym same)
+      go true bears = subst (λ (k : ℕ). GivesCopy (complete_of from_zero config) (links config) zeros k y steps) (sym same)
           (gives-copy y is bears returns)
       go false bears = given-up link (Beat.C y) same (report-takes y is bears)

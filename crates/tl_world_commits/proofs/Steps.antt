@@ -19,8 +19,9 @@ use Rattle.tl_events.specs.declared.commit.Commit.TheVariants as commit
 use Rattle.tl_events.specs.declared.commit.Event.{Event}
 use Rattle.tl_events.specs.declared.commit.Event.TheVariants as event
 use Rattle.tl_events.specs.declared.commit.Piece.{Piece}
+use Rattle.tl_commits.specs.statement.Completeness.{Completeness, is_complete}
 use Rattle.tl_commits.specs.statement.Breaches.{has_cache}
-use Rattle.tl_commits.specs.statement.Copies.{is_complete, link_beats, may_store}
+use Rattle.tl_commits.specs.statement.Copies.{link_beats, may_store}
 use Rattle.tl_commits.specs.statement.Events.{Events}
 unfoldable use Rattle.tl_commits.specs.statement.Events.{beats_of}
 use Rattle.tl_commits.specs.statement.Seen.{byte_in}
@@ -54,7 +55,7 @@ none address = false
 abbrev pub from_word : ℕ → ℕ → ℕ → Bool
 from_word block i address = (block_at address == block) && nat_le (8 * i) (address % 64)
 
-module _ {w : ℕ} (levels : List Level) (complete : List Bool) (n : ℕ) (first : Memory) where
+module _ {w : ℕ} (levels : List Level) (complete : Completeness) (n : ℕ) (first : Memory) where
   -- no store to a byte is missing in the trace but to these
   abbrev pub AreRecorded : (ℕ → Bool) → CommitRun w → Type 0
   AreRecorded missing steps = (address : ℕ) → missing address ≡ false → IsRecorded n first address steps

@@ -95,9 +95,9 @@ reply-none (Op.Access m) Reply.Stored memory run e = refl
 reply-none (Op.Load base size) Reply.Stored memory run e = refl
 reply-none (Op.Store base size value) Reply.Stored memory run e = absurd cc
 
-module _ {w : ℕ} (config : Config) where
+module _ {w : ℕ} (from_zero : Bool) (config : Config) where
   abbrev Steps : (ℕ → Bool) → Run w → Events w → Type 0
-  Steps missing run e = HasSteps (levels_of config) (complete_of config) (links config) zeros missing run e
+  Steps missing run e = HasSteps (levels_of config) (complete_of from_zero config) (links config) zeros missing run e
 
   abbrev Has : Run w → Events w → Type 0
   Has run e = Steps none run e
@@ -117,7 +117,7 @@ module _ {w : ℕ} (config : Config) where
           by : (b : Bool) → IsRun (links config) zeros (if b
               then Performs x.0 x.1 everywhere (left_after o.asked m.memory) ∷ run else run)
               → Has (if b then Performs x.0 x.1 everywhere (left_after o.asked m.memory) ∷ run else run) e
-          by true i = performed-steps (levels_of config) (complete_of config) (links config) zeros x.0 x.1 everywhere
+          by true i = performed-steps (levels_of config) (complete_of from_zero config) (links config) zeros x.0 x.1 everywhere
               (left_after o.asked m.memory) run e i has
           by false i = has
 
@@ -149,15 +149,15 @@ module _ {w : ℕ} (config : Config) where
         ((record { 0 = c }, event.Commit (commit.Store (piece_at base size) (low_part size value))) ∷ events_of log)
     unfolding IsLog memory_in
     store-asked c base size value given is has =
-        missing-as (levels_of config) (complete_of config) (links config) zeros
+        missing-as (levels_of config) (complete_of from_zero config) (links config) zeros
         (λ a. reaches base size a && not (reaches base size a)) none stores
         ((record { 0 = c }, event.Commit (commit.Store (piece_at base size) (low_part size value))) ∷ events_of log)
         (λ a e. never (reaches base size a))
-        (stored-steps (levels_of config) (complete_of config) (links config) zeros (reaches base size)
+        (stored-steps (levels_of config) (complete_of from_zero config) (links config) zeros (reaches base size)
         (record { 0 = c }) (piece_at base size) (low_part size value) stores (events_of log) stored may
         (cached config log before c (block_at base) (trunk-some (kept_of config log c (block_at base)).held
         (ap (λ (p : Perm). same_perm p Perm.Trunk) own.1)))
-        (changed-steps (levels_of config) (complete_of config) (links config) zeros (reaches base size) (block_at base)
+        (changed-steps (levels_of config) (complete_of from_zero config) (links config) zeros (reaches base size) (block_at base)
         (with_number base size value m.memory) run (events_of log) is
         (λ a missed. inr (rw missed (ap (λ (f : Memory). f a) (sym (beside-log config log before).memory_is)))) has))
       where
@@ -196,12 +196,12 @@ module _ {w : ℕ} (config : Config) where
         ((record { 0 = c }, event.Commit (commit.Load (piece_at base size) (low_part size value))) ∷ events_of log)
     unfolding IsLog memory_in
     load-asked c base size value given ranged has =
-        loaded-steps (levels_of config) (complete_of config) (links config) zeros (record { 0 = c })
+        loaded-steps (levels_of config) (complete_of from_zero config) (links config) zeros (record { 0 = c })
         (piece_at base size) (low_part size value) run (events_of log)
         (λ a reached. ap (λ (f : Memory). f a) (beside-log config log before).memory_is ∙ sym (byte a reached))
         (λ steps run_is events_are recorded a reached. subst
-        (λ (v : ℕ). HasByte (complete_of config) (links config) zeros c a v steps) (sym (byte a reached))
-        (copy-byte config log before c own.0 steps run_is events_are (λ address. recorded address refl) a
+        (λ (v : ℕ). HasByte (complete_of from_zero config) (links config) zeros c a v steps) (sym (byte a reached))
+        (copy-byte from_zero config log before c own.0 steps run_is events_are (λ address. recorded address refl) a
         (ap (λ (b : ℕ). same_perm (may_hold b (on_link c (trace_of log))) Perm.None)
         (in-block base size word a reached) ∙ holds-some config log before c (block_at base) own.0 own.1)))
         (cached config log before c (block_at base) own.1) has
@@ -259,14 +259,14 @@ module _ {w : ℕ} (config : Config) where
         → Has (Takes link y ∷ run) ((link, event.Beat y) ∷ events_of log)
     unfolding trace_of
     taken link ch y o given took told is returns known takes has =
-        taken-steps (levels_of config) (complete_of config) (links config) zeros link y run (events_of log) takes
+        taken-steps (levels_of config) (complete_of from_zero config) (links config) zeros link y run (events_of log) takes
         (subst (λ (u : Trace w). ShowsBlocks (links config) link y u) (sym beside.trace_is) shows)
         (λ address. subst (λ (u : Trace w). tells (block_at address) y (on_link link.0 u) ≡ true
         → could_be (memory_in zeros run address) (carried_byte (telling_beats y (on_link link.0 u)) (address % 64))
         ≡ true) (sym beside.trace_is) (λ e. ap (λ (f : Memory). could_be (f address)
         (carried_byte (telling_beats y (on_link link.0 (trace_of log))) (address % 64))) beside.memory_is
         ∙ told.told address e))
-        (λ steps run_is events_are recorded whole. reports-rightly config log before link.0
+        (λ steps run_is events_are recorded whole. reports-rightly from_zero config log before link.0
         (client-few config link.0 known) steps run_is events_are (λ address. recorded address refl) link y refl
         (subst (λ (u : Trace w). KeepRules (liberties_of config.profile) (levels_of config) (u ++ trace_of log)) took
         (kept-world ((Deliver link ch, o) ∷ log) given)) is returns) has
@@ -320,7 +320,7 @@ module _ {w : ℕ} (config : Config) where
           ∷ Takes link y ∷ run) = rw (some.5 (Takes link y ∷ run)) at is in
           let own = whole-holds link ch y source f some.0 given some.1 in
           let all : Log w = (Deliver link ch, Outcome.Done y source f) ∷ log in
-          rw (some.1, some.5 (Takes link y ∷ run)) (words-steps (levels_of config) (complete_of config) (links config)
+          rw (some.1, some.5 (Takes link y ∷ run)) (words-steps (levels_of config) (complete_of from_zero config) (links config)
           zeros link some.0
           (Stores some.0.block (with_block some.0.block some.0.bytes m.memory) ∷ Takes link y ∷ run)
           (eq-eqb some.0.block some.0.block refl) some.3 (small-byte some.0.bytes some.4)
@@ -330,7 +330,7 @@ module _ {w : ℕ} (config : Config) where
           0 8 ((link, event.Beat y) ∷ events_of log) refl
           (ap (λ (u : Trace w). may_store some.0.block (on_link link.0 ((link, y) ∷ u))) (events-beats log)
           ∙ may-store config all given link.0 some.0.block own.client own.trunk)
-          (changed-steps (levels_of config) (complete_of config) (links config) zeros (from_word some.0.block 0)
+          (changed-steps (levels_of config) (complete_of from_zero config) (links config) zeros (from_word some.0.block 0)
           some.0.block (with_block some.0.block some.0.bytes m.memory) (Takes link y ∷ run)
           ((link, event.Beat y) ∷ events_of log) stores
           (λ a apart. inl (beside (block_at a == some.0.block) (nat_le 0 (a % 64)) (le-leb 0 (a % 64) (omega arith))
@@ -372,23 +372,24 @@ module _ {w : ℕ} (config : Config) where
 
 -- ---- the whole log
 
-pub world-steps : {w : ℕ} (config : Config) (log : Log w) → IsGiven config log → AreRanged log
-    → HasSteps (levels_of config) (complete_of config) (links config) zeros none (run_of config log) (events_of log)
+pub world-steps : {w : ℕ} (from_zero : Bool) (config : Config) (log : Log w) → IsGiven config log → AreRanged log
+    → HasSteps (levels_of config) (complete_of from_zero config) (links config) zeros none (run_of config log)
+    (events_of log)
 unfolding AreRanged run_of events_of
-world-steps config [] given ranged = no-steps (levels_of config) (complete_of config) (links config) zeros
-world-steps {w} config (x ∷ log) given ranged =
-    all-performed config l (one_memory_after config log) (happened x.0 x.1 (one_memory_after config log)
+world-steps from_zero config [] given ranged = no-steps (levels_of config) (complete_of from_zero config) (links config) zeros
+world-steps {w} from_zero config (x ∷ log) given ranged =
+    all-performed from_zero config l (one_memory_after config log) (happened x.0 x.1 (one_memory_after config log)
     (run_of config log)) (events_of (x ∷ log)) (run-of-log config (x ∷ log) given)
-    (entry-steps config log x.0 x.1 given ranged.1
+    (entry-steps from_zero config log x.0 x.1 given ranged.1
     (run-before (links config) zeros l (one_memory_after config log) _ (run-of-log config (x ∷ log) given))
-    (world-steps config log (given-before config x log given) ranged.1))
+    (world-steps from_zero config log (given-before config x log given) ranged.1))
   where
     l : List (ℕ × ℕ)
     l = accesses_answered (stepped config x.0 (system_after config log)).handed
 
 pub world_commit_runs : {w : ℕ} → WorldCommitRuns w
 world_commit_runs config log given ranged =
-    let has = world-steps config log given ranged in
+    let has = world-steps true config log given ranged in
     record {
       run = has.steps;
       is_run = has.is_run;

@@ -14,26 +14,25 @@ use Rattle.tl_lines.specs.declared.status.Status.{Status}
 use Rattle.tl_lines.specs.statement.Width.{bytes_of}
 use Rattle.tl_wide_lines.specs.code.WideWatching.{KnowsTraceLines, trace_judged_for, waits}
 use Rattle.tl_wide_lines.specs.declared.lines.TraceLines.{TraceLines}
-use Rattle.tl_commit_lines.specs.declared.header.MarkedLevel.{MarkedLevel}
 use Rattle.tl_commit_lines.specs.declared.judge.EventJudge.{EventJudge}
 use Rattle.tl_commit_lines.specs.declared.judge.EventJudge.TheVariants.{OfAll, OfLinks}
 use Rattle.tl_commit_lines.specs.declared.lines.EventLines.{EventLines}
 use Rattle.tl_commit_lines.specs.declared.lines.EventLinks.{EventLinks}
 use Rattle.tl_commit_lines.specs.declared.lines.EventLinks.TheVariants.{Four, Eight, Sixteen}
 use Rattle.tl_commit_lines.specs.statement.JudgedEvents.{IsEventAtFault, JudgedEvents, fault_by}
-use Rattle.tl_commit_lines.specs.statement.MarkedHeader.{NamesMarked, complete_of, levels_of}
+use Rattle.tl_commit_lines.specs.statement.MarkedHeader.{MarkedLinks, NamesMarked, complete_of, levels_of}
 
 -- ---- events
 
 -- the judge knows the events of a trace, none of which was at fault
-abbrev pub KnowsEvents : {w : ℕ} → Bool → EventJudge w → List MarkedLevel → Liberties → Events w → Type 0
+abbrev pub KnowsEvents : {w : ℕ} → Bool → EventJudge w → MarkedLinks → Liberties → Events w → Type 0
 KnowsEvents false (OfLinks monitor) links may e = KnowsUnder monitor (levels_of links) may (beats_of e) false
 KnowsEvents true (OfAll judge) links may e = KnowsCommits judge (levels_of links) (complete_of links) may e
 KnowsEvents _ _ links may e = ⊥
 
 -- the judge's answer to an event after a trace: it isn't at fault, and the judge knows the longer trace; or it is, and
 -- the judge knows the trace as before
-abbrev pub JudgesEvent : {w : ℕ} → Bool → EventJudge w → List MarkedLevel → Liberties → Events w → Link → Event w
+abbrev pub JudgesEvent : {w : ℕ} → Bool → EventJudge w → MarkedLinks → Liberties → Events w → Link → Event w
     → Option Fault → Type 0
 JudgesEvent {w} together new links may e link x None =
     (fault_by w together links may link x e ≡ None) × KnowsEvents together new links may ((link, x) ∷ e)
@@ -43,11 +42,11 @@ JudgesEvent {w} together new links may e link x (Some found) =
 -- the same of the next line
 abbrev pub WatchesEvent : {w : ℕ} → Bool → EventJudge w → EventJudge w → List ℕ → Option Fault → Type 0
 WatchesEvent {w} together old new line None =
-    (links : List MarkedLevel) (may : Liberties) (e : Events w) → KnowsEvents together old links may e
+    (links : MarkedLinks) (may : Liberties) (e : Events w) → KnowsEvents together old links may e
     → (link : Link) × (x : Event w) × SpellsEvent line link x × (fault_by w together links may link x e ≡ None)
     × KnowsEvents together new links may ((link, x) ∷ e)
 WatchesEvent {w} together old new line (Some found) =
-    (links : List MarkedLevel) (may : Liberties) (e : Events w) → KnowsEvents together old links may e
+    (links : MarkedLinks) (may : Liberties) (e : Events w) → KnowsEvents together old links may e
     → IsEventAtFault w together links may e line found
 
 -- ---- lines
@@ -59,7 +58,7 @@ pub record KnowsEventTrace (wide : Width) (together : Bool) (allow : Liberties) 
   pub header : List ℕ
   pub spelled : List (List ℕ)
   pub may : Liberties
-  pub links : List MarkedLevel
+  pub links : MarkedLinks
   pub events : Events (bytes_of wide)
   pub are_lines : lines ≡ header ∷ spelled
   pub named : NamesMarked allow header wide may links
@@ -86,7 +85,7 @@ WatchesLine together _ _ line answer = ⊥
 abbrev pub NoneMarked : Liberties → List (List ℕ) → Type 0
 NoneMarked allow [] = ⊤
 NoneMarked allow (line ∷ lines) =
-    (width : Width) (may : Liberties) (links : List MarkedLevel) → ¬ NamesMarked allow line width may links
+    (width : Width) (may : Liberties) (links : MarkedLinks) → ¬ NamesMarked allow line width may links
 
 -- what the first line begins: a judge that knows the header, or none if it is no such header
 abbrev pub BeginsMarked : Bool → Liberties → List ℕ → Option EventLinks → Type 0

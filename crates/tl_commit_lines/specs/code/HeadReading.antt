@@ -1,13 +1,14 @@
 -- The links of a header read from left to right, as the code goes; only private clauses cite this.
-use Rattle.std.specs.Prelude.{◌==◌, ℕ, true, false, List, ◌∷◌, Option, Some, None, if◌then◌else◌, option_map}
-use Rattle.tl_params.specs.code.HeaderReading.{level_at, up_to}
+use Rattle.std.specs.Prelude.{◌==◌, ◌&&◌, ℕ, Bool, true, false, List, [], ◌∷◌, codes, Option, Some, None}
+use Rattle.std.specs.Prelude.{if◌then◌else◌, option_map}
+use Rattle.tl_params.specs.code.HeaderReading.{after_word, level_at, up_to}
 use Rattle.tl_params.specs.declared.level.Level.{Level}
 use Rattle.tl_params.specs.declared.level.Level.TheVariants.{C}
 use Rattle.tl_params.specs.declared.liberties.Liberties.{Liberties}
 use Rattle.tl_params.specs.declared.width.Width.{Width}
 use Rattle.tl_commit_lines.specs.declared.header.CommitHeader.{CommitHeader}
 use Rattle.tl_commit_lines.specs.declared.header.MarkedLevel.{MarkedLevel}
-use Rattle.tl_commit_lines.specs.statement.MarkedHeader.{NamesMarked}
+use Rattle.tl_commit_lines.specs.statement.MarkedHeader.{MarkedLinks, NamesMarked, links_in, says_commits}
 
 -- a level without the mark
 abbrev pub unmarked : Level → MarkedLevel
@@ -30,8 +31,32 @@ marked_at bytes = option_map (λ x. with_mark x.0 x.1) (level_at bytes)
 abbrev pub links_at : ℕ → List ℕ → Option (List MarkedLevel)
 links_at n bytes = up_to marked_at n bytes
 
+-- whether the word `zero` is at the front, after a space, and the rest
+abbrev pub with_zero : List ℕ → Option (List ℕ) → Bool × List ℕ
+with_zero bytes None = (false, bytes)
+with_zero bytes (Some rest) = (true, rest)
+
+abbrev pub zero_at : List ℕ → Bool × List ℕ
+zero_at bytes = with_zero bytes (after_word (codes " zero") bytes)
+
+-- the links with that word before them
+abbrev pub with_levels : Bool → Option (List MarkedLevel) → Option MarkedLinks
+with_levels zero None = None
+with_levels zero (Some levels) = Some (record { zero = zero; levels = levels })
+
+abbrev pub marked_links_at : List ℕ → Option MarkedLinks
+marked_links_at bytes = with_levels (zero_at bytes).0 (links_at 16 (zero_at bytes).1)
+
+abbrev pub has_some : List MarkedLevel → Bool
+has_some [] = false
+has_some (x ∷ links) = true
+
+-- there are links, and they are those of a trace with commits
+abbrev pub is_named : MarkedLinks → Bool
+is_named links = has_some links.levels && says_commits links
+
 -- the header of a trace with commits that is judged so, or there is none
 abbrev pub ReadsMarked : Liberties → List ℕ → Option CommitHeader → Type 0
 ReadsMarked allow line None =
-    (width : Width) (may : Liberties) (links : List MarkedLevel) → ¬ NamesMarked allow line width may links
-ReadsMarked allow line (Some h) = NamesMarked allow line h.width h.may h.links.items
+    (width : Width) (may : Liberties) (links : MarkedLinks) → ¬ NamesMarked allow line width may links
+ReadsMarked allow line (Some h) = NamesMarked allow line h.width h.may (links_in h)

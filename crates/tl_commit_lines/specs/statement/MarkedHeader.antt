@@ -1,5 +1,6 @@
--- The header of a trace with commits: all stores of some of its links, those of level `C+`, are in the trace.
-use Rattle.std.specs.Prelude.{◌≡◌, ◌++◌, ℕ, Bool, true, false, List, [], ◌∷◌, length, map, codes, ⊤}
+-- The header of a trace with commits: all stores of its links of level `C+` are in the trace, and memory was zero
+-- before it if the word `zero` is before the levels. It has the word, or a link of level `C+`.
+use Rattle.std.specs.Prelude.{◌≡◌, ◌++◌, ◌||◌, ℕ, Bool, true, false, List, [], ◌∷◌, length, map, codes, ⊤}
 use Rattle.std.specs.Prelude.{Option, Some, None}
 use Rattle.std.specs.List.{list_any}
 use Rattle.arrayvec.specs.ArrayVec.{ArrayVec}
@@ -12,6 +13,7 @@ use Rattle.tl_params.specs.declared.width.Width.{Width}
 use Rattle.tl_params.specs.statement.Config.{IsCount}
 use Rattle.tl_params.specs.statement.Header.{level_text}
 use Rattle.tl_params.specs.statement.Liberties.{united}
+use Rattle.tl_commits.specs.statement.Completeness.{Completeness}
 use Rattle.tl_commit_lines.specs.declared.header.CommitHeader.{CommitHeader}
 use Rattle.tl_commit_lines.specs.declared.header.MarkedLevel.{MarkedLevel}
 
@@ -19,6 +21,16 @@ use Rattle.tl_commit_lines.specs.declared.header.MarkedLevel.{MarkedLevel}
 abbrev pub mark_text : Bool → List ℕ
 mark_text true = codes "+"
 mark_text false = []
+
+-- the links of a header, and whether memory was zero before the trace
+pub record MarkedLinks : Type 0 where
+  pub zero : Bool
+  pub levels : List MarkedLevel
+
+-- the word that says so, after a space
+abbrev pub zero_text : Bool → List ℕ
+zero_text true = codes " zero"
+zero_text false = []
 
 -- each level after a space, with its mark
 abbrev pub links_text : List MarkedLevel → List ℕ
@@ -34,40 +46,52 @@ AreMarkable (x ∷ links) = (x.complete ≡ true → x.level ≡ C) × AreMarkab
 abbrev pub some_marked : List MarkedLevel → Bool
 some_marked links = list_any (λ x. x.complete) links
 
--- The bytes are the word that names these liberties, these links and an LF. At least one level has the mark.
-pub record SpellsLinks (bytes : List ℕ) (may : Liberties) (links : List MarkedLevel) : Type 0 where
+-- memory was zero before the trace, or one of the links has the mark
+abbrev pub says_commits : MarkedLinks → Bool
+says_commits links = links.zero || some_marked links.levels
+
+-- The bytes are the word that names these liberties, the word `zero` if memory was zero, these links and an LF.
+pub record SpellsLinks (bytes : List ℕ) (may : Liberties) (links : MarkedLinks) : Type 0 where
   pub word : List ℕ
   pub spells : SpellsLiberties word may
-  pub are_bytes : bytes ≡ word ++ (links_text links ++ codes "\n")
-  pub so_many : IsCount (length links)
-  pub markable : AreMarkable links
-  pub marked : some_marked links ≡ true
+  pub are_bytes : bytes ≡ word ++ (zero_text links.zero ++ (links_text links.levels ++ codes "\n"))
+  pub so_many : IsCount (length links.levels)
+  pub markable : AreMarkable links.levels
+  pub says : says_commits links ≡ true
+
+-- the links that were read
+abbrev pub links_read : Bool → ArrayVec MarkedLevel → MarkedLinks
+links_read zero levels = record { zero = zero; levels = levels.items }
 
 -- these liberties and links were read
-abbrev pub AreMarked : Option (Liberties × ArrayVec MarkedLevel) → Liberties → List MarkedLevel → Type 0
+abbrev pub AreMarked : Option (Liberties × Bool × ArrayVec MarkedLevel) → Liberties → MarkedLinks → Type 0
 AreMarked None may links = ⊥
-AreMarked (Some named) may links = (named.0 ≡ may) × (named.1.items ≡ links)
+AreMarked (Some named) may links = (named.0 ≡ may) × (links_read named.1 named.2 ≡ links)
 
 -- the line is a header of the fourth version, with these liberties and links
-abbrev pub SpellsMarked : List ℕ → Width → Liberties → List MarkedLevel → Type 0
+abbrev pub SpellsMarked : List ℕ → Width → Liberties → MarkedLinks → Type 0
 SpellsMarked line width may links =
     (rest : List ℕ) × (line ≡ fourth_front width ++ rest) × SpellsLinks rest may links
 
 -- the line is such a header, and its links have the liberties that it names and those that are allowed
-abbrev pub NamesMarked : Liberties → List ℕ → Width → Liberties → List MarkedLevel → Type 0
+abbrev pub NamesMarked : Liberties → List ℕ → Width → Liberties → MarkedLinks → Type 0
 NamesMarked allow line width may links =
     (own : Liberties) × SpellsMarked line width own links × (may ≡ united own allow)
 
 -- the levels of these links
-abbrev pub levels_of : List MarkedLevel → List Level
-levels_of links = map (λ x. x.level) links
+abbrev pub levels_of : MarkedLinks → List Level
+levels_of links = map (λ x. x.level) links.levels
 
--- of which of them all stores are in the trace
-abbrev pub complete_of : List MarkedLevel → List Bool
-complete_of links = map (λ x. x.complete) links
+-- of which of them all stores are in the trace, and whether memory was zero before it
+abbrev pub complete_of : MarkedLinks → Completeness
+complete_of links = record { stores = map (λ x. x.complete) links.levels; zero = links.zero }
+
+-- the links of a header
+abbrev pub links_in : CommitHeader → MarkedLinks
+links_in header = links_read header.zero header.links
 
 -- there is a header, with this width, these liberties and these links
-abbrev pub IsMarkedHeader : Option CommitHeader → Width → Liberties → List MarkedLevel → Type 0
+abbrev pub IsMarkedHeader : Option CommitHeader → Width → Liberties → MarkedLinks → Type 0
 IsMarkedHeader None width may links = ⊥
 IsMarkedHeader (Some header) width may links =
-    (header.width ≡ width) × (header.may ≡ may) × (header.links.items ≡ links)
+    (header.width ≡ width) × (header.may ≡ may) × (links_in header ≡ links)

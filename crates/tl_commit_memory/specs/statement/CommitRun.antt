@@ -100,6 +100,11 @@ IsCommitted first link (commit.Load piece value) steps = (address : ℕ)
     → IsLoaded first link piece address (byte_in piece value address) steps
 IsCommitted first link (commit.Begin piece) steps = ⊤
 
+-- memory was at first as the header of a trace says: zero, or anything
+abbrev pub StartsAs : Bool → Memory → Type 0
+StartsAs true first = (address : ℕ) → first address ≡ 0
+StartsAs false first = ⊤
+
 -- The run is one of a memory that was this at first, beside the beats of n links and the commits of their cores. Stores
 -- that aren't in the trace are happenings alone.
 unfoldable pub IsCommitRun : {w : ℕ} → ℕ → Memory → CommitRun w → Type 0

@@ -1,5 +1,5 @@
 -- That caches which store to, load from and report copies of one memory break none of M5, M6 and M7.
-use Rattle.std.specs.Prelude.{ℕ, Bool, true, false, List, [], ◌∷◌, ◌≡◌, ◌⊎◌, ◌==◌, ◌+◌, ◌*◌, ◌<◌, find, length}
+use Rattle.std.specs.Prelude.{ℕ, Bool, true, false, [], ◌∷◌, ◌≡◌, ◌⊎◌, ◌==◌, ◌+◌, ◌*◌, ◌<◌, find, length}
 use Rattle.std.specs.Prelude.{Option, Some, None, slice_get, ⊤}
 use Rattle.tl_beat.specs.declared.beat.Beat.{Beat}
 use Rattle.tl_beat.specs.declared.beat.Beat.TheVariants as beat
@@ -23,12 +23,13 @@ use Rattle.tl_events.specs.declared.commit.Commit.TheVariants as commit
 use Rattle.tl_events.specs.declared.commit.Event.{Event}
 use Rattle.tl_events.specs.declared.commit.Event.TheVariants as event
 use Rattle.tl_events.specs.declared.commit.Piece.{Piece}
+use Rattle.tl_commits.specs.statement.Completeness.{Completeness, is_complete}
 use Rattle.tl_commits.specs.statement.Commits.{broken_commit, broken_report, takes_trunk}
-use Rattle.tl_commits.specs.statement.Copies.{brought, holds, is_complete, is_known, link_beats, may_store}
+use Rattle.tl_commits.specs.statement.Copies.{brought, holds, is_known, link_beats, may_store}
 use Rattle.tl_commits.specs.statement.Events.{Events, is_loading}
 use Rattle.tl_commits.specs.statement.Seen.{byte_in, loses_stores}
 use Rattle.tl_commit_memory.specs.statement.CommitRun.{CommitRun, Committed, Happened, IsCommitRun, begins, events_in}
-use Rattle.tl_commit_memory.specs.statement.CommitRun.{run_in}
+use Rattle.tl_commit_memory.specs.statement.CommitRun.{StartsAs, run_in}
 
 -- ---- which stores are in the trace
 
@@ -63,7 +64,7 @@ IsKnownByte n first address v steps =
 -- The copy may have the byte v, given the byte that a Grant under way has brought: that one, or else memory's, if the
 -- link holds the block. Any byte, if that isn't known from the trace: the link holds Trunk, and not all its stores are
 -- there.
-abbrev pub CopyHas : {w : ℕ} → List Bool → ℕ → Memory → ℕ → ℕ → ℕ → Option (Option ℕ) → CommitRun w → Type 0
+abbrev pub CopyHas : {w : ℕ} → Completeness → ℕ → Memory → ℕ → ℕ → ℕ → Option (Option ℕ) → CommitRun w → Type 0
 CopyHas complete n first link address v (Some value) steps = could_be v value ≡ true
 CopyHas complete n first link address v None steps =
     (holds (block_at address) (link_beats link (events_in steps)) ≡ true)
@@ -71,17 +72,17 @@ CopyHas complete n first link address v None steps =
     (IsKnownByte n first address v steps) ⊤
 
 -- the copy of one of n links may have the byte v at an address
-abbrev pub HasByte : {w : ℕ} → List Bool → ℕ → Memory → ℕ → ℕ → ℕ → CommitRun w → Type 0
+abbrev pub HasByte : {w : ℕ} → Completeness → ℕ → Memory → ℕ → ℕ → ℕ → CommitRun w → Type 0
 HasByte complete n first link address v steps =
     (link < n) × CopyHas complete n first link address v (brought address (link_beats link (events_in steps))) steps
 
 -- the copy of a link may have this value in the bytes of the piece
-abbrev pub HasBytes : {w : ℕ} → List Bool → ℕ → Memory → ℕ → Piece → ℕ → CommitRun w → Type 0
+abbrev pub HasBytes : {w : ℕ} → Completeness → ℕ → Memory → ℕ → Piece → ℕ → CommitRun w → Type 0
 HasBytes complete n first link piece value steps = (address : ℕ) → reaches piece.address piece.size address ≡ true
     → HasByte complete n first link address (byte_in piece value address) steps
 
 -- it had at a moment since the last load of this piece on the link began
-unfoldable pub HadBytes : {w : ℕ} → List Bool → ℕ → Memory → ℕ → Piece → ℕ → CommitRun w → Type 0
+unfoldable pub HadBytes : {w : ℕ} → Completeness → ℕ → Memory → ℕ → Piece → ℕ → CommitRun w → Type 0
 HadBytes complete n first link piece value [] = ⊥
 HadBytes complete n first link piece value (x ∷ steps) = HasBytes complete n first link piece value (x ∷ steps)
     ⊎ ((begins link piece x ≡ false) × HadBytes complete n first link piece value steps)
@@ -97,7 +98,7 @@ pub record ShowsBlocks {w : ℕ} (n : ℕ) (link : Link) (x : Beat w) (t : Trace
       → is_free n perm.Branch block ((link, x) ∷ t) ≡ true
 
 -- a beat of a report has the bytes of the copy, unless it is corrupt, or answered already
-abbrev pub GivesCopy : {w : ℕ} → List Bool → ℕ → Memory → ℕ → BeatC w → CommitRun w → Type 0
+abbrev pub GivesCopy : {w : ℕ} → Completeness → ℕ → Memory → ℕ → BeatC w → CommitRun w → Type 0
 GivesCopy {w} complete n first link y steps =
     is_released (block_at y.address) (beat.C y) (link_beats link (events_in steps)) ≡ false
     → is_spoiled (beat.C y) ≡ false → (j v : ℕ) → slice_get (lanes_of (beat.C y)) j ≡ Some v
@@ -110,14 +111,14 @@ GivesUp n link x steps = (block : ℕ) → takes_trunk x (link_beats link.0 (eve
     → is_free n perm.Branch block ((link, x) ∷ trace_in (run_in steps)) ≡ true
 
 -- a link whose stores are all in the trace gives copies back rightly with the beat
-abbrev pub ReportsRightly : {w : ℕ} → List Bool → ℕ → Memory → Link → Beat w → CommitRun w → Type 0
+abbrev pub ReportsRightly : {w : ℕ} → Completeness → ℕ → Memory → Link → Beat w → CommitRun w → Type 0
 ReportsRightly complete n first link (beat.C y) steps =
     OneOf (c_carries_data y.opcode) (GivesCopy complete n first link.0 y steps) (GivesUp n link (beat.C y) steps)
 ReportsRightly complete n first link x steps = GivesUp n link x steps
 
 -- a core stores while it may, and loads bytes that its copy has, or had at a moment since the load began, if the trace
 -- says when
-abbrev pub UsesCopy : {w : ℕ} → List Bool → ℕ → Memory → ℕ → Commit → CommitRun w → Type 0
+abbrev pub UsesCopy : {w : ℕ} → Completeness → ℕ → Memory → ℕ → Commit → CommitRun w → Type 0
 UsesCopy complete n first link (commit.Store piece value) steps =
     may_store (block_at piece.address) (link_beats link (events_in steps)) ≡ true
 UsesCopy complete n first link (commit.Load piece value) steps = HasBytes complete n first link piece value steps
@@ -126,7 +127,7 @@ UsesCopy complete n first link (commit.Begin piece) steps = ⊤
 
 -- All steps are so. An access that was answered before its request was complete leaves its bytes while no link holds
 -- their block.
-unfoldable pub AreCopies : {w : ℕ} → List Bool → ℕ → Memory → CommitRun w → Type 0
+unfoldable pub AreCopies : {w : ℕ} → Completeness → ℕ → Memory → CommitRun w → Type 0
 AreCopies complete n first [] = ⊤
 AreCopies complete n first (Happened (Takes link x) ∷ steps) = ShowsBlocks n link x (trace_in (run_in steps))
     × (is_complete complete link.0 ≡ true → ReportsRightly complete n first link x steps)
@@ -143,17 +144,18 @@ AreCopies complete n first (Committed link x ∷ steps) =
 -- ---- the law
 
 -- the event breaks none of M5, M6 and M7 after e
-abbrev pub KeepsCopies : {w : ℕ} → List Bool → ℕ → ℕ → Event w → Events w → Type 0
+abbrev pub KeepsCopies : {w : ℕ} → Completeness → ℕ → ℕ → Event w → Events w → Type 0
 KeepsCopies complete n link (event.Beat x) e = broken_report complete n link x e ≡ None
 KeepsCopies complete n link (event.Commit x) e = broken_commit complete n link x e ≡ None
 
 -- so do all events of a trace
-unfoldable pub KeepCopies : {w : ℕ} → List Bool → ℕ → Events w → Type 0
+unfoldable pub KeepCopies : {w : ℕ} → Completeness → ℕ → Events w → Type 0
 KeepCopies complete n [] = ⊤
 KeepCopies complete n (x ∷ e) = KeepsCopies complete n x.0.0 x.1 e × KeepCopies complete n e
 
--- Whatever memory was at first, and whichever links say that all their stores are in the trace: if there is such a run
--- beside the beats and the commits, and its copies are used so, no event breaks M5, M6 or M7.
+-- Whatever memory was at first, but zero if the header says that it was, and whichever links say that all their stores
+-- are in the trace: if there is such a run beside the beats and the commits, and its copies are used so, no event
+-- breaks M5, M6 or M7.
 abbrev pub KeptCopies : ℕ → Type 0
-KeptCopies w = (complete : List Bool) (n : ℕ) (first : Memory) (run : CommitRun w) → IsCommitRun n first run
-    → AreCopies complete n first run → KeepCopies complete n (events_in run)
+KeptCopies w = (complete : Completeness) (n : ℕ) (first : Memory) (run : CommitRun w) → StartsAs complete.zero first
+    → IsCommitRun n first run → AreCopies complete n first run → KeepCopies complete n (events_in run)

@@ -9,8 +9,7 @@ use Rattle.tl_events.specs.statement.EventLine.{SpellsEvent}
 use Rattle.tl_params.specs.declared.liberties.Liberties.{Liberties}
 use Rattle.tl_params.specs.declared.width.Width.{Width}
 use Rattle.tl_commit_lines.specs.code.EventWatching.{KnowsEventLines}
-use Rattle.tl_commit_lines.specs.declared.header.MarkedLevel.{MarkedLevel}
-use Rattle.tl_commit_lines.specs.statement.MarkedHeader.{NamesMarked}
+use Rattle.tl_commit_lines.specs.statement.MarkedHeader.{MarkedLinks, NamesMarked}
 use Rattle.tl_commit_story.specs.code.Followers.{FollowsEvent, KnowsFollower}
 use Rattle.tl_commit_story.specs.declared.follower.Follower.{Follower}
 use Rattle.tl_commit_story.specs.declared.replay.Replay.{Replay}
@@ -26,7 +25,7 @@ use Rattle.tl_commit_story.specs.statement.Grounds.{AreGrounds, front_of}
 pub record BeginsFollowing {w : ℕ} (r : Replay w) (f : Follower w) (line : List ℕ) : Type 0 where
   pub width : Width
   pub may : Liberties
-  pub links : List MarkedLevel
+  pub links : MarkedLinks
   pub of_width : bytes_of width ≡ w
   pub named : NamesMarked r.allow line width may links
   pub known : KnowsFollower r.together f may links []
@@ -61,7 +60,7 @@ pub record HasReasons {w : ℕ} (f : Follower w) (found : Fault) (number : ℕ) 
   pub link : Link
   pub event : Event w
   pub spells : SpellsEvent line link event
-  pub says : (together : Bool) (may : Liberties) (links : List MarkedLevel) (e : Events w) → number ≡ length e + 2
+  pub says : (together : Bool) (may : Liberties) (links : MarkedLinks) (e : Events w) → number ≡ length e + 2
       → KnowsFollower together f may links e
       → (grounds : List ℕ) × (text ≡ front_of found link event e ++ grounds)
       × AreGrounds together found may links link event e grounds
@@ -73,7 +72,7 @@ pub record AreReplayed {w : ℕ} (r : Replay w) (f : Follower w) (lines : List (
   pub width : Width
   pub of_width : bytes_of width ≡ w
   pub may : Liberties
-  pub links : List MarkedLevel
+  pub links : MarkedLinks
   pub header : List ℕ
   pub spelled : List (List ℕ)
   pub are_lines : lines ≡ header ∷ spelled
@@ -97,7 +96,7 @@ pub record HasTold {w : ℕ} (r : Replay w) (lines : List (List ℕ)) : Type 0 w
   pub width : Width
   pub of_width : bytes_of width ≡ w
   pub may : Liberties
-  pub links : List MarkedLevel
+  pub links : MarkedLinks
   pub header : List ℕ
   pub before : List (List ℕ)
   pub line : List ℕ

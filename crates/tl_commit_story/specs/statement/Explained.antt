@@ -20,9 +20,8 @@ use Rattle.tl_explain.specs.declared.ledger.Pending.{Pending}
 use Rattle.tl_explain.specs.statement.Pending.{TellsPending, says_recorded}
 use Rattle.tl_params.specs.declared.liberties.Liberties.{Liberties}
 use Rattle.tl_params.specs.declared.width.Width.{Width}
-use Rattle.tl_commit_lines.specs.declared.header.MarkedLevel.{MarkedLevel}
 use Rattle.tl_commit_lines.specs.statement.JudgedEvents.{CommitsSoFar, JudgedCommits}
-use Rattle.tl_commit_lines.specs.statement.MarkedHeader.{NamesMarked}
+use Rattle.tl_commit_lines.specs.statement.MarkedHeader.{MarkedLinks, NamesMarked}
 use Rattle.tl_commit_story.specs.statement.Grounds.{AreGrounds, front_of}
 use Rattle.tl_commit_story.specs.statement.Words.{is_breach, limits, other_words}
 
@@ -45,7 +44,7 @@ pub record IsExplained (together : Bool) (allow : Liberties) (old new : Option (
   pub judged : JudgedCommits together allow (lines_of read) verdict Broken
   pub width : Width
   pub may : Liberties
-  pub links : List MarkedLevel
+  pub links : MarkedLinks
   pub header : List ℕ
   pub named : NamesMarked allow header width may links
   pub bytes : ℕ

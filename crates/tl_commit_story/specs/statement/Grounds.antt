@@ -7,8 +7,7 @@ use Rattle.tl_beat.specs.declared.beat.Beat.{Beat}
 use Rattle.tl_beat.specs.declared.beat.Link.{Link}
 use Rattle.tl_beat.specs.declared.channel.Channel.TheVariants as channel
 use Rattle.tl_beat.specs.statement.Digits.{digits}
-use Rattle.tl_commit_lines.specs.declared.header.MarkedLevel.{MarkedLevel}
-use Rattle.tl_commit_lines.specs.statement.MarkedHeader.{complete_of, levels_of}
+use Rattle.tl_commit_lines.specs.statement.MarkedHeader.{MarkedLinks, complete_of, levels_of}
 use Rattle.tl_commits.specs.statement.Events.{Events, beats_of}
 use Rattle.tl_lines.specs.declared.fault.Fault.{Fault}
 use Rattle.tl_lines.specs.declared.fault.Fault.TheVariants.{Rule as Breaks, CommitRule}
@@ -123,7 +122,7 @@ AreLinkGrounds together rule may levels link (event.Commit x) e grounds =
 -- ---- all rules
 
 -- these are the grounds for the fault of an event after those of e
-abbrev pub AreGrounds : {w : ℕ} → Bool → Fault → Liberties → List MarkedLevel → Link → Event w → Events w → List ℕ
+abbrev pub AreGrounds : {w : ℕ} → Bool → Fault → Liberties → MarkedLinks → Link → Event w → Events w → List ℕ
     → Type 0
 AreGrounds together (Breaks rule) may links link x e grounds =
     AreLinkGrounds together rule may (levels_of links) link x e grounds

@@ -11,12 +11,13 @@ use Rattle.tl_memory.specs.declared.byte_change.ByteChange.{ByteChange}
 use Rattle.tl_memory.specs.declared.byte_change.ByteChange.TheVariants as change
 use Rattle.tl_commits.specs.code.Tellings.{is_in, with_set}
 use Rattle.tl_commits.specs.declared.block_values.BlockValues.{BlockValues}
+use Rattle.tl_commits.specs.statement.Completeness.{Completeness}
 use Rattle.tl_commits.specs.statement.Copies.{is_known, link_beats}
 use Rattle.tl_commits.specs.statement.Events.{Events, beats_of, is_loading}
 use Rattle.tl_burst.specs.statement.Burst.{reaches}
 use Rattle.tl_rules.specs.statement.History.{block_at}
 use Rattle.tl_events.specs.declared.commit.Piece.{Piece}
-use Rattle.tl_commits.specs.statement.Seen.{byte_in, memory_may, seen, unseen}
+use Rattle.tl_commits.specs.statement.Seen.{byte_in, first_values, memory_may, seen}
 
 -- the values after a beat that makes this change, if it sets none
 abbrev pub changed : ByteChange → ℕ → ℕ → List Telling → List Telling
@@ -29,17 +30,23 @@ memory_told values unread moment place before =
     if unread then before else record { value = known_at values place; moment = moment } ∷ []
 
 -- the values of a block before the trace
-abbrev pub AreFirst : BlockValues → Type 0
-AreFirst v = (place : ℕ) → place < 64 → (tellings_at place v.seen.items ≡ unseen.values)
-    × (is_in v.stored place ≡ false) × (tellings_at place v.memory.items ≡ unseen.values)
+abbrev pub AreFirst : Bool → BlockValues → Type 0
+AreFirst zero v = (place : ℕ) → place < 64 → (tellings_at place v.seen.items ≡ first_values zero)
+    × (is_in v.stored place ≡ false) × (tellings_at place v.memory.items ≡ first_values zero)
 
 -- these are the possible values of the block's bytes after the events, and the places that were stored to
-pub record KnowsValues {w : ℕ} (v : BlockValues) (complete : List Bool) (n block : ℕ) (e : Events w) : Type 0 where
+pub record KnowsValues {w : ℕ} (v : BlockValues) (complete : Completeness) (n block : ℕ) (e : Events w) : Type 0 where
   pub seen_is : (place : ℕ) → place < 64
       → tellings_at place v.seen.items ≡ (seen complete n (64 * block + place) e).values
   pub stored_is : (place : ℕ) → place < 64 → is_in v.stored place ≡ (seen complete n (64 * block + place) e).stored
   pub memory_is : (place : ℕ) → place < 64
-      → tellings_at place v.memory.items ≡ memory_may n (64 * block + place) (beats_of e)
+      → tellings_at place v.memory.items ≡ memory_may complete.zero n (64 * block + place) (beats_of e)
+
+-- they are the same values
+pub record AreSame (old new : BlockValues) : Type 0 where
+  pub seen_is : new.seen.items ≡ old.seen.items
+  pub stored_is : new.stored ≡ old.stored
+  pub memory_is : new.memory.items ≡ old.memory.items
 
 -- the values after a store with this write
 pub record IsStored (old new : BlockValues) (write : Write) (moment : ℕ) : Type 0 where
@@ -65,6 +72,6 @@ IsPieceWrite write piece value = (place : ℕ) → place < 64
     → value_at write place ≡ Some (byte_in piece value (64 * block_at piece.address + place)))
 
 -- a load of the piece says bytes of its link's copy: it didn't begin earlier, and they are known
-abbrev pub says_piece : {w : ℕ} → List Bool → ℕ → Piece → Events w → Bool
+abbrev pub says_piece : {w : ℕ} → Completeness → ℕ → Piece → Events w → Bool
 says_piece complete link piece e =
     not (is_loading link piece e) && is_known complete link (block_at piece.address) (link_beats link e)

@@ -16,6 +16,7 @@ use Rattle.tl_bytes.specs.statement.Known.{tellings_at}
 use Rattle.tl_rules.specs.declared.past.Request.{Request}
 use Rattle.tl_rules.specs.statement.OpenMessages.{open_request}
 use Rattle.tl_commits.specs.declared.granting.GrantBytes.{GrantBytes}
+use Rattle.tl_commits.specs.statement.Completeness.{Completeness}
 use Rattle.tl_commits.specs.statement.Copies.{link_beats}
 use Rattle.tl_commits.specs.statement.Events.{Events}
 use Rattle.tl_commits.specs.statement.True.{before_last_seen, is_true_seen, may_grant_seen}
@@ -37,7 +38,7 @@ IsGranter None x = grants x ≡ false
 IsGranter (Some y) x = (x ≡ beat.D y) × (y.opcode ≡ d.GrantData)
 
 -- M2 of a beat: if it is of a GrantData, its bytes may be granted
-abbrev pub grants_truly : {w : ℕ} → List Bool → ℕ → ℕ → Beat w → Events w → Bool
+abbrev pub grants_truly : {w : ℕ} → Completeness → ℕ → ℕ → Beat w → Events w → Bool
 grants_truly complete n link (beat.D x) e =
     if is_grant_data x.opcode then is_true_seen complete d.GrantData n link x e else true
 grants_truly complete n link _ e = true
@@ -54,23 +55,23 @@ abbrev pub may_bring : GrantBytes → ℕ → ℕ → Bool
 may_bring g place v = told_or_any g.told place v || left_as place v g.writes.items
 
 -- these are the bytes that a Grant of the block may bring that begins after e
-abbrev pub KnowsGrant : {w : ℕ} → GrantBytes → List Bool → ℕ → ℕ → Events w → Type 0
+abbrev pub KnowsGrant : {w : ℕ} → GrantBytes → Completeness → ℕ → ℕ → Events w → Type 0
 KnowsGrant g complete n block e = (place v : ℕ) → place < 64
     → may_bring g place v ≡ may_grant_seen complete n e (64 * block + place) v
 
 -- these are the bytes that the GrantData may bring whose beat x comes after e on a link
-abbrev pub KnowsGrantOf : {w : ℕ} → GrantBytes → List Bool → ℕ → ℕ → BeatD w → Events w → Type 0
+abbrev pub KnowsGrantOf : {w : ℕ} → GrantBytes → Completeness → ℕ → ℕ → BeatD w → Events w → Type 0
 KnowsGrantOf g complete n link x e = (asked : Request) → x.opcode ≡ d.GrantData
     → open_request x.source (link_beats link e) ≡ Some asked
     → KnowsGrant g complete n asked.block
     (before_last_seen link (length (unfinished channel.D (link_beats link e))) e)
 
 -- the same for a beat of any message
-abbrev pub KnowsGrantBy : {w : ℕ} → GrantBytes → List Bool → ℕ → ℕ → Beat w → Events w → Type 0
+abbrev pub KnowsGrantBy : {w : ℕ} → GrantBytes → Completeness → ℕ → ℕ → Beat w → Events w → Type 0
 KnowsGrantBy {w} g complete n link x e = (y : BeatD w) → x ≡ beat.D y → KnowsGrantOf g complete n link y e
 
 -- these are the bytes that the unfinished GrantData of a link may bring, if there is one
-abbrev pub KnowsUnfinished : {w : ℕ} → GrantBytes → List Bool → ℕ → ℕ → Events w → Type 0
+abbrev pub KnowsUnfinished : {w : ℕ} → GrantBytes → Completeness → ℕ → ℕ → Events w → Type 0
 KnowsUnfinished {w} g complete n link e = (y : BeatD w) (older : List (Beat w)) (asked : Request)
     → unfinished channel.D (link_beats link e) ≡ beat.D y ∷ older → y.opcode ≡ d.GrantData
     → open_request y.source (link_beats link e) ≡ Some asked
@@ -79,11 +80,11 @@ KnowsUnfinished {w} g complete n link e = (y : BeatD w) (older : List (Beat w)) 
 -- ---- all links
 
 -- they are kept for each of n links
-pub record KnowsGrants {w : ℕ} (grants : List GrantBytes) (complete : List Bool) (n : ℕ) (e : Events w) : Type 0 where
+pub record KnowsGrants {w : ℕ} (grants : List GrantBytes) (complete : Completeness) (n : ℕ) (e : Events w) : Type 0 where
   pub count_is : length grants ≡ n
   pub are : (link : ℕ) (g : GrantBytes) → slice_get grants link ≡ Some g → KnowsUnfinished g complete n link e
 
 -- and for the GrantData of a beat that comes after e on a link
-abbrev pub AreMet : {w : ℕ} → List GrantBytes → List Bool → ℕ → ℕ → Beat w → Events w → Type 0
+abbrev pub AreMet : {w : ℕ} → List GrantBytes → Completeness → ℕ → ℕ → Beat w → Events w → Type 0
 AreMet grants complete n link x e = (g : GrantBytes) → slice_get grants link ≡ Some g
     → KnowsGrantBy g complete n link x e

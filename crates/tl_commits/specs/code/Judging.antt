@@ -9,12 +9,13 @@ use Rattle.tl_together.specs.declared.breach.Breach.{Breach}
 use Rattle.tl_beat.specs.declared.beat.Beat.{Beat}
 use Rattle.tl_beat.specs.declared.beat.Beat.TheVariants as beat
 use Rattle.tl_params.specs.declared.memory_rule.MemoryRule.{MemoryRule}
+use Rattle.tl_commits.specs.statement.Completeness.{Completeness}
 use Rattle.tl_commits.specs.statement.Breaches.{broken_bytes_seen}
 use Rattle.tl_commits.specs.statement.Events.{Events}
 use Rattle.tl_events.specs.declared.rule.CommitRule.{CommitRule}
-use Rattle.std.specs.Prelude.{ℕ, Bool, true, ◌≡◌, ◌==◌, if◌then◌else◌, List, Option, Some, None, is_some}
+use Rattle.std.specs.Prelude.{ℕ, true, ◌≡◌, ◌==◌, if◌then◌else◌, Option, Some, None}
 use Rattle.tl_commits.specs.code.Loading.{AreRenewed}
-use Rattle.tl_commits.specs.code.ValueTable.{values_in}
+use Rattle.tl_commits.specs.code.ValueTable.{has_own, Table, values_in}
 use Rattle.tl_commits.specs.declared.block_values.BlockValues.{BlockValues}
 use Rattle.tl_commits.specs.declared.judge.CommitJudge.{CommitJudge}
 
@@ -42,9 +43,9 @@ pub record IsSameBut {w : ℕ} (old new : CommitJudge w) : Type 0 where
   pub readings_are : new.readings ≡ old.readings
 
 -- the table with the values of one block, if there are some
-abbrev pub HasPut : List (ℕ × BlockValues) → List (ℕ × BlockValues) → Option (ℕ × BlockValues) → Type 0
+abbrev pub HasPut : Table → Table → Option (ℕ × BlockValues) → Type 0
 HasPut old new None = new ≡ old
-HasPut old new (Some (block, values)) = is_some (values_in old block) ≡ true
+HasPut old new (Some (block, values)) = has_own old block ≡ true
     → (k : ℕ) → values_in new k ≡ (if k == block then Some values else values_in old k)
 
 -- the values of one block are put into the judge, if there are some, and its loads are renewed
@@ -58,6 +59,6 @@ pub record IsRecorded {w : ℕ} (old new : CommitJudge w) (next : Option (ℕ ×
   pub loads_are : AreRenewed old.judge new.values old.complete.items old.loads.items new.loads.items
 
 -- M2 or M3, if the bytes of a beat aren't true
-abbrev pub broken_bytes : {w : ℕ} → List Bool → ℕ → ℕ → Beat w → Events w → Option MemoryRule
+abbrev pub broken_bytes : {w : ℕ} → Completeness → ℕ → ℕ → Beat w → Events w → Option MemoryRule
 broken_bytes complete n link (beat.D x) e = broken_bytes_seen complete n link x e
 broken_bytes complete n link _ e = None

@@ -12,9 +12,9 @@ use Rattle.tl_together.specs.statement.Knows.{Knows}
 use Rattle.tl_events.specs.declared.commit.Piece.{Piece}
 use Rattle.tl_events.specs.statement.CommitLine.{IsPiece}
 use Rattle.tl_memory.specs.code.ByteSet.{has_at}
-use Rattle.tl_commits.specs.code.ValueTable.{KnowsTable}
-use Rattle.tl_commits.specs.declared.block_values.BlockValues.{BlockValues}
+use Rattle.tl_commits.specs.code.ValueTable.{KnowsTable, Table}
 use Rattle.tl_commits.specs.declared.loading.Loading.{Loading}
+use Rattle.tl_commits.specs.statement.Completeness.{Completeness}
 use Rattle.tl_commits.specs.statement.Commits.{is_piece_loadable, may_bring}
 use Rattle.tl_commits.specs.statement.Events.{Events, beats_of, is_loading, same_piece, since_begun}
 
@@ -31,14 +31,14 @@ abbrev pub brings : Loading → ℕ → Bool
 brings x value = each_below (2 ^ x.piece.size) (λ i. had x i (byte_of value i))
 
 -- what is kept of a load says whether it could be performed at a moment since it began, and which bytes it could bring
-pub record IsKept {w : ℕ} (x : Loading) (complete : List Bool) (n link : ℕ) (piece : Piece) (e : Events w)
+pub record IsKept {w : ℕ} (x : Loading) (complete : Completeness) (n link : ℕ) (piece : Piece) (e : Events w)
     : Type 0 where
   pub loadable_is : x.loadable ≡ since_begun (is_piece_loadable link piece) link piece e
   pub values_are : (i v : ℕ) → i < 2 ^ piece.size → v < 256
       → had x i v ≡ since_begun (may_bring complete n link (piece.address + i) v) link piece e
 
 -- this is the load that has begun, if one has
-abbrev pub IsLoading : {w : ℕ} → Option Loading → List Bool → ℕ → ℕ → Piece → Events w → Type 0
+abbrev pub IsLoading : {w : ℕ} → Option Loading → Completeness → ℕ → ℕ → Piece → Events w → Type 0
 IsLoading None complete n link piece e = is_loading link piece e ≡ false
 IsLoading (Some x) complete n link piece e =
     (is_loading link piece e ≡ true) × IsKept x complete n link piece e
@@ -49,7 +49,7 @@ ArePieces n [] = ⊤
 ArePieces n (x ∷ loads) = ((x.link.0 < n) × IsPiece x.piece) × ArePieces n loads
 
 -- the loads that have begun, on n links
-pub record KnowsLoads {w : ℕ} (loads : List Loading) (complete : List Bool) (n : ℕ) (e : Events w) : Type 0 where
+pub record KnowsLoads {w : ℕ} (loads : List Loading) (complete : Completeness) (n : ℕ) (e : Events w) : Type 0 where
   pub pieces : ArePieces n loads
   pub are : (link : ℕ) (piece : Piece) → IsLoading (find (is_of link piece) loads) complete n link piece e
 
@@ -61,7 +61,7 @@ pub record IsFresh (x : Loading) (link : Link) (piece : Piece) : Type 0 where
   pub values_are : (i v : ℕ) → i < 8 → v < 256 → had x i v ≡ false
 
 -- the load with what is possible now
-pub record IsNewer {w : ℕ} (complete : List Bool) (n : ℕ) (e : Events w) (old new : Loading) : Type 0 where
+pub record IsNewer {w : ℕ} (complete : Completeness) (n : ℕ) (e : Events w) (old new : Loading) : Type 0 where
   pub link_is : new.link ≡ old.link
   pub piece_is : new.piece ≡ old.piece
   pub loadable_is : new.loadable ≡ (is_piece_loadable old.link.0 old.piece e || old.loadable)
@@ -74,14 +74,14 @@ IsPossible {w} judge x now = (levels : List Level) (l : Liberties) (e : Events w
     → x.link.0 < length levels → IsPiece x.piece → now ≡ is_piece_loadable x.link.0 x.piece e
 
 -- a load with what is possible now, by a judge of the beats and the values of blocks
-abbrev pub IsRenewed : {w : ℕ} → Judge w → List (ℕ × BlockValues) → List Bool → Loading → Loading → Type 0
-IsRenewed {w} judge table complete old new = (levels : List Level) (l : Liberties) (e : Events w)
-    → Knows judge levels l (beats_of e) false → KnowsTable table complete (length levels) e
+abbrev pub IsRenewed : {w : ℕ} → Judge w → Table → List Bool → Loading → Loading → Type 0
+IsRenewed {w} judge table stores old new = (levels : List Level) (l : Liberties) (complete : Completeness) (e : Events w)
+    → stores ≡ complete.stores → Knows judge levels l (beats_of e) false → KnowsTable table complete (length levels) e
     → old.link.0 < length levels → IsPiece old.piece → IsNewer complete (length levels) e old new
 
 -- each of them
-abbrev pub AreRenewed : {w : ℕ} → Judge w → List (ℕ × BlockValues) → List Bool → List Loading → List Loading → Type 0
-AreRenewed judge table complete old new = AllZip (IsRenewed judge table complete) old new
+abbrev pub AreRenewed : {w : ℕ} → Judge w → Table → List Bool → List Loading → List Loading → Type 0
+AreRenewed judge table stores old new = AllZip (IsRenewed judge table stores) old new
 
 -- the load, as if it began now if it is the one of this piece on this link
 pub record IsRestarted (link : Link) (piece : Piece) (old new : Loading) : Type 0 where

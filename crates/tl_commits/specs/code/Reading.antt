@@ -27,9 +27,9 @@ use Rattle.tl_together.specs.declared.judge.Judge.{Judge}
 use Rattle.tl_together.specs.statement.Knows.{Knows}
 use Rattle.tl_events.specs.declared.commit.Event.TheVariants as event
 use Rattle.tl_commits.specs.code.Reached.{is_reached}
-use Rattle.tl_commits.specs.code.ValueTable.{KnowsTable}
-use Rattle.tl_commits.specs.declared.block_values.BlockValues.{BlockValues}
+use Rattle.tl_commits.specs.code.ValueTable.{KnowsTable, Table}
 use Rattle.tl_commits.specs.declared.reading.Reading.{Reading}
+use Rattle.tl_commits.specs.statement.Completeness.{Completeness}
 use Rattle.tl_commits.specs.statement.Copies.{link_beats}
 use Rattle.tl_commits.specs.statement.Events.{Events, beats_of}
 use Rattle.tl_commits.specs.statement.Seen.{values_seen}
@@ -64,7 +64,7 @@ IsRead None x = is_read x ≡ false
 IsRead (Some y) x = (x ≡ beat.D y) × (y.opcode ≡ d.AccessAckData)
 
 -- M3 of a beat: if it is of an AccessAckData, the access may have found its bytes
-abbrev pub reads_truly : {w : ℕ} → List Bool → ℕ → ℕ → Beat w → Events w → Bool
+abbrev pub reads_truly : {w : ℕ} → Completeness → ℕ → ℕ → Beat w → Events w → Bool
 reads_truly complete n link (beat.D x) e =
     if brings_read x.opcode then is_true_seen complete d.AccessAckData n link x e else true
 reads_truly complete n link _ e = true
@@ -93,7 +93,7 @@ abbrev pub found_by : {w : ℕ} → Access w → Events w → Events w
 found_by access e = found_after_seen (Some access) access.link (come access.link access.request.source e) e
 
 -- this is what is kept of the access: the values of the bytes that it reaches
-pub record IsReading {w : ℕ} (r : Reading) (complete : List Bool) (n : ℕ) (access : Access w) (e : Events w)
+pub record IsReading {w : ℕ} (r : Reading) (complete : Completeness) (n : ℕ) (access : Access w) (e : Events w)
     : Type 0 where
   pub opcode_is : r.opcode ≡ access.request.opcode
   pub address_is : r.address ≡ access.request.address
@@ -103,12 +103,12 @@ pub record IsReading {w : ℕ} (r : Reading) (complete : List Bool) (n : ℕ) (a
       → has_at r.found place v
       ≡ may_read_seen complete n access (found_by access e) (64 * block_at access.request.address + place) v
 
-abbrev pub IsReadingOf : {w : ℕ} → Option Reading → List Bool → ℕ → Access w → Events w → Type 0
+abbrev pub IsReadingOf : {w : ℕ} → Option Reading → Completeness → ℕ → Access w → Events w → Type 0
 IsReadingOf None complete n access e = ⊥
 IsReadingOf (Some r) complete n access e = IsReading r complete n access e
 
 -- each pending access that isn't a Put has a reading
-abbrev pub KnowsReadings : {w : ℕ} → List Reading → List Bool → ℕ → Events w → Type 0
+abbrev pub KnowsReadings : {w : ℕ} → List Reading → Completeness → ℕ → Events w → Type 0
 KnowsReadings {w} readings complete n e = (link source : ℕ) (access : Access w)
     → find (bytes.is_of link source) (pending_accesses (beats_of e)) ≡ Some access
     → is_put access.request.opcode ≡ false → IsReadingOf (find (is_of link source) readings) complete n access e
@@ -156,7 +156,7 @@ IsNoted link (beat.D y) more old new = IsAnswered link y more old new
 IsNoted link _ more old new = new ≡ old
 
 -- the access may find the byte v at a place of its block after these events
-abbrev pub may_find : {w : ℕ} → List Bool → ℕ → Reading → Events w → ℕ → ℕ → Bool
+abbrev pub may_find : {w : ℕ} → Completeness → ℕ → Reading → Events w → ℕ → ℕ → Bool
 may_find complete n r e place v =
     told_as v (values_seen complete n (64 * block_at r.address + place) e)
     || may_write (64 * block_at r.address + place) v (all_but r.link.0 r.source (pending_accesses (beats_of e)))
@@ -167,7 +167,7 @@ abbrev pub goes_on : Reading → Bool
 goes_on r = is_get r.opcode || not r.begun
 
 -- the reading with the bytes that the access may find now, if it finds some
-pub record IsFound {w : ℕ} (complete : List Bool) (n : ℕ) (now : Bool) (e : Events w) (old new : Reading) : Type 0 where
+pub record IsFound {w : ℕ} (complete : Completeness) (n : ℕ) (now : Bool) (e : Events w) (old new : Reading) : Type 0 where
   pub link_is : new.link ≡ old.link
   pub source_is : new.source ≡ old.source
   pub opcode_is : new.opcode ≡ old.opcode
@@ -182,7 +182,7 @@ abbrev pub is_open : {w : ℕ} → ℕ → Reading → Link × Beat w → Trace 
 is_open n r x t = is_window n (needs r.opcode) (block_at r.address) x t
 
 -- the reading after one more beat, whose events come before
-pub record IsTaken {w : ℕ} (complete : List Bool) (n : ℕ) (link : Link) (x : Beat w) (e : Events w)
+pub record IsTaken {w : ℕ} (complete : Completeness) (n : ℕ) (link : Link) (x : Beat w) (e : Events w)
     (old new : Reading) : Type 0 where
   pub noted : Reading
   pub is_noted : IsNoted link x (nat_lt 0 (length (unfinished channel.D (link_beats link.0 ((link, event.Beat x) ∷ e)))))
@@ -191,14 +191,14 @@ pub record IsTaken {w : ℕ} (complete : List Bool) (n : ℕ) (link : Link) (x :
       noted new
 
 -- so by the judge of beats and the values of blocks after that beat
-abbrev pub IsTakenBy : {w : ℕ} → Judge w → List (ℕ × BlockValues) → Link → Beat w → Option ℕ → Reading → Reading
+abbrev pub IsTakenBy : {w : ℕ} → Judge w → Table → Link → Beat w → Option ℕ → Reading → Reading
     → Type 0
-IsTakenBy {w} judge table link x shown old new = (levels : List Level) (l : Liberties) (complete : List Bool)
+IsTakenBy {w} judge table link x shown old new = (levels : List Level) (l : Liberties) (complete : Completeness)
     (e : Events w) → Knows judge levels l ((link, x) ∷ beats_of e) false → link.0 < length levels
     → MayShow shown x (on_link link.0 (beats_of e)) → KnowsTable table complete (length levels) ((link, event.Beat x) ∷ e)
     → IsTaken complete (length levels) link x e old new
 
-abbrev pub AreTakenBy : {w : ℕ} → Judge w → List (ℕ × BlockValues) → Link → Beat w → Option ℕ → List Reading
+abbrev pub AreTakenBy : {w : ℕ} → Judge w → Table → Link → Beat w → Option ℕ → List Reading
     → List Reading → Type 0
 AreTakenBy judge table link x shown old new = AllZip (IsTakenBy judge table link x shown) old new
 

@@ -10,6 +10,7 @@ use Rattle.tl_together.specs.statement.Coherence.{broken_together, first_breach}
 use Rattle.tl_events.specs.declared.commit.Event.TheVariants as event
 use Rattle.tl_commits.specs.declared.rule.CommitBreach.{CommitBreach}
 use Rattle.tl_commits.specs.declared.rule.CommitBreach.TheVariants.{OfBeats, OfCommits}
+use Rattle.tl_commits.specs.statement.Completeness.{incomplete, with_stores}
 use Rattle.tl_commits.specs.statement.Breaches.{broken_event, first_commit_breach}
 use Rattle.tl_commits.specs.statement.Events.{Events}
 use Rattle.std.specs.Prelude.{Bool}
@@ -29,12 +30,14 @@ abbrev pub as_commits : Option (ℕ × Breach) → Option (ℕ × CommitBreach)
 as_commits None = None
 as_commits (Some (place, breach)) = Some (place, OfBeats breach)
 
--- If there are no commits, and no link says that all its stores are there, the first breach is that of the beats.
+-- If there are no commits, and the header says neither that a link's stores are all there nor that memory was zero, the
+-- first breach is that of the beats.
 abbrev pub JudgesAlone : ℕ → Type 0
 JudgesAlone w = (levels : List Level) (l : Liberties) (t : Trace w)
-    → first_commit_breach levels [] l (alone t) ≡ as_commits (first_breach levels l t)
+    → first_commit_breach levels incomplete l (alone t) ≡ as_commits (first_breach levels l t)
 
--- Whichever links say so, a beat breaks the same rule of beats.
+-- Of whichever links it says so, if it doesn't say that memory was zero a beat breaks the same rule of beats.
 abbrev pub JudgesBeats : ℕ → Type 0
-JudgesBeats w = (levels : List Level) (complete : List Bool) (l : Liberties) (link : Link) (x : Beat w) (t : Trace w)
-    → of_beats (broken_event levels complete l link (event.Beat x) (alone t)) ≡ broken_together levels l (link, x) t
+JudgesBeats w = (levels : List Level) (stores : List Bool) (l : Liberties) (link : Link) (x : Beat w) (t : Trace w)
+    → of_beats (broken_event levels (with_stores stores) l link (event.Beat x) (alone t)) ≡ broken_together levels l
+    (link, x) t

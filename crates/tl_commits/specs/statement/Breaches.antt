@@ -19,6 +19,7 @@ use Rattle.tl_events.specs.declared.commit.Event.TheVariants as event
 use Rattle.tl_commits.specs.declared.rule.CommitBreach.{CommitBreach}
 use Rattle.tl_commits.specs.declared.rule.CommitBreach.TheVariants.{OfBeats, OfCommits}
 use Rattle.tl_events.specs.declared.rule.CommitRule.{CommitRule}
+use Rattle.tl_commits.specs.statement.Completeness.{Completeness}
 use Rattle.tl_commits.specs.statement.Commits.{broken_commit, broken_report}
 use Rattle.tl_commits.specs.statement.Events.{Events, beats_of}
 use Rattle.tl_commits.specs.statement.True.{is_true_seen}
@@ -26,12 +27,12 @@ use Rattle.tl_commits.specs.statement.True.{is_true_seen}
 -- ---- a beat
 
 -- M2 and M3, at each beat of a response with data: its bytes aren't true
-abbrev pub broken_bytes_seen : {w : ℕ} → List Bool → ℕ → ℕ → BeatD w → Events w → Option MemoryRule
+abbrev pub broken_bytes_seen : {w : ℕ} → Completeness → ℕ → ℕ → BeatD w → Events w → Option MemoryRule
 broken_bytes_seen complete n link x e =
     if is_true_seen complete x.opcode n link x e then None else Some (rule_of_bytes x.opcode)
 
 -- the rule of memory that a beat breaks: M1 and M4 come before M2 and M3
-abbrev pub broken_memory_seen : {w : ℕ} → List Bool → ℕ → ℕ → Beat w → Events w → Option MemoryRule
+abbrev pub broken_memory_seen : {w : ℕ} → Completeness → ℕ → ℕ → Beat w → Events w → Option MemoryRule
 broken_memory_seen complete n link (beat.D x) e =
     memory_rule_or (broken_beginning n link x (beats_of e)) (broken_bytes_seen complete n link x e)
 broken_memory_seen complete n link _ e = None
@@ -43,7 +44,8 @@ breach_of None (Some rule) = Some (OfCommits rule)
 breach_of None None = None
 
 -- the first rule that a beat breaks: those of its link, then M1, M2, M4, M3 and M7
-abbrev pub broken_beat : {w : ℕ} → List Level → List Bool → Liberties → Link → Beat w → Events w → Option CommitBreach
+abbrev pub broken_beat : {w : ℕ} → List Level → Completeness → Liberties → Link → Beat w → Events w
+    → Option CommitBreach
 broken_beat levels complete l link x e =
     breach_of (first_broken (broken_on_link_under l levels (link, x) (beats_of e))
     (broken_memory_seen complete (length levels) link.0 x e))
@@ -58,7 +60,7 @@ has_cache (Some level) = has_transfers level
 
 -- the first rule that a commit breaks: L1 if its link has no cache
 abbrev pub broken_by_core :
-    {w : ℕ} → List Level → List Bool → Link → Commit → Events w → Option CommitBreach
+    {w : ℕ} → List Level → Completeness → Link → Commit → Events w → Option CommitBreach
 broken_by_core levels complete link x e =
     if has_cache (slice_get levels link.0)
     then breach_of None (broken_commit complete (length levels) link.0 x e)
@@ -68,7 +70,7 @@ broken_by_core levels complete link x e =
 
 -- the first rule that an event breaks after e, which has the events before it, the newest first
 abbrev pub broken_event :
-    {w : ℕ} → List Level → List Bool → Liberties → Link → Event w → Events w → Option CommitBreach
+    {w : ℕ} → List Level → Completeness → Liberties → Link → Event w → Events w → Option CommitBreach
 broken_event levels complete l link (event.Beat x) e = broken_beat levels complete l link x e
 broken_event levels complete l link (event.Commit x) e = broken_by_core levels complete link x e
 
@@ -80,12 +82,12 @@ commit_breach_or (Some breach) i rest = Some (i, breach)
 -- The place and the rule of the first event of `trace` that breaks a rule. `before` has the events before these, the
 -- newest first; in `trace` the next one is first.
 unfoldable pub commit_breach_from :
-    {w : ℕ} → List Level → List Bool → Liberties → Events w → Events w → Option (ℕ × CommitBreach)
+    {w : ℕ} → List Level → Completeness → Liberties → Events w → Events w → Option (ℕ × CommitBreach)
 commit_breach_from levels complete l before [] = None
 commit_breach_from levels complete l before (x ∷ trace) =
     commit_breach_or (broken_event levels complete l x.0 x.1 before) (length before)
     (commit_breach_from levels complete l (x ∷ before) trace)
 
 -- the place of the first event of a trace that breaks a rule, with the rule
-abbrev pub first_commit_breach : {w : ℕ} → List Level → List Bool → Liberties → Events w → Option (ℕ × CommitBreach)
+abbrev pub first_commit_breach : {w : ℕ} → List Level → Completeness → Liberties → Events w → Option (ℕ × CommitBreach)
 first_commit_breach levels complete l trace = commit_breach_from levels complete l [] trace

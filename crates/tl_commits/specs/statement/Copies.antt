@@ -1,6 +1,6 @@
 -- The permission that a link holds of a block, the bytes that a Grant under way has brought, and reports under way.
 use Rattle.std.specs.Prelude.{ℕ, Bool, false, not, ◌∷◌, ◌==◌, ◌&&◌, ◌||◌, ◌/◌, ◌%◌, if◌then◌else◌, List, length}
-use Rattle.std.specs.Prelude.{nat_lt, Option, Some, None, is_some, slice_index_or}
+use Rattle.std.specs.Prelude.{nat_lt, Option, Some, None, is_some}
 use Rattle.tl_beat.specs.declared.beat.Beat.{Beat}
 use Rattle.tl_beat.specs.declared.beat.Beat.TheVariants as beat
 use Rattle.tl_beat.specs.declared.channel.Channel.TheVariants as channel
@@ -11,11 +11,8 @@ use Rattle.tl_rules.specs.statement.Conformance.{on_link, same_perm}
 use Rattle.tl_rules.specs.statement.History.{block_at, grants, is_release, pending}
 use Rattle.tl_bytes.specs.statement.Bytes.{carried_byte}
 use Rattle.tl_bytes.specs.statement.Free.{may_hold}
+use Rattle.tl_commits.specs.statement.Completeness.{Completeness, is_complete}
 use Rattle.tl_commits.specs.statement.Events.{Events, beats_of}
-
--- the link is one of those (`C+`) of which all stores are in the trace
-abbrev pub is_complete : List Bool → ℕ → Bool
-is_complete complete link = slice_index_or complete link false
 
 -- the beats of a link
 abbrev pub link_beats : {w : ℕ} → ℕ → Events w → History w
@@ -66,5 +63,5 @@ may_load address past = holds (block_at address) past || is_some (brought addres
 
 -- The bytes of the block in the copy are known from the trace: it has all stores of the link, or the link doesn't hold
 -- Trunk.
-abbrev pub is_known : {w : ℕ} → List Bool → ℕ → ℕ → History w → Bool
+abbrev pub is_known : {w : ℕ} → Completeness → ℕ → ℕ → History w → Bool
 is_known complete link block past = is_complete complete link || not (holds_trunk block past)

@@ -1,5 +1,5 @@
 -- The state of a judge of beats and commits after the events of a trace.
-use Rattle.std.specs.Prelude.{Bool, false, List, [], ◌∷◌, ◌≡◌, length, Option, Some, None, Result, Ok, Err, ⊤, ℕ}
+use Rattle.std.specs.Prelude.{false, List, [], ◌∷◌, ◌≡◌, length, Option, Some, None, Result, Ok, Err, ⊤, ℕ}
 use Rattle.tl_beat.specs.declared.beat.Link.{Link}
 use Rattle.tl_params.specs.declared.level.Level.{Level}
 use Rattle.tl_params.specs.declared.liberties.Liberties.{Liberties}
@@ -16,22 +16,23 @@ use Rattle.tl_commits.specs.declared.fault.CommitFault.TheVariants as fault
 use Rattle.tl_commits.specs.declared.judge.CommitJudge.{CommitJudge}
 use Rattle.tl_commits.specs.declared.rule.CommitBreach.{CommitBreach}
 use Rattle.tl_events.specs.statement.CommitLine.{IsCommit}
+use Rattle.tl_commits.specs.statement.Completeness.{Completeness}
 use Rattle.tl_commits.specs.statement.Events.{Events, beats_of}
 
 -- the judge has these levels, links with all their stores, and liberties, and the state that these rules need after the
 -- events, the newest first
-pub record KnowsCommits {w : ℕ} (j : CommitJudge w) (levels : List Level) (complete : List Bool) (l : Liberties)
+pub record KnowsCommits {w : ℕ} (j : CommitJudge w) (levels : List Level) (complete : Completeness) (l : Liberties)
     (e : Events w) : Type 0 where
   pub judge_is : Knows j.judge levels l (beats_of e) false
   pub levels_are : j.levels.items ≡ levels
-  pub complete_are : j.complete.items ≡ complete
+  pub complete_are : j.complete.items ≡ complete.stores
   pub loads_are : KnowsLoads j.loads.items complete (length levels) e
   pub values_are : KnowsTable j.values complete (length levels) e
   pub grants_are : KnowsGrants j.grants.items complete (length levels) e
   pub readings_are : KnowsReadings j.readings.items complete (length levels) e
 
 -- a new judge, or the reason why there is none
-abbrev pub IsNew : {w : ℕ} → List Level → List Bool → Liberties → Result (CommitJudge w) CommitFault → Type 0
+abbrev pub IsNew : {w : ℕ} → List Level → Completeness → Liberties → Result (CommitJudge w) CommitFault → Type 0
 IsNew levels complete l (Ok j) = IsCount (length levels) × KnowsCommits j levels complete l []
 IsNew levels complete l (Err fault.Levels) = ¬ IsCount (length levels)
 IsNew levels complete l (Err fault.Memory) = IsCount (length levels)

@@ -24,6 +24,7 @@ use Rattle.tl_events.specs.declared.commit.Commit.TheVariants as commit
 use Rattle.tl_events.specs.declared.commit.Event.{Event}
 use Rattle.tl_events.specs.declared.commit.Event.TheVariants as event
 use Rattle.tl_events.specs.declared.commit.Piece.{Piece}
+use Rattle.tl_commits.specs.statement.Completeness.{Completeness, first_value}
 use Rattle.tl_commits.specs.statement.Copies.{brought, holds_trunk, is_known, link_beats}
 use Rattle.tl_commits.specs.statement.Events.{Events, beats_of, is_loading}
 
@@ -37,14 +38,18 @@ told_by address x past moment = record {
       moment;
 } ∷ []
 
+-- the possible values of a byte before the trace
+abbrev pub first_values : Bool → List Telling
+first_values zero = record { value = first_value zero; moment = 0 } ∷ []
+
 -- The values that memory may have at an address if no copy is given back: as `may_be` of `tl_bytes`, but a Grant that
--- answers an AcquirePerm changes nothing there.
-unfoldable pub memory_may : {w : ℕ} → ℕ → ℕ → Trace w → List Telling
-memory_may n address [] = record { value = None; moment = 0 } ∷ []
-memory_may n address (x ∷ t) =
+-- answers an AcquirePerm changes nothing there, and memory may have been zero before the trace.
+unfoldable pub memory_may : {w : ℕ} → Bool → ℕ → ℕ → Trace w → List Telling
+memory_may zero n address [] = first_values zero
+memory_may zero n address (x ∷ t) =
     if tells (block_at address) x.1 (on_link x.0.0 t) && not (grants_unread x.1 (on_link x.0.0 t))
     then told_by address x.1 (on_link x.0.0 t) (length t)
-    else after_settling address x t (after_beat n address x.0.0 x.1 t (memory_may n address t))
+    else after_settling address x t (after_beat n address x.0.0 x.1 t (memory_may zero n address t))
 
 -- ---- commits
 
@@ -53,9 +58,9 @@ pub record Seen : Type 0 where
   pub values : List Telling
   pub stored : Bool
 
--- before the trace: any value
-abbrev pub unseen : Seen
-unseen = record { values = record { value = None; moment = 0 } ∷ []; stored = false }
+-- a byte before the trace
+abbrev pub unseen : Bool → Seen
+unseen zero = record { values = first_values zero; stored = false }
 
 -- the byte at an address that this piece of a value has
 abbrev pub byte_in : Piece → ℕ → ℕ → ℕ
@@ -67,14 +72,14 @@ told_now piece value address moment = record { value = Some (byte_in piece value
 
 -- A load of this piece says the byte at an address of its link's copy, as it is now: it didn't begin earlier, no Grant
 -- under way has brought the byte, and the bytes of the copy are known.
-abbrev pub says_byte : {w : ℕ} → List Bool → ℕ → Piece → ℕ → Events w → Bool
+abbrev pub says_byte : {w : ℕ} → Completeness → ℕ → Piece → ℕ → Events w → Bool
 says_byte complete link piece address e =
     not (is_loading link piece e)
     && (not (is_some (brought address (link_beats link e)))
     && is_known complete link (block_at address) (link_beats link e))
 
 -- a byte with one more commit
-abbrev pub after_commit : {w : ℕ} → List Bool → ℕ → ℕ → Commit → Events w → Seen → Seen
+abbrev pub after_commit : {w : ℕ} → Completeness → ℕ → ℕ → Commit → Events w → Seen → Seen
 after_commit complete address link (commit.Store piece value) e before =
     if reaches piece.address piece.size address
     then record {
@@ -115,12 +120,12 @@ loses_stores block _ past = false
 -- A byte with one more beat. A message sets it, or stores are lost and it has the value of memory, or the answer to an
 -- access
 -- changes it as `may_be` of `tl_bytes` does.
-abbrev pub after_seen_beat : {w : ℕ} → ℕ → ℕ → Link × Beat w → Events w → Seen → Seen
-after_seen_beat n address x e before =
+abbrev pub after_seen_beat : {w : ℕ} → Bool → ℕ → ℕ → Link × Beat w → Events w → Seen → Seen
+after_seen_beat zero n address x e before =
     if tells (block_at address) x.1 (link_beats x.0.0 e)
     then record { values = told_by address x.1 (link_beats x.0.0 e) (length (beats_of e)); stored = false }
     else if before.stored && loses_stores (block_at address) x.1 (link_beats x.0.0 e)
-    then record { values = memory_may n address (beats_of e); stored = false }
+    then record { values = memory_may zero n address (beats_of e); stored = false }
     else record {
       values =
           after_settling address x (beats_of e)
@@ -131,15 +136,15 @@ after_seen_beat n address x e before =
 -- ---- all events
 
 -- a byte with one more event
-abbrev pub after_event : {w : ℕ} → List Bool → ℕ → ℕ → Link → Event w → Events w → Seen → Seen
-after_event complete n address link (event.Beat x) e before = after_seen_beat n address (link, x) e before
+abbrev pub after_event : {w : ℕ} → Completeness → ℕ → ℕ → Link → Event w → Events w → Seen → Seen
+after_event complete n address link (event.Beat x) e before = after_seen_beat complete.zero n address (link, x) e before
 after_event complete n address link (event.Commit x) e before = after_commit complete address link.0 x e before
 
 -- the byte at an address after beats and commits of n links
-unfoldable pub seen : {w : ℕ} → List Bool → ℕ → ℕ → Events w → Seen
-seen complete n address [] = unseen
+unfoldable pub seen : {w : ℕ} → Completeness → ℕ → ℕ → Events w → Seen
+seen complete n address [] = unseen complete.zero
 seen complete n address (x ∷ e) = after_event complete n address x.0 x.1 e (seen complete n address e)
 
 -- the possible values of the byte
-abbrev pub values_seen : {w : ℕ} → List Bool → ℕ → ℕ → Events w → List Telling
+abbrev pub values_seen : {w : ℕ} → Completeness → ℕ → ℕ → Events w → List Telling
 values_seen complete n address e = (seen complete n address e).values

@@ -3,6 +3,7 @@ use Rattle.std.specs.Prelude.{ℕ, ◌∷◌, ◌≡◌, ◌<◌, ◌+◌, ◌*�
 use Rattle.tl_beat.specs.declared.beat.Link.{Link}
 use Rattle.tl_bytes.specs.declared.telling.Telling.{Telling}
 use Rattle.tl_bytes.specs.statement.Known.{tellings_at}
+use Rattle.tl_commits.specs.statement.Completeness.{Completeness}
 use Rattle.tl_commits.specs.statement.Copied.{copy_values}
 use Rattle.tl_commits.specs.statement.Events.{Events, beats_of}
 use Rattle.tl_commits.specs.statement.Knows.{KnowsCommits}
@@ -49,15 +50,16 @@ pub record KnowsSet {w : ℕ} (s : SetLines) (values : ℕ → Events w → List
   pub set_is : (place v : ℕ) → place < 64 → v < 256 → set_in s place v ≡ set_at (values place) v e
 
 -- of the bytes of a block, the values of a link's copy and those of memory
-pub record KnowsCopy {w : ℕ} (r : CopyRecord w) (may : Liberties) (levels : List Level) (complete : List Bool)
+pub record KnowsCopy {w : ℕ} (r : CopyRecord w) (may : Liberties) (levels : List Level) (complete : Completeness)
     (e : Events w) : Type 0 where
   pub judge_is : KnowsCommits r.judge levels complete may e
   pub there : r.link.0 < length levels
   pub copy_is : KnowsSet r.copy (λ place. copy_values complete (length levels) r.link.0 (64 * r.block + place)) e
-  pub memory_is : KnowsSet r.memory (λ place e. memory_may (length levels) (64 * r.block + place) (beats_of e)) e
+  pub memory_is : KnowsSet r.memory
+      (λ place e. memory_may complete.zero (length levels) (64 * r.block + place) (beats_of e)) e
 
 -- one more event, in the line of this number
 abbrev pub RecordsCopy : {w : ℕ} → CopyRecord w → CopyRecord w → ℕ → Link → Event w → Type 0
 RecordsCopy {w} old new number link x =
-    (may : Liberties) (levels : List Level) (complete : List Bool) (e : Events w) → number ≡ length e + 2
+    (may : Liberties) (levels : List Level) (complete : Completeness) (e : Events w) → number ≡ length e + 2
     → KnowsCopy old may levels complete e → KnowsCopy new may levels complete ((link, x) ∷ e)

@@ -1,6 +1,7 @@
 -- What a judge of wide beats and commits knows, and is for.
 use Rattle.std.specs.Prelude.{◌≡◌, ℕ}
 use Rattle.tl_beat.specs.declared.beat.Link.{Link}
+use Rattle.tl_commit_lines.specs.statement.MarkedHeader.{links_in}
 use Rattle.tl_commit_lines.specs.code.EventWatching.{KnowsEvents}
 use Rattle.tl_commit_lines.specs.declared.header.CommitHeader.{CommitHeader}
 use Rattle.tl_commits.specs.statement.Events.{Events}
@@ -32,7 +33,7 @@ abbrev pub wide_event_takings : (w p : ℕ)
 wide_event_takings w p = record {
   form = wide_events w;
   shown = λ x. (x.link, x.event);
-  terms_of = λ together links. event_terms_of together links.may links.links.items;
+  terms_of = λ together links. event_terms_of together links.may (links_in links);
   takes = λ judge terms t. KnowsWideEvents terms judge.judge t;
   apart = λ terms t x fault good bad. none-some good bad;
 }

@@ -10,7 +10,7 @@ use Rattle.tl_lines.specs.declared.fault.Fault.TheVariants.{Line}
 use Rattle.tl_lines.specs.statement.JudgedLinks.{faults_by}
 use Rattle.tl_params.specs.declared.level.Level.{Level}
 use Rattle.tl_params.specs.declared.liberties.Liberties.{Liberties}
-use Rattle.tl_commit_lines.specs.declared.header.MarkedLevel.{MarkedLevel}
+use Rattle.tl_commit_lines.specs.statement.MarkedHeader.{MarkedLinks}
 use Rattle.tl_commit_lines.specs.statement.JudgedEvents.{fault_by}
 use Rattle.tl_events.specs.declared.commit.Event.{Event}
 use Rattle.tl_events.specs.statement.EventLine.{SpellsEvent, event_fault}
@@ -28,11 +28,12 @@ pub record Terms : Type 0 where
   pub may : Liberties
   pub levels : List Level
 
--- the terms of a trace with commits: the same, of links of which some have the mark that all their stores are in it
+-- the terms of a trace with commits: the same, of links of which some may have the mark that all their stores are in
+-- it, and whether memory was zero before it
 pub record EventTerms : Type 0 where
   pub together : Bool
   pub may : Liberties
-  pub links : List MarkedLevel
+  pub links : MarkedLinks
 
 -- A form of beats, or of beats and commits, each with its link. The newest beat of a trace is first.
 pub record Form (X : Type 0) : Type 1 where

@@ -11,8 +11,7 @@ use Rattle.tl_lines.specs.declared.fault.Fault.TheVariants.{Header}
 use Rattle.tl_lines.specs.statement.LinksHeader.{NamesAllowed}
 use Rattle.tl_lines.specs.statement.Width.{bytes_of}
 use Rattle.tl_report.specs.declared.findings.Finding.{Finding}
-use Rattle.tl_commit_lines.specs.declared.header.MarkedLevel.{MarkedLevel}
-use Rattle.tl_commit_lines.specs.statement.MarkedHeader.{NamesMarked}
+use Rattle.tl_commit_lines.specs.statement.MarkedHeader.{MarkedLinks, NamesMarked}
 use Rattle.tl_report.specs.statement.Form.{EventTerms, Form, IsAtFault, Terms, events, narrow, wide, wide_events}
 use Rattle.tl_report.specs.statement.Taken.{AreCounted}
 use Rattle.tl_wide.specs.declared.width.WideWidth.{WideWidth}
@@ -52,7 +51,7 @@ abbrev pub terms_of : Bool → Liberties → List Level → Terms
 terms_of together may levels = record { together = together; may = may; levels = levels }
 
 -- the same of a trace with commits
-abbrev pub event_terms_of : Bool → Liberties → List MarkedLevel → EventTerms
+abbrev pub event_terms_of : Bool → Liberties → MarkedLinks → EventTerms
 event_terms_of together may links = record { together = together; may = may; links = links }
 
 -- the line is a header of narrow beats, and these are the findings after it
@@ -71,14 +70,14 @@ FindsWide aim line lines found beats cells =
 -- the same for a header of a trace with commits
 abbrev pub FindsEvents : Aim → List ℕ → List (List ℕ) → List Finding → ℕ → List ℕ → Type 0
 FindsEvents aim line lines found beats cells =
-    (width : Width) × (may : Liberties) × (links : List MarkedLevel) × NamesMarked aim.allow line width may links
+    (width : Width) × (may : Liberties) × (links : MarkedLinks) × NamesMarked aim.allow line width may links
     × FindsAfter (events (bytes_of width) (event_terms_of aim.together may links)) [] 2 (most_of aim) lines found beats
     cells
 
 -- the same for a header of a wide trace with commits
 abbrev pub FindsWideEvents : Aim → List ℕ → List (List ℕ) → List Finding → ℕ → List ℕ → Type 0
 FindsWideEvents aim line lines found beats cells =
-    (width : WideWidth) × (may : Liberties) × (links : List MarkedLevel)
+    (width : WideWidth) × (may : Liberties) × (links : MarkedLinks)
     × NamesWideMarked aim.allow line width may links
     × FindsAfter (wide_events (wide_bytes_of width) (event_terms_of aim.together may links)) [] 2 (most_of aim) lines found
     beats cells
@@ -95,12 +94,12 @@ IsNotWide aim line = (width : WideWidth) (may : Liberties) (levels : List Level)
 
 -- the line is no header of a trace with commits
 abbrev pub IsNotMarked : Aim → List ℕ → Type 0
-IsNotMarked aim line = (width : Width) (may : Liberties) (links : List MarkedLevel)
+IsNotMarked aim line = (width : Width) (may : Liberties) (links : MarkedLinks)
     → ¬ NamesMarked aim.allow line width may links
 
 -- the line is no header of a wide trace with commits
 abbrev pub IsNotWideMarked : Aim → List ℕ → Type 0
-IsNotWideMarked aim line = (width : WideWidth) (may : Liberties) (links : List MarkedLevel)
+IsNotWideMarked aim line = (width : WideWidth) (may : Liberties) (links : MarkedLinks)
     → ¬ NamesWideMarked aim.allow line width may links
 
 -- the line is no header

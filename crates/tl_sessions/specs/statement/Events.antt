@@ -7,6 +7,7 @@ use Rattle.tl_beat.specs.statement.Line.{Spells, line_fault}
 use Rattle.tl_commits.specs.declared.fault.CommitFault.{CommitFault}
 use Rattle.tl_commits.specs.declared.fault.CommitFault.TheVariants.{Broken}
 use Rattle.tl_commits.specs.declared.judge.CommitJudge.{CommitJudge}
+use Rattle.tl_commits.specs.statement.Completeness.{Completeness}
 use Rattle.tl_commits.specs.statement.Breaches.{broken_event}
 use Rattle.tl_commits.specs.statement.Events.{Events}
 use Rattle.tl_commits.specs.statement.Knows.{Answers, KnowsCommits, recorded_after}
@@ -28,9 +29,9 @@ use Rattle.tl_sessions.specs.declared.event_judge.EventJudge.{EventJudge}
 -- The event was judged by the judge's rules, after the events of all links that it knew. It then knows the events with
 -- this one if it was taken.
 pub record Judges {w : ℕ} (old new : CommitJudge w) (x : Link × Event w) (judged : Result ⊤ CommitFault) : Type 0 where
-  pub lawful : (levels : List Level) (complete : List Bool) (l : Liberties) (e : Events w)
+  pub lawful : (levels : List Level) (complete : Completeness) (l : Liberties) (e : Events w)
       → KnowsCommits old levels complete l e → Answers (broken_event levels complete l x.0 x.1 e) judged
-  pub knows : (levels : List Level) (complete : List Bool) (l : Liberties) (e : Events w)
+  pub knows : (levels : List Level) (complete : Completeness) (l : Liberties) (e : Events w)
       → KnowsCommits old levels complete l e → KnowsCommits new levels complete l (recorded_after judged x e)
 
 -- whether an open judge is closed after an event: by a broken rule, if that stops it

@@ -1,6 +1,7 @@
 -- The arguments from which C makes a judge of beats and commits, and sessions with one.
 use Rattle.std.specs.Prelude.{ℕ, Bool, true, false, ◌&&◌, ◌==◌, ◌≡◌, List, [], length, map, Option, Some, None}
 use Rattle.std.specs.Prelude.{Result, Ok, Err}
+use Rattle.tl_commits.specs.statement.Completeness.{with_stores}
 use Rattle.tl_commits.specs.statement.Knows.{KnowsCommits}
 use Rattle.tl_params.specs.statement.Config.{IsCount}
 use Rattle.tl_pictures.specs.declared.answer.Answer.{Answer}
@@ -21,7 +22,7 @@ may_open_events codes complete width =
 abbrev pub IsFreshEvents : {w : ℕ} → List ℕ → List ℕ → ℕ → EventJudge w → Type 0
 IsFreshEvents codes complete liberties j =
     (j.closed ≡ false)
-    × KnowsCommits j.judge (map level_at codes) (map flag_at complete) (liberties_at liberties) []
+    × KnowsCommits j.judge (map level_at codes) (with_stores (map flag_at complete)) (liberties_at liberties) []
 
 -- the result of making a judge: a new one, or a refusal
 abbrev pub MakesEvents : {w : ℕ} → List ℕ → List ℕ → ℕ → Result (EventJudge w) Answer → Type 0

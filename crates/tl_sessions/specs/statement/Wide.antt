@@ -5,6 +5,7 @@ use Rattle.tl_beat.specs.declared.beat.Beat.{Beat}
 use Rattle.tl_beat.specs.declared.beat.Link.{Link}
 use Rattle.tl_commits.specs.declared.rule.CommitBreach.{CommitBreach}
 use Rattle.tl_commits.specs.declared.rule.CommitBreach.TheVariants.{OfBeats}
+use Rattle.tl_commits.specs.statement.Completeness.{Completeness}
 use Rattle.tl_commits.specs.statement.Breaches.{broken_event}
 use Rattle.tl_commits.specs.statement.Events.{Events, beats_of}
 use Rattle.tl_commits.specs.statement.Knows.{KnowsCommits}
@@ -45,12 +46,12 @@ use Rattle.tl_sessions.specs.declared.wide.WideJudge.{WideJudge}
 
 -- ---- the fault of a wide event, which is a beat or a commit
 
--- How links are judged: each by itself, all together, or all together with the commits of their cores. Then a flag says
--- of each link whether all its stores are judged.
+-- How links are judged: each by itself, all together, or all together with the commits of their cores. Then it is
+-- known how complete the trace is.
 pub data Judging : Type 0 where
   Alone : Judging
   Together : Judging
-  WithCommits : List Bool → Judging
+  WithCommits : Completeness → Judging
 
 -- the rule that a beat breaks; a commit breaks none
 abbrev pub of_beat : {w : ℕ} {A : Type 0} → (Beat w → Option A) → Event w → Option A

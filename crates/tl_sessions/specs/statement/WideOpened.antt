@@ -1,6 +1,7 @@
 -- The arguments from which C makes a monitor or a judge of wide beats, or a judge of these and commits, and sessions with
 -- one.
 use Rattle.std.specs.Prelude.{ℕ, Bool, true, false, ◌&&◌, ◌==◌, ◌≡◌, List, [], length, map, nat_le, Option, Some, None}
+use Rattle.tl_commits.specs.statement.Completeness.{with_stores}
 use Rattle.tl_pictures.specs.declared.answer.Answer.{Answer}
 use Rattle.tl_pictures.specs.declared.commit.CommitPicture.{CommitPicture}
 use Rattle.tl_pictures.specs.declared.wide.WidePicture.{WidePicture}
@@ -66,7 +67,7 @@ WideJudgeOpens codes width = OpensWide (may_open_wide codes width) Together code
 -- the result of a call that opens a judge of beats and commits with an empty handle
 abbrev pub WideEventsOpen : List ℕ → List ℕ → ℕ → ℕ → Option Session → Answer → Type 0
 WideEventsOpen codes complete width =
-    OpensWide (may_open_wide_events codes complete width) (WithCommits (map flag_at complete)) codes width
+    OpensWide (may_open_wide_events codes complete width) (WithCommits (with_stores (map flag_at complete))) codes width
 
 -- ---- sessions
 

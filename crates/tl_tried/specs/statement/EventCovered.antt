@@ -1,9 +1,8 @@
 -- The situations of a trace with commits: those of its beats, with the lines of the trace.
 use Rattle.std.specs.Prelude.{◌≡◌, ◌⊎◌, ℕ, false, List, [], ◌∷◌, map, None, reverse}
 use Rattle.tl_beat.specs.declared.beat.Link.{Link}
-use Rattle.tl_commit_lines.specs.declared.header.MarkedLevel.{MarkedLevel}
 use Rattle.tl_commit_lines.specs.statement.JudgedEvents.{IsEventAtFault, fault_by}
-use Rattle.tl_commit_lines.specs.statement.MarkedHeader.{NamesMarked, levels_of}
+use Rattle.tl_commit_lines.specs.statement.MarkedHeader.{MarkedLinks, NamesMarked, levels_of}
 use Rattle.tl_commits.specs.statement.Events.{Events, beats_of}
 use Rattle.tl_lines.specs.declared.fault.Fault.{Fault}
 use Rattle.tl_lines.specs.statement.Width.{bytes_of}
@@ -27,12 +26,12 @@ beats_each e = map beats_at (reverse e)
 
 -- The situations and the counts of the beats of a trace. The line in which a situation first came is that of the event
 -- which is the beat.
-abbrev pub events_found : {w : ℕ} → List MarkedLevel → Liberties → Events w → Found
+abbrev pub events_found : {w : ℕ} → MarkedLinks → Liberties → Events w → Found
 events_found links may e = at_wide_lines (beats_each e) (found_of may (levels_of links) (beats_of e))
 
 -- The situations and counts of these lines after a header and the events of e: those of all beats up to the first line
 -- at fault.
-unfoldable pub CoveredEvents : {w : ℕ} → List MarkedLevel → Liberties → Events w → List (List ℕ) → Found → Type 0
+unfoldable pub CoveredEvents : {w : ℕ} → MarkedLinks → Liberties → Events w → List (List ℕ) → Found → Type 0
 CoveredEvents links may e [] found = found ≡ events_found links may e
 CoveredEvents {w} links may e (line ∷ lines) found =
     ((link : Link) × (x : Event w) × SpellsEvent line link x × (fault_by w false links may link x e ≡ None)
@@ -44,7 +43,7 @@ CoveredEvents {w} links may e (line ∷ lines) found =
 abbrev pub CommitsCovered : Liberties → List (List ℕ) → Found → Type 0
 CommitsCovered allow [] found = TraceCovered allow [] found
 CommitsCovered allow (line ∷ lines) found =
-    ((width : Width) × (may : Liberties) × (links : List MarkedLevel) × NamesMarked allow line width may links
+    ((width : Width) × (may : Liberties) × (links : MarkedLinks) × NamesMarked allow line width may links
     × CoveredEvents {w = bytes_of width} links may [] lines found)
-    ⊎ (((width : Width) (may : Liberties) (links : List MarkedLevel) → ¬ NamesMarked allow line width may links)
+    ⊎ (((width : Width) (may : Liberties) (links : MarkedLinks) → ¬ NamesMarked allow line width may links)
     × TraceCovered allow (line ∷ lines) found)

@@ -2,8 +2,7 @@
 use Rattle.std.specs.Prelude.{◌≡◌, ◌⊎◌, ◌++◌, ℕ, false, if◌then◌else◌, List, [], ◌∷◌, Some, None}
 use Rattle.tl_beat.specs.declared.beat.Link.{Link}
 use Rattle.tl_beat.specs.declared.fault.LineFault.{LineFault}
-use Rattle.tl_commit_lines.specs.declared.header.MarkedLevel.{MarkedLevel}
-use Rattle.tl_commit_lines.specs.statement.MarkedHeader.{levels_of}
+use Rattle.tl_commit_lines.specs.statement.MarkedHeader.{MarkedLinks, levels_of}
 use Rattle.tl_commits.specs.statement.Events.{Events, beats_of}
 use Rattle.tl_lines.specs.declared.fault.Fault.{Fault}
 use Rattle.tl_events.specs.declared.commit.Event.{Event}
@@ -35,15 +34,15 @@ parts_each (x ∷ t) = parts_each t ++ beats_among x.0 (events_of x.0 x.1 (names
 
 -- The situations and the counts of the beats of e, events that a wide trace becomes. The line in which a situation first
 -- came is that of the wide beat whose part began the message.
-abbrev pub found_among : {w : ℕ} → List MarkedLevel → Liberties → WideEvents w → Events (part_width w) → Found
+abbrev pub found_among : {w : ℕ} → MarkedLinks → Liberties → WideEvents w → Events (part_width w) → Found
 found_among links may t e = at_wide_lines (parts_each t) (found_of may (levels_of links) (beats_of e))
 
 -- those of all events of a wide trace
-abbrev pub wide_events_found : {w : ℕ} → List MarkedLevel → Liberties → WideEvents w → Found
+abbrev pub wide_events_found : {w : ℕ} → MarkedLinks → Liberties → WideEvents w → Found
 wide_events_found links may t = found_among links may t (narrowed t)
 
 -- those before the first fault of the next event: of a wide beat the parts before the first at fault count too
-abbrev pub found_at_fault : {w : ℕ} → List MarkedLevel → Liberties → Link → WideEvent w → WideEvents w → Found
+abbrev pub found_at_fault : {w : ℕ} → MarkedLinks → Liberties → Link → WideEvent w → WideEvents w → Found
 found_at_fault links may link x t =
     if is_beyond link (names_of ((link, x) ∷ t)) then wide_events_found links may t
     else found_among links may ((link, x) ∷ t)
@@ -53,7 +52,7 @@ found_at_fault links may link x t =
 
 -- The situations and counts of these lines after a header and the wide events of t: those of all events up to the first
 -- line at fault.
-unfoldable pub CoveredWideEvents : {w : ℕ} → List MarkedLevel → Liberties → WideEvents w → List (List ℕ) → Found → Type 0
+unfoldable pub CoveredWideEvents : {w : ℕ} → MarkedLinks → Liberties → WideEvents w → List (List ℕ) → Found → Type 0
 CoveredWideEvents links may t [] found = found ≡ wide_events_found links may t
 CoveredWideEvents {w} links may t (line ∷ lines) found =
     ((link : Link) × (x : WideEvent w) × SpellsWideEvent line link x
@@ -67,7 +66,7 @@ CoveredWideEvents {w} links may t (line ∷ lines) found =
 abbrev pub AnyCovered : Liberties → List (List ℕ) → Found → Type 0
 AnyCovered allow [] found = CommitsCovered allow [] found
 AnyCovered allow (line ∷ lines) found =
-    ((width : WideWidth) × (may : Liberties) × (links : List MarkedLevel) × NamesWideMarked allow line width may links
+    ((width : WideWidth) × (may : Liberties) × (links : MarkedLinks) × NamesWideMarked allow line width may links
     × CoveredWideEvents {w = wide_bytes_of width} links may [] lines found)
-    ⊎ (((width : WideWidth) (may : Liberties) (links : List MarkedLevel) → ¬ NamesWideMarked allow line width may links)
+    ⊎ (((width : WideWidth) (may : Liberties) (links : MarkedLinks) → ¬ NamesWideMarked allow line width may links)
     × CommitsCovered allow (line ∷ lines) found)

@@ -3,7 +3,6 @@ use Rattle.std.specs.Prelude.{◌≡◌, ◌⊎◌, ◌∷◌, ℕ, Bool, true, 
 use Rattle.tl_beat.specs.declared.beat.Link.{Link}
 use Rattle.tl_beat.specs.declared.fault.LineFault.{LineFault}
 use Rattle.tl_commit_lines.specs.code.EventWatching.{KnowsEvents}
-use Rattle.tl_commit_lines.specs.declared.header.MarkedLevel.{MarkedLevel}
 use Rattle.tl_commit_lines.specs.declared.judge.EventJudge.{EventJudge}
 use Rattle.tl_commits.specs.statement.Events.{Events}
 use Rattle.tl_lines.specs.declared.fault.Fault.{Fault}
@@ -18,6 +17,7 @@ use Rattle.tl_wide_events.specs.declared.commit.WideEvent.TheVariants as wide
 use Rattle.tl_wide_events.specs.statement.Narrowed.{WideEvents, events_of, names_of}
 use Rattle.tl_wide_events.specs.statement.WideCommitLine.{IsWideCommit}
 use Rattle.tl_wide_events.specs.statement.WideEventLine.{SpellsWideEvent, wide_event_fault}
+use Rattle.tl_commit_lines.specs.statement.MarkedHeader.{MarkedLinks}
 use Rattle.tl_wide_event_lines.specs.declared.judge.WideEventJudge.{WideEventJudge}
 use Rattle.tl_wide_event_lines.specs.statement.EventFaults.{events_taken, first_fault}
 
@@ -29,7 +29,7 @@ IsValid (wide.Commit x) = IsWideCommit x
 -- what a judge answers of these events, and what it has taken of them
 abbrev pub JudgesEvents : {p : ℕ} → EventJudge p → EventJudge p → Link → List (Event p) → Option Fault → Type 0
 JudgesEvents {p} old new link events answer =
-    (together : Bool) (links : List MarkedLevel) (may : Liberties) (e : Events p)
+    (together : Bool) (links : MarkedLinks) (may : Liberties) (e : Events p)
     → KnowsEvents together old links may e
     → (first_fault together links may link events e ≡ answer)
     × KnowsEvents together new links may (events_taken together links may link events e)
@@ -37,7 +37,7 @@ JudgesEvents {p} old new link events answer =
 -- the events that are left of these have the same fault, after those that were taken
 abbrev pub EventsLeft : {p : ℕ} → EventJudge p → EventJudge p → Link → List (Event p) → List (Event p) → Type 0
 EventsLeft {p} old now link events left =
-    (together : Bool) (links : List MarkedLevel) (may : Liberties) (e : Events p)
+    (together : Bool) (links : MarkedLinks) (may : Liberties) (e : Events p)
     → KnowsEvents together old links may e
     → (u : Events p) × KnowsEvents together now links may u
     × (first_fault together links may link events e ≡ first_fault together links may link left u)
@@ -63,6 +63,6 @@ JudgesLineOf w old new line answer =
     ⊎ ((link : Link) × (x : WideEvent w) × SpellsWideEvent line link x × JudgesWideEvent old new link x answer)
 
 -- a judge of these links that has seen no event, of whatever width
-abbrev pub KnowsNone : {p : ℕ} → Bool → List MarkedLevel → Liberties → WideEventJudge p → Type 0
+abbrev pub KnowsNone : {p : ℕ} → Bool → MarkedLinks → Liberties → WideEventJudge p → Type 0
 KnowsNone together links may judge =
     ((w : ℕ) → Follows {w = w} judge.narrower []) × KnowsEvents together judge.judge links may []

@@ -1,7 +1,6 @@
 -- What a handler of traces knows whose header may be that of a wide trace with commits.
 use Rattle.std.specs.Prelude.{◌≡◌, ◌++◌, ℕ, Bool, true, List, [], ◌∷◌, length, Option, Some, None, ⊤}
 use Rattle.tl_commit_lines.specs.code.EventWatching.{KnowsEventLines, KnowsEvents, events_judged_for}
-use Rattle.tl_commit_lines.specs.declared.header.MarkedLevel.{MarkedLevel}
 use Rattle.tl_commit_lines.specs.declared.lines.EventLines.{EventLines}
 use Rattle.tl_lines.specs.declared.fault.Fault.{Fault}
 use Rattle.tl_lines.specs.declared.status.Status.{Status}
@@ -12,6 +11,7 @@ use Rattle.tl_wide.specs.statement.Narrowing.{Follows}
 use Rattle.tl_wide.specs.statement.Width.{part_width, wide_bytes_of}
 use Rattle.tl_wide_events.specs.statement.Narrowed.{WideEvents, names_of, narrowed}
 use Rattle.tl_wide_lines.specs.code.WideWatching.{waits}
+use Rattle.tl_commit_lines.specs.statement.MarkedHeader.{MarkedLinks, links_in}
 use Rattle.tl_wide_event_lines.specs.code.EventJudging.{JudgesLineOf}
 use Rattle.tl_wide_event_lines.specs.declared.header.WideCommitHeader.{WideCommitHeader}
 use Rattle.tl_wide_event_lines.specs.declared.judge.WideEventJudge.{WideEventJudge}
@@ -25,8 +25,8 @@ use Rattle.tl_wide_event_lines.specs.statement.WideMarkedHeader.{NamesWideMarked
 -- the header of a wide trace with commits that is judged so, or there is none
 abbrev pub ReadsWideMarked : Liberties → List ℕ → Option WideCommitHeader → Type 0
 ReadsWideMarked allow line None =
-    (width : WideWidth) (may : Liberties) (links : List MarkedLevel) → ¬ NamesWideMarked allow line width may links
-ReadsWideMarked allow line (Some h) = NamesWideMarked allow line h.width h.narrow.may h.narrow.links.items
+    (width : WideWidth) (may : Liberties) (links : MarkedLinks) → ¬ NamesWideMarked allow line width may links
+ReadsWideMarked allow line (Some h) = NamesWideMarked allow line h.width h.narrow.may (links_in h.narrow)
 
 -- ---- lines
 
@@ -37,7 +37,7 @@ pub record KnowsWideEvents (wide : WideWidth) (together : Bool) (allow : Liberti
   pub header : List ℕ
   pub spelled : List (List ℕ)
   pub may : Liberties
-  pub links : List MarkedLevel
+  pub links : MarkedLinks
   pub trace : WideEvents (wide_bytes_of wide)
   pub are_lines : lines ≡ header ∷ spelled
   pub named : NamesWideMarked allow header wide may links
@@ -71,7 +71,7 @@ JudgesLine _ _ line answer = ⊥
 abbrev pub NoneWideMarked : Liberties → List (List ℕ) → Type 0
 NoneWideMarked allow [] = ⊤
 NoneWideMarked allow (line ∷ lines) =
-    (width : WideWidth) (may : Liberties) (links : List MarkedLevel) → ¬ NamesWideMarked allow line width may links
+    (width : WideWidth) (may : Liberties) (links : MarkedLinks) → ¬ NamesWideMarked allow line width may links
 
 -- what the first line begins: a judge that knows the header, or none if it is no such header
 abbrev pub BeginsWideMarked : Bool → Liberties → List ℕ → Option WideEventLinks → Type 0

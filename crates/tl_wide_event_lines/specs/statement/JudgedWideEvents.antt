@@ -2,7 +2,7 @@
 use Rattle.std.specs.Prelude.{◌≡◌, ◌⊎◌, ◌+◌, ◌-◌, ◌++◌, ℕ, Bool, List, [], ◌∷◌, length, Some, None}
 use Rattle.tl_beat.specs.declared.beat.Link.{Link}
 use Rattle.tl_beat.specs.declared.fault.LineFault.{LineFault}
-use Rattle.tl_commit_lines.specs.declared.header.MarkedLevel.{MarkedLevel}
+use Rattle.tl_commit_lines.specs.statement.MarkedHeader.{MarkedLinks}
 use Rattle.tl_commit_lines.specs.statement.JudgedEvents.{JudgedCommits}
 use Rattle.tl_lines.specs.declared.fault.Fault.{Fault}
 use Rattle.tl_lines.specs.declared.fault.Fault.TheVariants.{Line}
@@ -22,7 +22,7 @@ use Rattle.tl_wide_event_lines.specs.statement.WideMarkedHeader.{NamesWideMarked
 -- ---- lines
 
 -- The line is at fault for this after the wide events of t. It spells no event, or one that is at fault for it.
-abbrev pub IsWideAtFault : (w : ℕ) → Bool → List MarkedLevel → Liberties → WideEvents w → List ℕ → Fault → Type 0
+abbrev pub IsWideAtFault : (w : ℕ) → Bool → MarkedLinks → Liberties → WideEvents w → List ℕ → Fault → Type 0
 IsWideAtFault w together links may t line found =
     ((of_line : LineFault) × (wide_event_fault w line ≡ Some of_line) × (found ≡ Line of_line))
     ⊎ ((link : Link) × (x : WideEvent w) × SpellsWideEvent line link x
@@ -31,7 +31,7 @@ IsWideAtFault w together links may t line found =
 -- The text and status of these lines, after a header and the wide events of t. If each line spells an event without a
 -- fault, the text has the number of all events. Otherwise it is `line N X` for the first line at fault, whatever
 -- follows. The header is line 1.
-unfoldable pub JudgedWideEvents : (w : ℕ) → Bool → List MarkedLevel → Liberties → WideEvents w → List (List ℕ)
+unfoldable pub JudgedWideEvents : (w : ℕ) → Bool → MarkedLinks → Liberties → WideEvents w → List (List ℕ)
     → List ℕ → Status → Type 0
 JudgedWideEvents w together links may t [] text status = (text ≡ said_by together (length t)) × (status ≡ Clean)
 JudgedWideEvents w together links may t (line ∷ lines) text status =
@@ -48,9 +48,9 @@ JudgedWideEvents w together links may t (line ∷ lines) text status =
 abbrev pub JudgedAny : Bool → Liberties → List (List ℕ) → List ℕ → Status → Type 0
 JudgedAny together allow [] text status = JudgedCommits together allow [] text status
 JudgedAny together allow (line ∷ lines) text status =
-    ((width : WideWidth) × (may : Liberties) × (links : List MarkedLevel) × NamesWideMarked allow line width may links
+    ((width : WideWidth) × (may : Liberties) × (links : MarkedLinks) × NamesWideMarked allow line width may links
     × JudgedWideEvents (wide_bytes_of width) together links may [] lines text status)
-    ⊎ (((width : WideWidth) (may : Liberties) (links : List MarkedLevel) → ¬ NamesWideMarked allow line width may links)
+    ⊎ (((width : WideWidth) (may : Liberties) (links : MarkedLinks) → ¬ NamesWideMarked allow line width may links)
     × JudgedCommits together allow (line ∷ lines) text status)
 
 -- the text for these lines before the end of the input, if none is at fault

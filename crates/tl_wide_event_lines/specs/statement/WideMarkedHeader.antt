@@ -1,25 +1,24 @@
--- The header of a wide trace with commits: all stores of some of its links, those of level `C+`, are in the trace.
+-- The header of a wide trace with commits: as that of a narrow one, but for its front.
 use Rattle.std.specs.Prelude.{◌≡◌, ◌++◌, ℕ, List, Option, Some, None}
-use Rattle.tl_commit_lines.specs.declared.header.MarkedLevel.{MarkedLevel}
-use Rattle.tl_commit_lines.specs.statement.MarkedHeader.{SpellsLinks}
+use Rattle.tl_commit_lines.specs.statement.MarkedHeader.{MarkedLinks, SpellsLinks, links_in}
 use Rattle.tl_params.specs.declared.liberties.Liberties.{Liberties}
 use Rattle.tl_params.specs.statement.Liberties.{united}
 use Rattle.tl_wide.specs.declared.width.WideWidth.{WideWidth}
 use Rattle.tl_wide_lines.specs.statement.WideHeader.{fifth_front}
 use Rattle.tl_wide_event_lines.specs.declared.header.WideCommitHeader.{WideCommitHeader}
 
--- the line is a header of the fifth version, with these liberties and links, of which at least one has the mark
-abbrev pub SpellsWideMarked : List ℕ → WideWidth → Liberties → List MarkedLevel → Type 0
+-- the line is a header of the fifth version, with these liberties and links
+abbrev pub SpellsWideMarked : List ℕ → WideWidth → Liberties → MarkedLinks → Type 0
 SpellsWideMarked line width may links =
     (rest : List ℕ) × (line ≡ fifth_front width ++ rest) × SpellsLinks rest may links
 
 -- the line is such a header, and its links have the liberties that it names and those that are allowed
-abbrev pub NamesWideMarked : Liberties → List ℕ → WideWidth → Liberties → List MarkedLevel → Type 0
+abbrev pub NamesWideMarked : Liberties → List ℕ → WideWidth → Liberties → MarkedLinks → Type 0
 NamesWideMarked allow line width may links =
     (own : Liberties) × SpellsWideMarked line width own links × (may ≡ united own allow)
 
 -- there is a header, with this width, these liberties and these links
-abbrev pub IsWideMarked : Option WideCommitHeader → WideWidth → Liberties → List MarkedLevel → Type 0
+abbrev pub IsWideMarked : Option WideCommitHeader → WideWidth → Liberties → MarkedLinks → Type 0
 IsWideMarked None width may links = ⊥
 IsWideMarked (Some header) width may links =
-    (header.width ≡ width) × (header.narrow.may ≡ may) × (header.narrow.links.items ≡ links)
+    (header.width ≡ width) × (header.narrow.may ≡ may) × (links_in header.narrow ≡ links)

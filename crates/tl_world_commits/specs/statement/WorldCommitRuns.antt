@@ -1,6 +1,6 @@
 -- That the beats of a world's links, and the stores and loads of its clients, come of a run of one memory whose copies
 -- are used rightly.
-use Rattle.std.specs.Prelude.{ℕ, ◌≡◌, length}
+use Rattle.std.specs.Prelude.{ℕ, true, ◌≡◌, length}
 use Rattle.tl_params.specs.declared.config.Config.{Config}
 use Rattle.tl_coherence.specs.statement.Headline.{IsGiven}
 use Rattle.tl_coherence.specs.statement.Log.{Log}
@@ -16,7 +16,7 @@ use Rattle.tl_world_commits.specs.statement.WorldEvents.{events_of}
 pub record HasCommitRun {w : ℕ} (config : Config) (log : Log w) : Type 0 where
   pub run : CommitRun w
   pub is_run : IsCommitRun (length config.clients.items) (λ address. 0) run
-  pub copies : AreCopies (complete_of config) (length config.clients.items) (λ address. 0) run
+  pub copies : AreCopies (complete_of true config) (length config.clients.items) (λ address. 0) run
   pub events_are : events_in run ≡ events_of log
   pub memory_is : memory_in (λ address. 0) (run_in run) ≡ (one_memory_after config log).memory
 

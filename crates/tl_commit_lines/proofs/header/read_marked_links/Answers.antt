@@ -1,6 +1,8 @@
-use Rattle.std.proofs.Common.{rules, ◌≡◌, true}
-use Rattle.tl_commit_lines.proofs.MarkedHeaders.{links_are, links_spelled, no_comma, not_read, same_links, tail}
-use Rattle.tl_commit_lines.specs.statement.MarkedHeader.{some_marked}
+use Rattle.std.proofs.Common.{ap, rules, ◌≡◌, ◌∙◌, true}
+use Rattle.tl_commit_lines.proofs.MarkedHeaders.{links_are, links_spelled, named-so, no_comma, none-read, not_read}
+use Rattle.tl_commit_lines.proofs.MarkedHeaders.{same_links, some-read, tail}
+use Rattle.tl_commit_lines.specs.code.HeadReading.{is_named}
+use Rattle.tl_commit_lines.specs.statement.MarkedHeader.{links_read}
 use Rattle.tl_commit_lines.proofs.header.read_marked_links.Goals as goal
 
 pub returns-in_err-may-clause-every_spelling : goal.returns-in_err-may-clause-every_spelling
@@ -9,28 +11,40 @@ returns-in_err-may-clause-every_spelling c = λ may links h.
 
 pub returns-in_err-links-clause-every_spelling : goal.returns-in_err-links-clause-every_spelling
 returns-in_err-links-clause-every_spelling c = λ may links h.
+    let left = c.in_ok-may.rest.now in
+    let zeroed = c.front_zero-zero in
     let (m, ends) = c.in_ok-may.ensures.every_spelling may h.word (tail links) h.spells (no_comma links h) h.are_bytes in
-    absurd (not_read links c.in_ok-may.rest.now c.in_err-links.ensures (links_are links h c.in_ok-may.rest.now ends))
+    absurd (not_read links left (none-read left zeroed.result.1.now zeroed.result.0 zeroed.ensures
+    c.in_err-links.ensures) (links_are links h left ends))
 
-pub returns-then-not-some_marked-clause-every_spelling : goal.returns-then-not-some_marked-clause-every_spelling
-returns-then-not-some_marked-clause-every_spelling c = λ may links h.
+pub returns-then-not-is_named-clause-every_spelling : goal.returns-then-not-is_named-clause-every_spelling
+returns-then-not-is_named-clause-every_spelling c = λ may links h.
+    let left = c.in_ok-may.rest.now in
+    let zeroed = c.front_zero-zero in
+    let found = links_read zeroed.result.0 c.in_ok-links.links in
     let (m, ends) = c.in_ok-may.ensures.every_spelling may h.word (tail links) h.spells (no_comma links h) h.are_bytes in
-    let same = same_links c.in_ok-links.links.items links c.in_ok-may.rest.now c.in_ok-links.ensures
-    (links_are links h c.in_ok-may.rest.now ends) in
-    let some : some_marked c.in_ok-links.links.items ≡ true = rw same h.marked in
+    let same = same_links found links left (some-read left zeroed.result.1.now zeroed.result.0
+    c.in_ok-links.links.items zeroed.ensures c.in_ok-links.ensures) (links_are links h left ends) in
+    let some : is_named found ≡ true = ap is_named same ∙ named-so links h in
     search (rules, some)
 
 pub returns-clause-spelled : goal.returns-clause-spelled
 returns-clause-spelled c =
+    let left = c.in_ok-may.rest.now in
+    let zeroed = c.front_zero-zero in
+    let found = links_read zeroed.result.0 c.in_ok-links.links in
     let (word, spells, text) = c.in_ok-may.ensures.spelled in
-    let some : some_marked c.in_ok-links.links.items ≡ true = search rules in
-    links_spelled c.args.bytes.now c.in_ok-may.rest.now word c.in_ok-may.may c.in_ok-links.links.items spells text
-    c.in_ok-links.ensures some
+    let some : is_named found ≡ true = search rules in
+    links_spelled c.args.bytes.now left word c.in_ok-may.may found spells text (some-read left c.front_zero-zero.result.1.now
+    c.front_zero-zero.result.0 c.in_ok-links.links.items zeroed.ensures c.in_ok-links.ensures) some
 
 pub returns-clause-every_spelling : goal.returns-clause-every_spelling
 returns-clause-every_spelling c = λ may links h.
+    let left = c.in_ok-may.rest.now in
+    let zeroed = c.front_zero-zero in
     let (m, ends) = c.in_ok-may.ensures.every_spelling may h.word (tail links) h.spells (no_comma links h) h.are_bytes in (
       m,
-      same_links c.in_ok-links.links.items links c.in_ok-may.rest.now c.in_ok-links.ensures
-          (links_are links h c.in_ok-may.rest.now ends),
+      same_links (links_read zeroed.result.0 c.in_ok-links.links) links left
+          (some-read left zeroed.result.1.now zeroed.result.0 c.in_ok-links.links.items zeroed.ensures
+          c.in_ok-links.ensures) (links_are links h left ends),
     )

@@ -9,6 +9,7 @@ returns g c = λ may levels complete k lt. (
   c.in_ok-copy-2.ensures g.row.W
       (λ place. copy_values complete (length levels) c.args.link.0 (64 * c.args.block + place))
       (λ place small. c.in_ok-copy.ensures levels complete may [] k lt place small),
-  c.in_ok-memory-2.ensures g.row.W (λ place e. memory_may (length levels) (64 * c.args.block + place) (beats_of e))
+  c.in_ok-memory-2.ensures g.row.W
+      (λ place e. memory_may complete.zero (length levels) (64 * c.args.block + place) (beats_of e))
       (λ place small. c.in_ok-memory.ensures levels complete may [] k place small),
 )

@@ -19,6 +19,6 @@ returns-clause-takes g c = λ on may levels complete e at k.
           (λ place. copy_values complete (length levels) r.link.0 (64 * r.block + place)) x e k.copy_is count
           (λ place small. c.in_ok-copy.ensures levels complete may (x ∷ e) judged k.there place small);
       memory_is = c.take-2.ensures g.row.W
-          (λ place e. memory_may (length levels) (64 * r.block + place) (beats_of e)) x e k.memory_is count
+          (λ place e. memory_may complete.zero (length levels) (64 * r.block + place) (beats_of e)) x e k.memory_is count
           (λ place small. c.in_ok-memory.ensures levels complete may (x ∷ e) judged place small);
     }

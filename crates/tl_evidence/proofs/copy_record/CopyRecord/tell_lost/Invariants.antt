@@ -1,4 +1,5 @@
-use Rattle.std.proofs.Common.{◌≡◌, ◌≤◌, ◌++◌, ◌+◌, ◌-◌, ◌*◌, Bool, List, length}
+use Rattle.std.proofs.Common.{◌≡◌, ◌≤◌, ◌++◌, ◌+◌, ◌-◌, ◌*◌, List, length}
+use Rattle.tl_commits.specs.statement.Completeness.{Completeness}
 use Rattle.tl_commits.specs.statement.Events.{Events}
 use Rattle.tl_params.specs.declared.level.Level.{Level}
 use Rattle.tl_params.specs.declared.liberties.Liberties.{Liberties}
@@ -9,7 +10,7 @@ use Rattle.tl_evidence.proofs.copy_record.CopyRecord.tell_lost.Given as goal
 abbrev pub invariant-loop-place : goal.invariant-loop-place
 invariant-loop-place g l = record {
   few : l.count ≤ l.place;
-  told : (may : Liberties) (levels : List Level) (complete : List Bool) (e : Events g.row.W)
+  told : (may : Liberties) (levels : List Level) (complete : Completeness) (e : Events g.row.W)
       → KnowsCopy l.self may levels complete e
       → l.out.items ++ lost_from complete (length levels) l.self.link.0 l.count (64 * l.self.block + l.place)
       (64 - l.place) e

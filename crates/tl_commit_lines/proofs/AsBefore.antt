@@ -1,5 +1,6 @@
 -- A trace whose header names no link of level C+, and doesn't say that memory was zero, is judged as before, and no
 -- other header says either.
+use Rattle.tl_commit_lines.specs.statement.MarkedHeader.{commits_text}
 use Rattle.std.proofs.Common.{◌≡◌, ◌∙◌, ℕ, Bool, true, false, List, [], ◌∷◌, ◌++◌, refl, sym, cond, inl, inr, map, codes}
 use Rattle.std.proofs.lemmas.List.Folds.{list_any-append}
 use Rattle.std.specs.List.{filter, list_any}
@@ -38,11 +39,11 @@ as-before together allow line lines text status none (inr (unnamed, judged)) = j
 as-before together allow line lines text status none (inl (width, may, links, named, judged)) =
     absurd (none_for allow line none width may links named)
 
--- ---- a plus or a z is in the headers of traces with commits alone
+-- ---- a plus, an m or a z is in the headers of traces with commits alone
 
--- the byte is a plus or a z
+-- the byte is a plus, an m or a z
 abbrev is_sign : ℕ → Bool
-is_sign c = (c == 43) || (c == 122)
+is_sign c = (c == 43) || ((c == 109) || (c == 122))
 
 -- there is one among the bytes
 abbrev pub has_sign : List ℕ → Bool
@@ -168,17 +169,19 @@ marked-with (x ∷ links) some =
     go true is rest = refl
     go false is rest = rest is
 
-said-with : (from_zero : Bool) (links : List MarkedLevel) → (from_zero || some_marked links) ≡ true
-    → has_sign (zero_text from_zero ++ (links_text links ++ codes "\n")) ≡ true
-said-with true links says = with-first (codes " zero") (links_text links ++ codes "\n") refl
-said-with false links says = with-first (links_text links) (codes "\n") (marked-with links says)
+said-with : (commits from_zero : Bool) (links : List MarkedLevel) → (commits || (from_zero || some_marked links)) ≡ true
+    → has_sign (commits_text commits ++ (zero_text from_zero ++ (links_text links ++ codes "\n"))) ≡ true
+said-with true from_zero links says =
+    with-first (codes " commits") (zero_text from_zero ++ (links_text links ++ codes "\n")) refl
+said-with false true links says = with-first (codes " zero") (links_text links ++ codes "\n") refl
+said-with false false links says = with-first (links_text links) (codes "\n") (marked-with links says)
 
 -- so have its bytes behind any front
 pub links-with : (front rest : List ℕ) (may : Liberties) (links : MarkedLinks) → SpellsLinks rest may links
     → has_sign (front ++ rest) ≡ true
-links-with front rest may links h =
-    with-last front rest (rw h.are_bytes (with-last h.word
-    (zero_text links.zero ++ (links_text links.levels ++ codes "\n")) (said-with links.zero links.levels h.says)))
+links-with front rest may links h = with-last front rest (rw h.are_bytes (with-last h.word
+    (commits_text h.commits ++ (zero_text links.zero ++ (links_text links.levels ++ codes "\n")))
+    (said-with h.commits links.zero links.levels h.says)))
 
 header-with : (line : List ℕ) (width : Width) (may : Liberties) (links : MarkedLinks)
     → SpellsMarked line width may links → has_sign line ≡ true

@@ -1,4 +1,7 @@
 -- Headers of traces with commits: what was spelled is read, and what was read was spelled so.
+use Rattle.tl_commit_lines.specs.code.HeadReading.{commits_at, named_links_at, with_commits, with_word, word_at}
+use Rattle.tl_commit_lines.specs.statement.MarkedHeader.{commits_text, word_text}
+use Rattle.std.specs.Prelude.{◌||◌}
 use Rattle.std.proofs.Common.{◌≡◌, ◌≢◌, ◌≤◌, ◌*◌, ℕ, zero, suc, List, [], ◌∷◌, ◌++◌, length, refl, ap, sym, ◌∙◌}
 use Rattle.std.proofs.Common.{append_assoc, arith, cond, false, inl, inr, length-append, subst, true}
 use Rattle.std.proofs.lemmas.Bool.{and_parts, eqb-true}
@@ -25,7 +28,7 @@ use Rattle.tl_params.specs.statement.Header.{is_end, level_text}
 use Rattle.tl_params.specs.statement.Liberties.{united}
 use Rattle.tl_commit_lines.specs.code.HeadReading.{has_some, is_named, links_at, marked, marked_at, marked_links_at}
 use Rattle.tl_commit_lines.specs.code.HeadReading.{unmarked}
-use Rattle.tl_commit_lines.specs.code.HeadReading.{with_levels, with_mark, with_zero, zero_at}
+use Rattle.tl_commit_lines.specs.code.HeadReading.{with_levels, with_mark, zero_at}
 use Rattle.tl_commit_lines.specs.declared.header.CommitHeader.{CommitHeader}
 use Rattle.tl_commit_lines.specs.declared.header.MarkedLevel.{MarkedLevel}
 use Rattle.tl_commit_lines.specs.statement.MarkedHeader.{AreMarkable, IsMarkedHeader, MarkedLinks, NamesMarked}
@@ -155,23 +158,34 @@ levels_again (suc n) (x ∷ links) few markable =
     (marked_again x (levels_tail links) markable.0 (no_plus links))
     ∙ ap (onto x) (levels_again n links (omega arith) markable.1)
 
--- ---- the word `zero` before them
+-- ---- the words before them
 
-zero_taken : (bytes : List ℕ) → bytes ≡ zero_text (zero_at bytes).0 ++ (zero_at bytes).1
-zero_taken bytes = go (after_word (codes " zero") bytes) refl
+word_taken : (word bytes : List ℕ) → bytes ≡ word_text word (word_at word bytes).0 ++ (word_at word bytes).1
+word_taken word bytes = go (after_word word bytes) refl
   where
-    go : (o : Option (List ℕ)) → after_word (codes " zero") bytes ≡ o
-        → bytes ≡ zero_text (with_zero bytes o).0 ++ (with_zero bytes o).1
+    go : (o : Option (List ℕ)) → after_word word bytes ≡ o
+        → bytes ≡ word_text word (with_word bytes o).0 ++ (with_word bytes o).1
     go None is = refl
-    go (Some rest) is = after_taken (codes " zero") bytes rest is
+    go (Some rest) is = after_taken word bytes rest is
 
--- where the word doesn't stand there, it isn't read
-pub no-zero : (bytes : List ℕ) → ((rest : List ℕ) → bytes ≢ codes " zero" ++ rest) → zero_at bytes ≡ (false, bytes)
-no-zero bytes none = go (after_word (codes " zero") bytes) refl
+-- a word that stands there is read
+pub word-read : (word rest : List ℕ) → word_at word (word ++ rest) ≡ (true, rest)
+word-read word rest = ap (with_word (word ++ rest)) (again word)
   where
-    go : (o : Option (List ℕ)) → after_word (codes " zero") bytes ≡ o → with_zero bytes o ≡ (false, bytes)
+    same_number : (n : ℕ) → (n == n) ≡ true
+    same_number n = grind arith
+
+    again : (front : List ℕ) → after_word front (front ++ rest) ≡ Some rest
+    again [] = refl
+    again (c ∷ front) = rw (same_number c) (again front)
+
+-- where it doesn't stand there, it isn't
+pub no-word : (word bytes : List ℕ) → ((rest : List ℕ) → bytes ≢ word ++ rest) → word_at word bytes ≡ (false, bytes)
+no-word word bytes none = go (after_word word bytes) refl
+  where
+    go : (o : Option (List ℕ)) → after_word word bytes ≡ o → with_word bytes o ≡ (false, bytes)
     go None is = refl
-    go (Some rest) is = absurd (none rest (after_taken (codes " zero") bytes rest is))
+    go (Some rest) is = absurd (none rest (after_taken word bytes rest is))
 
 level-first : (l : Level) (rest : List ℕ)
     → zero_at (32 ∷ (level_text l ++ rest)) ≡ (false, 32 ∷ (level_text l ++ rest))
@@ -202,12 +216,58 @@ links_taken bytes links e = go (links_at 16 (zero_at bytes).1) refl e
     go (Some levels) is f =
         let ((ends, markable), few) = levels_read 16 (zero_at bytes).1 levels is in
         subst (λ (k : MarkedLinks). ((bytes ≡ tail k) × AreMarkable k.levels) × (length k.levels ≤ 16)) (some-is f)
-        ((zero_taken bytes ∙ ap (λ (b : List ℕ). zero_text (zero_at bytes).0 ++ b) ends, markable), few)
+        ((word_taken (codes " zero") bytes ∙ ap (λ (b : List ℕ). zero_text (zero_at bytes).0 ++ b) ends, markable), few)
 
 links_again : (links : MarkedLinks) → length links.levels ≤ 16 → AreMarkable links.levels
     → marked_links_at (tail links) ≡ Some links
 links_again links few markable =
     rw (zero_again links.zero links.levels, levels_again 16 links.levels few markable) refl
+
+-- ---- the word `commits` before them
+
+commits-first : (l : Level) (rest : List ℕ)
+    → commits_at (32 ∷ (level_text l ++ rest)) ≡ (false, 32 ∷ (level_text l ++ rest))
+commits-first level.UL rest = refl
+commits-first level.UH rest = refl
+commits-first level.C rest = refl
+
+commits_again : (commits from_zero : Bool) (links : List MarkedLevel)
+    → commits_at (commits_text commits ++ (zero_text from_zero ++ levels_tail links))
+    ≡ (commits, zero_text from_zero ++ levels_tail links)
+commits_again true from_zero links = refl
+commits_again false true links = refl
+commits_again false false [] = refl
+commits_again false false (x ∷ links) =
+    ap commits_at (tail_more x links) ∙ commits-first x.level (mark_text x.complete ++ levels_tail links)
+    ∙ ap (λ (b : List ℕ). (false, b)) (sym (tail_more x links))
+
+-- the links of a header with the word before them, or without
+abbrev pub whole_tail : Bool → MarkedLinks → List ℕ
+whole_tail commits links = commits_text commits ++ tail links
+
+named_taken : (bytes : List ℕ) (commits : Bool) (links : MarkedLinks) → named_links_at bytes ≡ Some (commits, links)
+    → ((bytes ≡ whole_tail commits links) × AreMarkable links.levels) × (length links.levels ≤ 16)
+named_taken bytes commits links e = go (marked_links_at (commits_at bytes).1) refl e
+  where
+    go : (o : Option MarkedLinks) → marked_links_at (commits_at bytes).1 ≡ o
+        → with_commits (commits_at bytes).0 o ≡ Some (commits, links)
+        → ((bytes ≡ whole_tail commits links) × AreMarkable links.levels) × (length links.levels ≤ 16)
+    go None is f = absurd cc
+    go (Some found) is f =
+        let ((ends, markable), few) = links_taken (commits_at bytes).1 found is in
+        subst (λ (k : Bool × MarkedLinks). ((bytes ≡ whole_tail k.0 k.1) × AreMarkable k.1.levels)
+        × (length k.1.levels ≤ 16)) (some-is f) (
+          (
+            word_taken (codes " commits") bytes ∙ ap (λ (b : List ℕ). commits_text (commits_at bytes).0 ++ b) ends,
+            markable,
+          ),
+          few,
+        )
+
+named_again : (commits : Bool) (links : MarkedLinks) → length links.levels ≤ 16 → AreMarkable links.levels
+    → named_links_at (whole_tail commits links) ≡ Some (commits, links)
+named_again commits links few markable =
+    rw (commits_again commits links.zero links.levels, links_again links few markable) refl
 
 -- ---- a whole header
 
@@ -219,8 +279,8 @@ many-some : (links : List MarkedLevel) → IsCount (length links) → has_some l
 many-some [] many = absurd (omega (arith, many.0))
 many-some (x ∷ links) many = refl
 
-pub named-so : {bytes : List ℕ} {may : Liberties} (links : MarkedLinks) → SpellsLinks bytes may links
-    → is_named links ≡ true
+pub named-so : {bytes : List ℕ} {may : Liberties} (links : MarkedLinks) (h : SpellsLinks bytes may links)
+    → is_named h.commits links ≡ true
 named-so links h = rw (many-some links.levels h.so_many) h.says
 
 -- the bytes begin with a comma
@@ -228,33 +288,36 @@ abbrev begins_comma : List ℕ → Bool
 begins_comma [] = false
 begins_comma (c ∷ rest) = c == 44
 
-lacks_comma : (from_zero : Bool) (links : List MarkedLevel) → IsCount (length links)
-    → LacksComma (zero_text from_zero ++ levels_tail links)
-lacks_comma true links many rest e = let both : false ≡ true = ap begins_comma e in absurd cc
-lacks_comma false [] many rest e = absurd (omega (arith, many.0))
-lacks_comma false (x ∷ links) many rest e = let both : false ≡ true = ap begins_comma e in absurd cc
+lacks_comma : (commits from_zero : Bool) (links : List MarkedLevel) → IsCount (length links)
+    → LacksComma (commits_text commits ++ (zero_text from_zero ++ levels_tail links))
+lacks_comma true from_zero links many rest e = let both : false ≡ true = ap begins_comma e in absurd cc
+lacks_comma false true links many rest e = let both : false ≡ true = ap begins_comma e in absurd cc
+lacks_comma false false [] many rest e = absurd (omega (arith, many.0))
+lacks_comma false false (x ∷ links) many rest e = let both : false ≡ true = ap begins_comma e in absurd cc
 
-pub links_spelled : (bytes left word : List ℕ) (may : Liberties) (links : MarkedLinks) → SpellsLiberties word may
-    → bytes ≡ word ++ left → marked_links_at left ≡ Some links → is_named links ≡ true → SpellsLinks bytes may links
-links_spelled bytes left word may links spells text read some =
-    let ((ends, markable), few) = links_taken left links read in
-    let both = and_parts (has_some links.levels) (says_commits links) some in
+pub links_spelled : (bytes left word : List ℕ) (may : Liberties) (commits : Bool) (links : MarkedLinks)
+    → SpellsLiberties word may → bytes ≡ word ++ left → named_links_at left ≡ Some (commits, links)
+    → is_named commits links ≡ true → SpellsLinks bytes may links
+links_spelled bytes left word may commits links spells text read some =
+    let ((ends, markable), few) = named_taken left commits links read in
+    let both = and_parts (has_some links.levels) (commits || says_commits links) some in
     record {
       word = word;
       spells = spells;
+      commits = commits;
       are_bytes = text ∙ ap (λ (x : List ℕ). word ++ x) ends;
       so_many = some-many links.levels both.0 few;
       markable = markable;
       says = both.1;
     }
 
-pub no_comma : {bytes : List ℕ} {may : Liberties} (links : MarkedLinks) → SpellsLinks bytes may links
-    → LacksComma (tail links)
-no_comma links h = lacks_comma links.zero links.levels h.so_many
+pub no_comma : {bytes : List ℕ} {may : Liberties} (links : MarkedLinks) (h : SpellsLinks bytes may links)
+    → LacksComma (whole_tail h.commits links)
+no_comma links h = lacks_comma h.commits links.zero links.levels h.so_many
 
-pub links_are : {bytes : List ℕ} {may : Liberties} (links : MarkedLinks) → SpellsLinks bytes may links
-    → (left : List ℕ) → left ≡ tail links → marked_links_at left ≡ Some links
-links_are links h left is = ap marked_links_at is ∙ links_again links h.so_many.1 h.markable
+pub links_are : {bytes : List ℕ} {may : Liberties} (links : MarkedLinks) (h : SpellsLinks bytes may links)
+    → (left : List ℕ) → left ≡ whole_tail h.commits links → named_links_at left ≡ Some (h.commits, links)
+links_are links h left is = ap named_links_at is ∙ named_again h.commits links h.so_many.1 h.markable
 
 -- what is read behind the front of a header
 pub marked_behind : (line : List ℕ) (width : Width) (may : Liberties) (links : MarkedLinks)
@@ -271,26 +334,37 @@ marked_unread line width may links (rest, is_line, h) none =
     let some : front_at line ≡ Some (width, rest) = ap front_at is_line ∙ front_again width rest in
     absurd cc
 
--- what is read of the word and of the levels behind it
-pub none-read : (bytes rest : List ℕ) (from_zero : Bool) → (from_zero, rest) ≡ zero_at bytes → links_at 16 rest ≡ None
-    → marked_links_at bytes ≡ None
-none-read bytes rest from_zero is none =
-    ap (λ (z : Bool × List ℕ). with_levels z.0 (links_at 16 z.1)) (sym is) ∙ ap (with_levels from_zero) none
+-- what is read of the words and of the levels behind them
+module _ (bytes middle rest : List ℕ) (commits from_zero : Bool) (said : (commits, middle) ≡ commits_at bytes)
+    (is : (from_zero, rest) ≡ zero_at middle) where
+  links-there : named_links_at bytes ≡ with_commits commits (with_levels from_zero (links_at 16 rest))
+  links-there =
+      ap (λ (z : Bool × List ℕ). with_commits z.0 (marked_links_at z.1)) (sym said)
+      ∙ ap (λ (z : Bool × List ℕ). with_commits commits (with_levels z.0 (links_at 16 z.1))) (sym is)
 
-pub some-read : (bytes rest : List ℕ) (from_zero : Bool) (levels : List MarkedLevel)
-    → (from_zero, rest) ≡ zero_at bytes → links_at 16 rest ≡ Some levels
-    → marked_links_at bytes ≡ Some (record { zero = from_zero; levels = levels })
-some-read bytes rest from_zero levels is some =
-    ap (λ (z : Bool × List ℕ). with_levels z.0 (links_at 16 z.1)) (sym is) ∙ ap (with_levels from_zero) some
+  pub none-read : links_at 16 rest ≡ None → named_links_at bytes ≡ None
+  none-read none =
+      links-there ∙ ap (λ (o : Option (List MarkedLevel)). with_commits commits (with_levels from_zero o)) none
+
+  pub some-read : (levels : List MarkedLevel) → links_at 16 rest ≡ Some levels
+      → named_links_at bytes ≡ Some (commits, record { zero = from_zero; levels = levels })
+  some-read levels some =
+      links-there ∙ ap (λ (o : Option (List MarkedLevel)). with_commits commits (with_levels from_zero o)) some
+
+-- whether the word `commits` is there, and the links
+abbrev pub said_links : Bool → MarkedLinks → Bool × MarkedLinks
+said_links commits links = (commits, links)
 
 -- links that are there are read, as these
-pub not_read : (links : MarkedLinks) (left : List ℕ) → marked_links_at left ≡ None → marked_links_at left ≡ Some links
-    → ⊥
-not_read links left none some = let both : None ≡ Some links = sym none ∙ some in absurd cc
+pub not_read : (commits : Bool) (links : MarkedLinks) (left : List ℕ) → named_links_at left ≡ None
+    → named_links_at left ≡ Some (commits, links) → ⊥
+not_read commits links left none some =
+    let both : None ≡ Some (said_links commits links) = sym none ∙ some in absurd cc
 
-pub same_links : (found links : MarkedLinks) (left : List ℕ) → marked_links_at left ≡ Some found
-    → marked_links_at left ≡ Some links → found ≡ links
-same_links found links left is also = some-is (sym is ∙ also)
+pub same_links : (said commits : Bool) (found links : MarkedLinks) (left : List ℕ)
+    → named_links_at left ≡ Some (said, found) → named_links_at left ≡ Some (commits, links)
+    → said_links said found ≡ said_links commits links
+same_links said commits found links left is also = some-is (sym is ∙ also)
 
 -- ---- bytes are those of liberties and links, or of none
 
@@ -301,47 +375,49 @@ LinksOrNone bytes =
 
 module _ (bytes : List ℕ) where
   at_links : (left word : List ℕ) (may : Liberties) → SpellsLiberties word may → bytes ≡ word ++ left
-      → liberties_at bytes ≡ Some (may, left) → (o : Option MarkedLinks) → marked_links_at left ≡ o
+      → liberties_at bytes ≡ Some (may, left) → (o : Option (Bool × MarkedLinks)) → named_links_at left ≡ o
       → LinksOrNone bytes
   at_links left word may spells text named o is = go o is
     where
-      unlike : (other : Liberties) (links : MarkedLinks) → SpellsLinks bytes other links
-          → marked_links_at left ≡ Some links
+      unlike : (other : Liberties) (links : MarkedLinks) (h : SpellsLinks bytes other links)
+          → named_links_at left ≡ Some (h.commits, links)
       unlike other links h =
-          let read = liberties_again h.word (tail links) other h.spells (no_comma links h) in
-          let (m, ends) = some_pair (may, left) (other, tail links) (sym named ∙ ap liberties_at h.are_bytes ∙ read) in
+          let end : List ℕ = whole_tail h.commits links in
+          let read = liberties_again h.word end other h.spells (no_comma links h) in
+          let (m, ends) = some_pair (may, left) (other, end) (sym named ∙ ap liberties_at h.are_bytes ∙ read) in
           links_are links h left ends
 
-      none_read : (other : Liberties) (links : MarkedLinks) → marked_links_at left ≡ None
+      none_read : (other : Liberties) (links : MarkedLinks) → named_links_at left ≡ None
           → ¬ SpellsLinks bytes other links
       none_read other links none h = let some = unlike other links h in absurd cc
 
-      not_marked : (found links : MarkedLinks) (other : Liberties) → marked_links_at left ≡ Some found
-          → is_named found ≡ false → ¬ SpellsLinks bytes other links
-      not_marked found links other is none h =
-          let same = same_links found links left is (unlike other links h) in
-          let both : false ≡ true = sym none ∙ ap is_named same ∙ named-so links h in
+      not_marked : (said : Bool) (found links : MarkedLinks) (other : Liberties)
+          → named_links_at left ≡ Some (said, found) → is_named said found ≡ false → ¬ SpellsLinks bytes other links
+      not_marked said found links other is none h =
+          let same = same_links said h.commits found links left is (unlike other links h) in
+          let both : false ≡ true =
+          sym none ∙ ap (λ (k : Bool × MarkedLinks). is_named k.0 k.1) same ∙ named-so links h in
           absurd cc
 
-      go : (o : Option MarkedLinks) → marked_links_at left ≡ o → LinksOrNone bytes
+      go : (o : Option (Bool × MarkedLinks)) → named_links_at left ≡ o → LinksOrNone bytes
       go None is = inr (λ other links. none_read other links is)
-      go (Some links) is = with_some (is_named links) refl
+      go (Some (said, links)) is = with_some (is_named said links) refl
         where
-          with_some : (b : Bool) → is_named links ≡ b → LinksOrNone bytes
-          with_some true some = inl (may, links, links_spelled bytes left word may links spells text is some)
-          with_some false none = inr (λ other others. not_marked links others other is none)
+          with_some : (b : Bool) → is_named said links ≡ b → LinksOrNone bytes
+          with_some true some = inl (may, links, links_spelled bytes left word may said links spells text is some)
+          with_some false none = inr (λ other others. not_marked said links others other is none)
 
   at_liberties : (o : Option (Liberties × List ℕ)) → liberties_at bytes ≡ o → LinksOrNone bytes
   at_liberties None is = inr (λ other links. no other links)
     where
       no : (other : Liberties) (links : MarkedLinks) → ¬ SpellsLinks bytes other links
       no other links h =
-          let read = liberties_again h.word (tail links) other h.spells (no_comma links h) in
+          let read = liberties_again h.word (whole_tail h.commits links) other h.spells (no_comma links h) in
           let some = ap liberties_at h.are_bytes ∙ read in
           absurd cc
   at_liberties (Some (may, left)) is =
       let (word, spells, text) = liberties_taken bytes left may is in
-      at_links left word may spells text is (marked_links_at left) refl
+      at_links left word may spells text is (named_links_at left) refl
 
 pub links_or_none : (bytes : List ℕ) → LinksOrNone bytes
 links_or_none bytes = at_liberties bytes (liberties_at bytes) refl
@@ -413,15 +489,22 @@ zero-short : (b : Bool) → length (zero_text b) ≤ 5
 zero-short true = omega arith
 zero-short false = omega arith
 
+commits-short : (b : Bool) → length (commits_text b) ≤ 8
+commits-short true = omega arith
+commits-short false = omega arith
+
 -- whatever short text is in front
 pub links_open : (line front rest : List ℕ) → IsOpen line → length front ≤ 13 → line ≡ front ++ rest → (may : Liberties)
     (links : MarkedLinks) → ¬ SpellsLinks rest may links
 links_open line front rest (inl ends) few is may links h =
     let levels : List ℕ = links_text links.levels in
-    let both : List ℕ = zero_text links.zero ++ levels in
+    let behind : List ℕ = zero_text links.zero ++ levels in
+    let both : List ℕ = commits_text h.commits ++ behind in
     let text : line ≡ (front ++ (h.word ++ both)) ++ 10 ∷ [] =
     is ∙ ap (λ (x : List ℕ). front ++ x) (h.are_bytes
-    ∙ ap (λ (x : List ℕ). h.word ++ x) (sym (append_assoc (zero_text links.zero) levels (10 ∷ [])))
+    ∙ ap (λ (x : List ℕ). h.word ++ (commits_text h.commits ++ x))
+    (sym (append_assoc (zero_text links.zero) levels (10 ∷ [])))
+    ∙ ap (λ (x : List ℕ). h.word ++ x) (sym (append_assoc (commits_text h.commits) behind (10 ∷ [])))
     ∙ sym (append_assoc h.word both (10 ∷ [])))
     ∙ sym (append_assoc front (h.word ++ both) (10 ∷ [])) in
     let lf : ends_with_byte 10 line ≡ true =
@@ -438,10 +521,12 @@ links_open line front rest (inr long) few is may links h =
       few,
       word-short h.word may h.spells,
       zero-short links.zero,
+      commits-short h.commits,
       links-short links.levels,
       h.so_many.1,
       length-append front rest,
-      length-append h.word (tail links),
+      length-append h.word (whole_tail h.commits links),
+      length-append (commits_text h.commits) (tail links),
       length-append (zero_text links.zero) (levels_tail links.levels),
       length-append (links_text links.levels) (10 ∷ []),
     )

@@ -88,25 +88,40 @@ fn some_marked(links: &[MarkedLevel]) -> bool
     links.iter().any(|link| link.complete)
 }
 
-/// Whether the word `zero` is at the front, after a space, and the rest.
-fn front_zero(bytes: &[u8]) -> (bool, &[u8])
-    ensures { (result.0, result.1.now) ≡ code.zero_at bytes.now }
+/// Whether a word is at the front, and the rest.
+fn front_word<'a>(word: &[u8], bytes: &'a [u8]) -> (bool, &'a [u8])
+    ensures { (result.0, result.1.now) ≡ code.word_at word.now bytes.now }
 {
-    match bytes.strip_prefix(b" zero") {
+    match bytes.strip_prefix(word) {
         Some(rest) => (true, rest),
         None => (false, bytes),
     }
 }
 
-/// Whether these are links of a trace with commits: there are some, and memory was zero before it or one has the mark.
-fn is_named(zero: bool, links: &[MarkedLevel]) -> bool
-    ensures { result ≡ code.is_named (record { zero = zero; levels = links.now }) }
+/// Whether the word `commits` is at the front, after a space, and the rest.
+fn front_commits(bytes: &[u8]) -> (bool, &[u8])
+    ensures { (result.0, result.1.now) ≡ code.commits_at bytes.now }
 {
-    !links.is_empty() && (zero || some_marked(links))
+    front_word(b" commits", bytes)
+}
+
+/// Whether the word `zero` is at the front, after a space, and the rest.
+fn front_zero(bytes: &[u8]) -> (bool, &[u8])
+    ensures { (result.0, result.1.now) ≡ code.zero_at bytes.now }
+{
+    front_word(b" zero", bytes)
+}
+
+/// Whether these are links of a trace with commits: there are some, and a word says so or one has the mark.
+fn is_named(commits: bool, zero: bool, links: &[MarkedLevel]) -> bool
+    ensures { result ≡ code.is_named commits (record { zero = zero; levels = links.now }) }
+{
+    !links.is_empty() && (commits || zero || some_marked(links))
 }
 
 /// The end of a header of a trace with commits, `LIBERTIES LEVELS..` and an LF: the liberties, whether the word `zero`
-/// is between them and the levels, and the links. It has the word, or at least one level is `C+`.
+/// is between them and the levels, and the links. It has this word, or the word `commits` before it, or at least one level
+/// is `C+`.
 pub fn read_marked_links(
     bytes: &[u8],
 ) -> Option<(Liberties, bool, ArrayVec<MarkedLevel, MOST_CLIENTS>)>
@@ -116,16 +131,17 @@ pub fn read_marked_links(
         AreMarked result may links }
 {
     let (may, rest) = front_liberties(bytes)?;
+    let (commits, rest) = front_commits(rest);
     let (zero, rest) = front_zero(rest);
     let links = links(rest)?;
-    if !is_named(zero, links.as_slice()) {
+    if !is_named(commits, zero, links.as_slice()) {
         return None;
     }
     Some((may, zero, links))
 }
 
-/// Reads the first line of a trace with commits, with its LF: `tltrace 4 W LIBERTIES LEVELS..` with the word `zero`
-/// before the levels, or at least one level `C+`. A line of another form is no such header.
+/// Reads the first line of a trace with commits, with its LF: `tltrace 4 W LIBERTIES LEVELS..` with the word `commits` or
+/// `zero` before the levels, or at least one level `C+`. A line of another form is no such header.
 pub fn read_marked(line: &[u8]) -> Option<CommitHeader>
     // The line spells the header that is read, and each header that a line spells is read.
     ensures spelled { IfSome result (λ header. SpellsMarked line.now header.width header.may (links_in header)) }

@@ -1,5 +1,5 @@
 -- The header of a trace with commits: all stores of its links of level `C+` are in the trace, and memory was zero
--- before it if the word `zero` is before the levels. It has the word, or a link of level `C+`.
+-- before it if the word `zero` is before the levels. It has this word, or the word `commits`, or a link of level `C+`.
 use Rattle.std.specs.Prelude.{◌≡◌, ◌++◌, ◌||◌, ℕ, Bool, true, false, List, [], ◌∷◌, length, map, codes, ⊤}
 use Rattle.std.specs.Prelude.{Option, Some, None}
 use Rattle.std.specs.List.{list_any}
@@ -27,10 +27,18 @@ pub record MarkedLinks : Type 0 where
   pub zero : Bool
   pub levels : List MarkedLevel
 
+-- a word, if it is there
+abbrev pub word_text : List ℕ → Bool → List ℕ
+word_text word true = word
+word_text word false = []
+
 -- the word that says so, after a space
 abbrev pub zero_text : Bool → List ℕ
-zero_text true = codes " zero"
-zero_text false = []
+zero_text zero = word_text (codes " zero") zero
+
+-- the word that says that stores and loads may be in the trace, after a space
+abbrev pub commits_text : Bool → List ℕ
+commits_text commits = word_text (codes " commits") commits
 
 -- each level after a space, with its mark
 abbrev pub links_text : List MarkedLevel → List ℕ
@@ -50,14 +58,17 @@ some_marked links = list_any (λ x. x.complete) links
 abbrev pub says_commits : MarkedLinks → Bool
 says_commits links = links.zero || some_marked links.levels
 
--- The bytes are the word that names these liberties, the word `zero` if memory was zero, these links and an LF.
+-- The bytes are the word that names these liberties, the word `commits` or not, the word `zero` if memory was zero, these
+-- links and an LF. They say that stores and loads may be in the trace.
 pub record SpellsLinks (bytes : List ℕ) (may : Liberties) (links : MarkedLinks) : Type 0 where
   pub word : List ℕ
   pub spells : SpellsLiberties word may
-  pub are_bytes : bytes ≡ word ++ (zero_text links.zero ++ (links_text links.levels ++ codes "\n"))
+  pub commits : Bool
+  pub are_bytes : bytes
+      ≡ word ++ (commits_text commits ++ (zero_text links.zero ++ (links_text links.levels ++ codes "\n")))
   pub so_many : IsCount (length links.levels)
   pub markable : AreMarkable links.levels
-  pub says : says_commits links ≡ true
+  pub says : (commits || says_commits links) ≡ true
 
 -- the links that were read
 abbrev pub links_read : Bool → ArrayVec MarkedLevel → MarkedLinks

@@ -225,13 +225,17 @@ STORIES = {
   byte 00000000 of the copy was stored, and may be 05, set in line 5; that of memory wasn't, and may be 00
 """,
 }
-# Lines of no commit, with their faults, and headers in which a mark or the word `zero` isn't at its place.
+# Lines of no commit, with their faults, and headers in which a mark or a word isn't at its place.
 NO_COMMITS = (("00 S 0 00000000", "F1"), ("00 I 0 00000000 05", "F1"), ("00 L 0 00000000 05 0", "F1"), ("00 T 0 00000000 05", "F2"),
     ("00 s 0 00000000 05", "F2"), ("00 S 4 00000000 05", "F3"), ("00 S 1 00000001 0505", "F3"), ("00 S 1 00000000 05", "F3"),
     ("00 S 0 0000000 05", "F3"), ("00 L 3 00000000 00000000000000G5", "F3"), ("00 A 0 00000000 05", "F1"))
 NO_MARKS = ("tltrace 4 8 none UH+", "tltrace 4 8 none C++", "tltrace 4 8 none C +", "tltrace 4 8 none +C", "tltrace 2 8 C+", "tltrace 3 8 1 C+",
     "tltrace 5 24 none C+", "tltrace 4 32 none C+", "tltrace 4 8 C+", "tltrace 4 8 zero none C", "tltrace 4 8 none C zero", "tltrace 4 8 none zero",
-    "tltrace 4 8 none zero zero C", "tltrace 4 8 none  zero C", "tltrace 4 8 nonezero C", "tltrace 4 8 none zeroC", "tltrace 4 8 zero C", "tltrace 3 8 1 zero C")
+    "tltrace 4 8 none zero zero C", "tltrace 4 8 none  zero C", "tltrace 4 8 nonezero C", "tltrace 4 8 none zeroC", "tltrace 4 8 zero C", "tltrace 3 8 1 zero C",
+    "tltrace 4 8 none zero commits C", "tltrace 4 8 none commits commits C", "tltrace 4 8 none commits", "tltrace 4 8 commits C", "tltrace 4 8 none commitsC",
+    "tltrace 3 8 1 commits C")
+# A copy to read whose first byte is 05, and a load from it; no link has all its stores in the trace.
+COPY_READ = "tltrace 4 8 none commits C\\n00 A 6 0 6 00 00000000 ff - 0\\n" + 8 * "00 D 5 1 6 00 00 0 0000000000000005 0\\n" + "00 E 00\\n00 L 0 00000000 "
 # What each liberty allows: the last beat of a trace breaks the rule without it, and none with it.
 UNDER = of_liberties(True)
 # The nearest trace whose last beat breaks this rule with it too.
@@ -511,6 +515,14 @@ ROWS = [
     ("sed '1s/.*/tltrace 4 8 none zero C/' rules/M6.trace | tltool coherent", 0, "coherent 5\n", ""),
     ("sed '1s/.*/tltrace 4 8 none C/' rules/M6.trace | tltool coherent", 1, "line 5 F2\n", ""),
     ("sed '1s/none/standard,uncorrupt zero/' rules/M6.trace | tltool coherent", 1, "line 6 M6\n", ""),
+    # stores and loads of links of which not all stores are in the trace
+    ("sed '1s/.*/tltrace 4 8 none commits C/' rules/M5.trace | tltool coherent", 1, "line 5 M5\n", ""),
+    ("sed '1s/.*/tltrace 4 8 none commits C/' rules/M5.trace | tltool monitor", 0, "clean 4\n", ""),
+    ("sed '1s/.*/tltrace 4 8 none commits C/' rules/M6.trace | tltool coherent", 0, "coherent 5\n", ""),
+    ("sed '1s/.*/tltrace 4 8 none commits zero C+/' rules/M6.trace | tltool coherent", 1, "line 6 M6\n", ""),
+    (f"printf '{COPY_READ}06\\n' | tltool coherent", 1, "line 12 M6\n", ""),
+    (f"printf '{COPY_READ}05\\n' | tltool coherent", 0, "coherent 11\n", ""),
+    ("echo 'tltrace 5 32 none commits UL C' | tltool coherent", 0, "coherent 0\n", ""),
     ("echo 'tltrace 5 32 none zero UL UH C' | tltool coherent", 0, "coherent 0\n", ""),
     ("printf 'tltrace 5 32 none zero UL\\n00 A 4 0 5 0001 0000000000000000 ffffffff - 0\\n00 D 1 0 5 0001 0000 0 %063d1 0\\n' 0 | tltool coherent", 1, "line 3 M3\n", ""),
     ("printf 'tltrace 5 32 none zero UL\\n00 A 4 0 5 0001 0000000000000000 ffffffff - 0\\n00 D 1 0 5 0001 0000 0 %064d 0\\n' 0 | tltool coherent", 0, "coherent 2\n", ""),

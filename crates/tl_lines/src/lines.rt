@@ -67,7 +67,7 @@ fn line_end(bytes: &[u8]) -> Option<usize>
 
 /// The first line of these bytes with its LF, and the bytes after it.
 #[inline(always)]
-pub(crate) fn first_line(bytes: &[u8]) -> Option<(&[u8], &[u8])>
+pub fn first_line(bytes: &[u8]) -> Option<(&[u8], &[u8])>
     ensures { MatchOption result (LacksLf bytes.now) (λ parts. IsLine parts.0.now
         × (parts.0.now ++ parts.1.now ≡ bytes.now)) }
 {
@@ -180,7 +180,7 @@ impl<H: LineHandler> Lines<H> {
     }
 
     /// Judges a line, the beginning of which may have come with earlier pieces.
-    pub(crate) fn take_line(&mut self, line: &[u8], out: &mut Vec<u8>) -> Result<Status, ToolFault>
+    pub fn take_line(&mut self, line: &[u8], out: &mut Vec<u8>) -> Result<Status, ToolFault>
         requires { IsLine line.now }
         ensures feeds { IfOk result (Feeds H.knows (H.tells (H.purpose self.old.handler)) self.old self.new line.now
             out.old.items out.new.items) }
@@ -199,7 +199,7 @@ impl<H: LineHandler> Lines<H> {
     }
 
     /// Keeps the beginning of a line. A line that has 256 bytes and no LF is at fault at once.
-    pub(crate) fn keep(&mut self, rest: &[u8], out: &mut Vec<u8>) -> Result<Status, ToolFault>
+    pub fn keep(&mut self, rest: &[u8], out: &mut Vec<u8>) -> Result<Status, ToolFault>
         requires { LacksLf rest.now }
         ensures feeds { IfOk result (Feeds H.knows (H.tells (H.purpose self.old.handler)) self.old self.new rest.now
             out.old.items out.new.items) }

@@ -30,6 +30,7 @@ use Rattle.tl_lines.specs.declared.status.Status.TheVariants.{Clean, Broken}
 use Rattle.tl_lines.specs.statement.Fault.{fault_text}
 use Rattle.tl_lines.specs.statement.JudgedLinks.{JudgedLinks}
 use Rattle.tl_lines.specs.statement.LinksHeader.{NamesAllowed}
+use Rattle.tl_lines.specs.statement.SpelledTrace.{AreLinesOf, SpellsTrace}
 use Rattle.tl_lines.specs.statement.Width.{bytes_of}
 
 -- the first lines of the reasons: the rule, and the beat of line n that breaks it

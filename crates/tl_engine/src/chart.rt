@@ -57,8 +57,13 @@ fn gather<R: Read>(
     ensures fault { IfErr result (λ fault. fault ≢ ToolFault.Write) }
 {
     let mut lines = Lines::new(ChartLines::new(alloc, allow, window)?);
-    let status = judge_input(alloc, &mut lines, reader, verdict)?;
-    Ok((lines.into_handler(), status))
+    match judge_input(alloc, &mut lines, reader, verdict) {
+        Ok(status) => Ok((lines.into_handler(), status)),
+        Err(fault) => {
+            drop(lines);
+            Err(fault)
+        }
+    }
 }
 
 /// A verdict without the LF at its end.
@@ -124,7 +129,9 @@ pub fn chart_input<R: Read, W: Write>(
 {
     let mut verdict = Vec::new(alloc);
     let (lines, status) = gather(alloc, allow, window, reader, &mut verdict)?;
-    let chart = drawn(alloc, window, &lines, status, &verdict)?;
+    let chart = drawn(alloc, window, &lines, status, &verdict);
+    drop(lines);
+    let chart = chart?;
     write_all(writer, &chart)?;
     Ok(status)
 }

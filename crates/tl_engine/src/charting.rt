@@ -20,6 +20,7 @@ ghost use Rattle.tl_rules.specs.statement.History.{begins};
 ghost use Rattle.tl_rules.specs.statement.Liberties.{held_under};
 
 use std::alloc::{AllocError, Global};
+use std::mem;
 use tl_beat::beat::{Beat, Link};
 use tl_beat::fault::LineFault;
 use tl_beat::read::read_line;
@@ -281,7 +282,7 @@ impl LineHandler for ChartLines {
                 match begin(*alloc, self.allow, line, gatherer.window)? {
                     None => Ok(Some(Fault::Header)),
                     Some(judge) => {
-                        self.judge = judge;
+                        drop(mem::replace(&mut self.judge, judge));
                         Ok(None)
                     }
                 }

@@ -9,6 +9,7 @@ ghost use Rattle.tl_engine.specs.code.Playing.{KnowsSchedule, Opens, form_of};
 use crate::play::{Player, play, player_of};
 use crate::trace_header::append_header;
 use std::alloc::{AllocError, Global};
+use std::mem;
 use tl_command::command::RunForm;
 use tl_lines::fault::Fault;
 use tl_lines::line_handler::LineHandler;
@@ -75,7 +76,7 @@ fn start<const FORM: usize>(
     match open(alloc, line, out)? {
         None => Ok(Some(Fault::Header)),
         Some(opened) => {
-            *run_lines = opened;
+            drop(mem::replace(run_lines, opened));
             Ok(None)
         }
     }

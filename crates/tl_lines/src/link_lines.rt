@@ -15,6 +15,7 @@ use crate::links_header::LinksHeader;
 use crate::monitor_lines::append_end;
 use crate::trace_judge::{TraceJudge, read_for};
 use std::alloc::{AllocError, Global};
+use std::mem;
 use tl_beat::beat::{Beat, BeatE};
 use tl_beat::fault::LineFault;
 use tl_beat::read::read_into;
@@ -95,7 +96,7 @@ fn start(
     match begin(alloc, link_lines.together, link_lines.allow, line)? {
         None => Ok(Some(Fault::Header)),
         Some(judge) => {
-            link_lines.judge = judge;
+            drop(mem::replace(&mut link_lines.judge, judge));
             Ok(None)
         }
     }

@@ -14,6 +14,7 @@ use crate::header::read_header;
 use crate::line_handler::LineHandler;
 use itoa::Buffer;
 use std::alloc::{AllocError, Global};
+use std::mem;
 use tl_beat::beat::{Beat, BeatE};
 use tl_beat::fault::LineFault;
 use tl_beat::read::read_into;
@@ -95,7 +96,7 @@ fn start<const TOGETHER: usize>(
     match begin(alloc, line)? {
         None => Ok(Some(Fault::Header)),
         Some(begun) => {
-            *monitor_lines = begun;
+            drop(mem::replace(monitor_lines, begun));
             Ok(None)
         }
     }

@@ -61,8 +61,20 @@ fn inquire<R: Read>(
         },
         inquiry,
     });
-    let status = judge_input(alloc, &mut lines, reader, verdict)?;
-    Ok((lines.into_handler().inquiry, status))
+    match judge_input(alloc, &mut lines, reader, verdict) {
+        Ok(status) => {
+            let Testimony {
+                link_lines,
+                inquiry,
+            } = lines.into_handler();
+            drop(link_lines);
+            Ok((inquiry, status))
+        }
+        Err(fault) => {
+            drop(lines);
+            Err(fault)
+        }
+    }
 }
 
 /// Whether the verdict is that line `number` breaks the rule.

@@ -7,7 +7,7 @@ returns-clause-ok g c = (
   c.in_ok-chart.chart.items,
   charts c.args.allow c.args.window _ _ c.in_ok-lines.lines c.gather.new.verdict.items _ c.in_ok-lines.status
       c.in_ok-chart.chart.items c.in_ok-lines.ensures.ok
-      c.in_ok-lines.ensures.allow c.deref.ensures.value c.in_ok-chart.ensures,
+      c.in_ok-lines.ensures.allow c.deref.ensures.value (rw c.in_ok-chart.was at c.drawn-chart.ensures),
   rw c.deref-2.ensures.value at c.in_ok-write_all.ensures.ok,
 )
 
@@ -19,6 +19,6 @@ returns-in_err-write_all-clause-fault g c =
       c.in_ok-lines.status,
       charts c.args.allow c.args.window _ _ c.in_ok-lines.lines c.gather.new.verdict.items _ c.in_ok-lines.status
           c.in_ok-chart.chart.items c.in_ok-lines.ensures.ok
-          c.in_ok-lines.ensures.allow c.deref.ensures.value c.in_ok-chart.ensures,
+          c.in_ok-lines.ensures.allow c.deref.ensures.value (rw c.in_ok-chart.was at c.drawn-chart.ensures),
       rw c.deref-2.ensures.value at c.in_err-write_all.ensures.err,
     )

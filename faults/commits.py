@@ -5,13 +5,15 @@ Random traces of caches whose cores store and load, by the model bench/commits_t
 is said), and a tenth as many of each wrong one. `TOOL coherent` must have the model's verdict on each, and `TOOL monitor` must
 find no fault in those of right caches. Of each run at fault `TOOL explain --coherent` must have the rule's sentence and the event
 in words, and for M5 to M7 the last store to each byte, as they are found here in the lines before it. For M6 and M7 it must end with
-the lines of bench/commits_bytes.py: what a byte is, all that it may be, and the line that set each value. Each line that it cites
+the lines of bench/commits_bytes.py: what a byte is, all that it may be, and the line that set each value. For M1 and M4 the line
+of each link that it says to hold what conflicts must be one of that link. Each line that it cites
 must be the one of its number. `TOOL chart` of each must draw the rows of the chart of its beats, and its stores and loads between
 them.
 
 Traces whose beats break a rule of beats, or none: the examples of rules and of pending messages, and those of the worlds below with
 a line left out, said twice or changed, each with lines of loads that begin put between. Of each `TOOL explain`, also with
-`--coherent`, must write what it writes of the trace without these lines, with the numbers of its lines; of M1 to M4 the first lines.
+`--coherent`, must write what it writes of the trace without these lines, with the numbers of its lines; of M2 and M3 the first
+lines, and of a line that spells no beat its sentence before that. The letters of lines are other ones there.
 
 Traces of worlds: the schedules of the examples and twenty of `TOOL random`. What `TOOL run --trace --commits` writes of each must
 be what this script makes of the outcomes that `TOOL run` writes; without stores, loads and marks it must be what `TOOL run --trace`
@@ -95,6 +97,17 @@ def stores_told(lines, words, width):
     return ["  the last stores to these bytes:", *(f"  {i + 2}: {words[i]}" for i in told)] if told else ["  no store before it reached these bytes"]
 
 
+def held_slips(told, words):
+    """What is wrong with the links that are told to hold what conflicts with the last of these events, and with its request."""
+    for line in told or ["nothing"]:
+        held = re.fullmatch(r"  link (..) (?:holds|is being granted) (?:Branch|Trunk) of block [0-9a-f]{8} since line (\d+)(?: \(.*\))?", line)
+        asked = re.fullmatch(r"  its request was complete in line (\d+)", line)
+        front = held[1] if held else f"{words[-1][:2]} A "
+        cited = held[2] if held else asked[1] if asked else "0"
+        if not words[int(cited) - 2].startswith(front) or cited == "0":
+            yield f"explain says {line}"
+
+
 def story_slips(tool, trace, fault):
     """What is wrong with the reasons for the fault of a line."""
     header, *lines = trace.read_text().splitlines()
@@ -110,6 +123,9 @@ def story_slips(tool, trace, fault):
         cited = re.fullmatch(r"  (\d+): (.*)", line)
         if cited and words[int(cited[1]) - 2] != cited[2]:
             yield f"{trace.name}: explain cites {line}"
+    if rule in ("M1", "M4"):
+        yield from (f"{trace.name}: {it}" for it in held_slips(told[3:], words))
+        return
     wanted = stores_told(lines, words, int(width)) if rule in ("M5", "M6", "M7") else []
     if rule in ("M6", "M7"):
         try:
@@ -230,14 +246,17 @@ def reasons_slips(tool, name, trace, seed):
             wanted, told = (of(tool, *words, str(it))[0].splitlines() for it in (plain, begun))
             verdict = re.fullmatch(r"line (\d+) (\w+)", wanted[0])
             # its stores aren't in the trace, so a beat may break a rule of stores that it doesn't break in the other
-            if verdict and verdict[2].startswith("F") or re.fullmatch(r"line \d+ M[567]", told[0]):
+            if re.fullmatch(r"line \d+ M[567]", told[0]):
                 continue
             wanted = [re.sub(r"(?<=\bline )\d+|^  \d+(?=: )", lambda it: re.sub(r"\d+", lambda n: str(numbers[int(n[0])]), it[0]), it) for it in wanted]
             if not verdict:
                 wanted[0] = f"{wanted[0].split()[0]} {text.count(chr(10)) - 1}"
                 wanted, told = wanted[:-1], told[:-1]
-            elif verdict[2] in ("M1", "M2", "M3", "M4"):
+            elif verdict[2] in ("M2", "M3"):
                 wanted, told = wanted[:3], told[:3]
+            elif verdict[2].startswith("F"):
+                told = [it.replace("letter: one of A, B, C, D, E, S, L, I", "channel: one of A, B, C, D, E") for it in told]
+                told = told[:1] + told[2:] if told[1].startswith(f"  {verdict[2]}: ") else told
             if wanted != told:
                 yield f"{name} {seed}: {' '.join(words)} says {told}, and of the beats alone {wanted}"
 

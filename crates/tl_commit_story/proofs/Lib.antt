@@ -1,8 +1,10 @@
 pub mod Copies
 pub mod Followed
+pub mod LinksFollowed
 pub mod Numbers
 pub mod Recorded
 pub mod Replayed
+pub mod Responses
 pub mod Storied
 pub mod Told
 mod Worked

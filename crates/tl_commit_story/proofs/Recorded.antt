@@ -1,6 +1,6 @@
 -- The record of a link goes on with each event, and shows that an event breaks a rule.
-use Rattle.std.proofs.Common.{◌≡◌, ◌∙◌, ◌+◌, ℕ, Bool, true, false, List, [], ◌∷◌, ◌++◌, refl, ap, sym, subst, append_assoc}
-use Rattle.std.specs.Prelude.{Option, Some, None, slice_get}
+use Rattle.std.proofs.Common.{◌≡◌, ◌∙◌, ℕ, Bool, true, false, List, [], ◌∷◌, ◌++◌, refl, ap, sym, subst, append_assoc}
+use Rattle.std.specs.Prelude.{Option, Some, slice_get}
 use Rattle.tl_allowed.specs.code.Known.{Knows}
 use Rattle.tl_allowed.specs.declared.allowances.Allowances.{Allowances}
 use Rattle.tl_beat.specs.declared.beat.Beat.{Beat}

@@ -80,10 +80,10 @@ module _ {w : ℕ} (old : Replay w) (number : ℕ) (line : List ℕ) (counts : n
       (line-read mid.state reads.goes)
 
   -- the line at fault
-  pub line-told : (g : Follower w) (reasons : Vec ℕ) (told : Bool) → old.state ≡ Following g
+  pub line-told : (g : Follower w) (state : State w) (reasons : Vec ℕ) (told : Bool) → old.state ≡ Following g
       → (told ≡ true → HasReasons g old.fault number line reasons.items)
-      → ReadsLast old (record old { told = told; reasons = reasons }) line
-  line-told g reasons told at has = λ lines known more is.
+      → ReadsLast old (record old { state = state; told = told; reasons = reasons }) line
+  line-told g state reasons told at has = λ lines known more is.
       let k : AreReplayed old g lines = subst (λ (s : State w). KnowsState old s lines) at known.1 in
       let why = has is in
       let so = why.says old.together k.may _ k.events (omega (arith, counts, k.counted)) k.known in

@@ -1,5 +1,5 @@
 -- What a handler says that judges the lines and reads them again.
-use Rattle.std.proofs.Common.{◌≡◌, ◌∙◌, ◌+◌, ℕ, Bool, true, false, List, [], ap, sym, subst, arith}
+use Rattle.std.proofs.Common.{◌≡◌, ◌∙◌, ◌+◌, ◌++◌, ℕ, Bool, true, false, List, [], ap, sym, subst, arith}
 use Rattle.std.specs.Prelude.{Option, Some, None}
 use Rattle.std.specs.Io.KnownBytes.{Consumes}
 use Rattle.tl_commit_lines.proofs.EventsJudged.{commits-so-far, events-have-text}
@@ -116,7 +116,10 @@ reached together allow had left held verdict status none (read, text, consumed, 
 
 -- of a fault that is no breach of a rule the words are told
 pub other-explains : (together : Bool) (allow : Liberties) (old new : Option (List ℕ)) (verdict reasons : List ℕ)
-    (good : ℕ) (found : Fault) → is_breach found ≡ false → verdict ≡ fault_text (good + 1) found
-    → reasons ≡ other_words found → Explains together allow old new verdict reasons Broken
-other-explains together allow old new verdict reasons good found other says why =
-    (found, (λ breach. let no : true ≡ false = sym breach ∙ other in absurd cc), λ _. (good + 1, says, why))
+    (good : ℕ) (found : Fault) (mid shown : List ℕ) → is_breach found ≡ false → verdict ≡ fault_text (good + 1) found
+    → mid ≡ other_words found → reasons ≡ mid ++ shown → Explains together allow old new verdict reasons Broken
+other-explains together allow old new verdict reasons good found mid shown other says why more = (
+  found,
+  (λ breach. let no : true ≡ false = sym breach ∙ other in absurd cc),
+  λ _. (good + 1, says, (shown, more ∙ ap (λ (text : List ℕ). text ++ shown) why)),
+)

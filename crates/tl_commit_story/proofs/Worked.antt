@@ -1,9 +1,10 @@
 -- The grounds of worked traces: link 0 is granted a copy of block 0 to write, in four beats of 16 bytes.
 use Rattle.std.proofs.Common.{◌≡◌, refl, [], ◌∷◌}
-use Rattle.std.specs.Prelude.{None, Some, reverse, take}
+use Rattle.std.specs.Prelude.{None, Some, map, reverse, take}
 use Rattle.tl_beat.specs.declared.channel.Channel.TheVariants as channel
 use Rattle.tl_burst.specs.statement.Messages.{unfinished}
 use Rattle.tl_bytes.proofs.WorkedBeats.{grant_beat, wide}
+use Rattle.tl_events.specs.declared.commit.Commit.TheVariants as commit
 use Rattle.tl_events.specs.declared.commit.Event.TheVariants as event
 use Rattle.tl_params.specs.declared.perm.Perm.TheVariants as perm
 use Rattle.tl_params.specs.statement.Liberties.{no_liberties}
@@ -13,6 +14,7 @@ use Rattle.tl_rules.specs.statement.Liberties.{held_under}
 use Rattle.tl_commits.specs.statement.Events.{Events, beats_of}
 use Rattle.tl_commits.proofs.WorkedEvents.{piece, stores, two_caches, writer}
 use Rattle.tl_commit_story.specs.declared.cached.Cached.{Cached}
+use Rattle.tl_commit_story.specs.statement.BeatLines.{line_of_beat}
 use Rattle.tl_commit_story.specs.statement.Cached.{begun_by, came, held_since, holding, last_store}
 use Rattle.tl_commit_story.specs.statement.Words.{event_text}
 
@@ -63,3 +65,15 @@ last = refl
 never : last_store 0 8 written ≡ None
 unfolding last_store
 never = refl
+
+-- a load begins in line 5, and the third beat of the Grant comes in line 6
+abbrev begun_between : Events 16
+begun_between =
+    (record { 0 = 0 }, event.Beat (grant_beat 0 0 0 0 (wide 5)).1)
+    ∷ (record { 0 = 0 }, event.Commit (commit.Begin (piece 3 0)))
+    ∷ granting
+
+-- that beat is the fourth, and the second is that of line 3
+lines : map (line_of_beat begun_between) (1 ∷ 3 ∷ 4 ∷ 5 ∷ 6 ∷ []) ≡ 1 ∷ 3 ∷ 4 ∷ 6 ∷ 6 ∷ []
+unfolding line_of_beat beats_of
+lines = refl

@@ -1,5 +1,6 @@
 pub mod Followers
 pub mod Following
+pub mod Placing
 pub mod Recording
 pub mod Replaying
 pub mod Stored

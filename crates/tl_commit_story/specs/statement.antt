@@ -1,3 +1,4 @@
+pub mod BeatLines
 pub mod Cached
 pub mod Explained
 pub mod Grounds

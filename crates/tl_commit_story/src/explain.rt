@@ -14,14 +14,14 @@ ghost use Rattle.tl_commit_story.specs.statement.Explained.{Explains, GivesUpEve
 ghost use Rattle.tl_commit_story.specs.statement.Words.{is_breach};
 
 use crate::examine::{Found, examine};
+use crate::explain_line::{explain_line, explain_open, explain_other};
 use crate::pending::PendingEvents;
 use crate::places::subject_of_event;
 use crate::replay::{Replay, State};
-use crate::sentences::{is_breach, limits, other_words};
+use crate::sentences::{is_breach, limits};
 use crate::story::Story;
 use std::alloc::{AllocError, Global};
 use std::io::{Read, Write};
-use tl_beat::fault::LineFault;
 use tl_commit_lines::lines::EventLines;
 use tl_events::event::read_event;
 use tl_explain::told::Spelling;
@@ -49,7 +49,12 @@ fn is_mode(one: bool, other: bool) -> bool
 }
 
 /// Whether the verdict is that the line after these has this fault.
-fn is_verdict(alloc: Global, count: u64, fault: Fault, verdict: &[u8]) -> Result<bool, AllocError>
+pub(crate) fn is_verdict(
+    alloc: Global,
+    count: u64,
+    fault: Fault,
+    verdict: &[u8],
+) -> Result<bool, AllocError>
     ensures { IfOk result (λ same. same ≡ true → verdict.now ≡ fault_text (count + 1) fault) }
 {
     let Some(number) = count.checked_add(1) else {
@@ -219,26 +224,6 @@ fn explain_breach<R: Read>(
     }
 }
 
-/// Appends the words for a fault that is no breach of a rule.
-fn explain_other(
-    alloc: Global,
-    good: u64,
-    fault: Fault,
-    verdict: &[u8],
-    out: &mut Vec<u8>,
-) -> Result<(), ExplainFault>
-    requires { out.old.items ≡ [] }
-    ensures ok { OnOk result ((together : Bool) (allow : Liberties) (old new : Option (List ℕ)) →
-        Explains together allow old new verdict.now out.new.items Status.Broken) }
-    ensures fault { IfErr result (λ fault. fault ≢ ExplainFault.Tool ToolFault.Write) }
-{
-    if is_breach(fault) || !is_verdict(alloc, good, fault, verdict)? {
-        return Err(ExplainFault::Changed);
-    }
-    out.extend_from_slice(other_words(fault).as_bytes())?;
-    Ok(())
-}
-
 /// Appends the reasons of a verdict that a line is at fault.
 fn explain_found<R: Read>(
     alloc: Global,
@@ -269,11 +254,11 @@ fn explain_found<R: Read>(
                 out,
             )
         }
-        (_, Some((fault, _))) => explain_other(alloc, found.good, *fault, verdict, out),
-        (_, None) => {
-            let open = Fault::Line(LineFault::F1);
-            explain_other(alloc, found.good, open, verdict, out)
+        (width, Some((Fault::Line(fault), line))) => {
+            explain_line(alloc, found.good, width, *fault, line, verdict, out)
         }
+        (_, Some((fault, _))) => explain_other(alloc, found.good, *fault, &[], verdict, out),
+        (_, None) => explain_open(alloc, reader, found.good, verdict, out),
     }
 }
 
@@ -359,8 +344,9 @@ fn reasons<R: Read>(
 /// a trace without stores and loads, with the numbers of these lines. For a rule of stores and loads they are the
 /// permission that the link of the event holds of the block, with the event at which it last changed; the first beat of a
 /// GrantData, ProbeAckData or ReleaseData of the block that isn't complete; and the last store to each byte that the event
-/// is about. For a line that spells no event the reasons are the sentence of its fault. After a trace without a fault come
-/// its pending messages and the limits of the verdict.
+/// is about. For M1 and M4 they are the links that hold, or are being granted, a conflicting permission, each with its
+/// line. For a line that spells no event the reasons are the sentence of its fault, and the line with carets under the
+/// bytes at fault. After a trace without a fault come its pending messages and the limits of the verdict.
 ///
 /// Nothing is written before both readings have reached their ends. After that the only fault is `Write`: the writer
 /// took only a front of the text. `Read` and `Memory` are faults of the first reading, before its verdict and before

@@ -1,20 +1,28 @@
 //! Follows the events of a trace for the reasons of its first fault.
 
-ghost use Rattle.std.specs.Prelude.{◌≡◌, [], true, IfOk, IfSome};
+ghost use Rattle.std.specs.Prelude.{◌≡◌, [], true, not, IfOk, IfSome};
+ghost use Rattle.tl_beat.specs.declared.beat.Beat.TheVariants as beat;
 ghost use Rattle.tl_beat.specs.statement.Width.{IsWidth};
 ghost use Rattle.tl_commit_story.specs.code.Followers.{FollowsEvent, KnowsFollower, TellsGrounds};
+ghost use Rattle.tl_commit_story.specs.code.Placing.{is_of_links};
+ghost use Rattle.tl_lines.specs.declared.fault.Fault.{Fault};
+ghost use Rattle.tl_events.specs.declared.commit.Event.TheVariants as event;
 ghost use Rattle.tl_events.specs.statement.EventLine.{SpellsEvent};
 
 use crate::copy_follower::CopyFollower;
 use crate::link_record::LinkRecord;
+use crate::links_record::LinksRecord;
 use std::alloc::{AllocError, Global};
-use tl_beat::beat::Link;
+use tl_beat::beat::{Beat, BeatD, Link};
 use tl_commit_lines::header::MarkedLevel;
 use tl_commit_lines::judge::{complete_of, levels_of};
 use tl_events::commit::Event;
+use tl_events::rule::CommitRule;
 use tl_explain::turns::Subject;
 use tl_lines::fault::Fault;
 use tl_params::liberties::Liberties;
+use tl_rules::memory_rule::MemoryRule;
+use tl_rules::rule::Rule;
 
 /// Keeps the facts of a trace's events that the grounds for its first fault need.
 #[derive(Drop)]
@@ -23,8 +31,17 @@ pub enum Follower<const W: usize> {
     OfLink(LinkRecord<W>),
     /// For a rule of stores and loads.
     OfCopy(CopyFollower<W>),
+    /// For M1 and M4.
+    OfLinks(LinksRecord<W>),
     /// For another fault.
     OfNothing,
+}
+
+/// Whether the rule is about the bytes of responses.
+fn is_of_bytes(rule: MemoryRule) -> bool
+    ensures { result ≡ not (is_of_links rule) }
+{
+    matches!(rule, MemoryRule::M2 | MemoryRule::M3)
 }
 
 impl<const W: usize> Follower<W> {
@@ -49,6 +66,13 @@ impl<const W: usize> Follower<W> {
             Fault::Rule(_) => {
                 let kept = LinkRecord::new(alloc, together, subject, levels, may)?;
                 Ok(Some(Follower::OfLink(kept)))
+            }
+            Fault::MemoryRule(MemoryRule::M1 | MemoryRule::M4) => {
+                let kept = LinksRecord::new(alloc, subject.block, levels, may)?;
+                match kept {
+                    None => Ok(None),
+                    Some(kept) => Ok(Some(Follower::OfLinks(kept))),
+                }
             }
             Fault::CommitRule(_) => {
                 let complete = complete_of(alloc, links)?;
@@ -78,13 +102,71 @@ impl<const W: usize> Follower<W> {
         match self {
             Follower::OfLink(kept) => kept.take(number, line, link, event),
             Follower::OfCopy(kept) => kept.take(number, line, link, event),
+            Follower::OfLinks(kept) => kept.take(line, link, event),
             Follower::OfNothing => Ok(true),
+        }
+    }
+
+    /// Appends the grounds for a breach of a rule of its link by an event. Returns true if they are for it.
+    fn tell_link(
+        &self,
+        rule: Rule,
+        link: Link,
+        event: &Event<W>,
+        out: &mut Vec<u8>,
+    ) -> Result<bool, AllocError>
+        requires { IsWidth W }
+        ensures { IfOk result (λ told. told ≡ true →
+            TellsGrounds self.now (Fault.Rule rule) link event.now out.old.items out.new.items) }
+    {
+        match self {
+            Follower::OfLink(kept) => kept.tell(rule, link, event, out),
+            _ => Ok(false),
+        }
+    }
+
+    /// Appends the grounds for a breach of a rule of memory by a response. Returns true if they are for it.
+    fn tell_response(
+        &mut self,
+        rule: MemoryRule,
+        link: Link,
+        x: &BeatD<W>,
+        out: &mut Vec<u8>,
+    ) -> Result<bool, AllocError>
+        requires { IsWidth W }
+        ensures { IfOk result (λ told. told ≡ true →
+            TellsGrounds self.old (Fault.MemoryRule rule) link (event.Beat (beat.D x.now)) out.old.items
+            out.new.items) }
+    {
+        match self {
+            Follower::OfLinks(kept) => kept.tell(rule, link, x, out),
+            Follower::OfNothing => Ok(is_of_bytes(rule)),
+            _ => Ok(false),
+        }
+    }
+
+    /// Appends the grounds for a breach of a rule of stores and loads by an event. Returns true if they are for it.
+    fn tell_copy(
+        &self,
+        alloc: Global,
+        rule: CommitRule,
+        link: Link,
+        event: &Event<W>,
+        out: &mut Vec<u8>,
+    ) -> Result<bool, AllocError>
+        requires { IsWidth W }
+        ensures { IfOk result (λ told. told ≡ true →
+            TellsGrounds self.now (Fault.CommitRule rule) link event.now out.old.items out.new.items) }
+    {
+        match self {
+            Follower::OfCopy(kept) => kept.tell(alloc, rule, link, event, out),
+            _ => Ok(false),
         }
     }
 
     /// Appends the grounds for the fault of an event. Returns true if they are for it.
     pub fn tell(
-        &self,
+        &mut self,
         alloc: Global,
         fault: Fault,
         link: Link,
@@ -93,14 +175,14 @@ impl<const W: usize> Follower<W> {
     ) -> Result<bool, AllocError>
         requires { IsWidth W }
         ensures { IfOk result (λ told. told ≡ true →
-            TellsGrounds self.now fault link event.now out.old.items out.new.items) }
+            TellsGrounds self.old fault link event.now out.old.items out.new.items) }
     {
-        match (fault, self) {
-            (Fault::Rule(rule), Follower::OfLink(kept)) => kept.tell(rule, link, event, out),
-            (Fault::CommitRule(rule), Follower::OfCopy(kept)) => {
-                kept.tell(alloc, rule, link, event, out)
+        match (fault, event) {
+            (Fault::Rule(rule), _) => self.tell_link(rule, link, event, out),
+            (Fault::MemoryRule(rule), Event::Beat(Beat::D(x))) => {
+                self.tell_response(rule, link, x, out)
             }
-            (Fault::MemoryRule(_), Follower::OfNothing) => Ok(true),
+            (Fault::CommitRule(rule), _) => self.tell_copy(alloc, rule, link, event, out),
             _ => Ok(false),
         }
     }

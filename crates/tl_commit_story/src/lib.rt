@@ -2,13 +2,17 @@
 #![tactic(auto)]
 
 mod asked;
+mod beat_lines;
 mod cached;
 mod copy_follower;
 mod examine;
 pub mod explain;
+mod explain_line;
 mod follower;
 mod grounds;
 mod link_record;
+mod links_record;
+mod malformed;
 mod numbered;
 mod pending;
 mod places;

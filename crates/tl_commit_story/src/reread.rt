@@ -45,7 +45,7 @@ fn take_event<const W: usize>(
 /// Appends the reasons for the fault of the line with this number. Returns true if they are for it.
 fn append_reasons<const W: usize>(
     alloc: Global,
-    follower: &Follower<W>,
+    follower: &mut Follower<W>,
     fault: Fault,
     number: u64,
     line: &[u8],
@@ -53,7 +53,7 @@ fn append_reasons<const W: usize>(
 ) -> Result<bool, AllocError>
     requires width { IsWidth W }
     requires empty { out.old.items ≡ [] }
-    ensures { IfOk result (λ told. told ≡ true → HasReasons follower.now fault number line.now out.new.items) }
+    ensures { IfOk result (λ told. told ≡ true → HasReasons follower.old fault number line.now out.new.items) }
 {
     let Ok((link, event)) = read_event::<W>(line) else {
         return Ok(false);
@@ -129,7 +129,7 @@ impl<const W: usize> Replay<W> {
         ensures { OnOk result (ReadsLast self.old self.new line.now) }
     {
         let number = self.count.checked_add(1).ok_or(AllocError)?;
-        let State::Following(follower) = &self.state else {
+        let State::Following(follower) = &mut self.state else {
             return Ok(());
         };
         let mut reasons = Vec::new(self.alloc);

@@ -11,9 +11,10 @@ use Rattle.tl_evidence.specs.statement.CopyLines.{copy_lines}
 use Rattle.tl_params.specs.declared.level.Level.{Level}
 use Rattle.tl_params.specs.declared.liberties.Liberties.{Liberties}
 use Rattle.tl_commit_story.specs.code.Following.{KnowsGrounds}
+use Rattle.tl_commit_story.specs.code.Placing.{KnowsLinks}
 use Rattle.tl_commit_story.specs.code.Recording.{KnowsLink}
 use Rattle.tl_commit_story.specs.declared.follower.Follower.{Follower}
-use Rattle.tl_commit_story.specs.declared.follower.Follower.TheVariants.{OfCopy, OfLink, OfNothing}
+use Rattle.tl_commit_story.specs.declared.follower.Follower.TheVariants.{OfCopy, OfLink, OfLinks, OfNothing}
 use Rattle.tl_commit_story.specs.declared.copy_follower.CopyFollower.{CopyFollower}
 use Rattle.tl_commit_story.specs.declared.grounds.Grounds.{Grounds}
 use Rattle.tl_commit_story.specs.statement.Grounds.{AreGrounds, copy_grounds}
@@ -33,6 +34,7 @@ FollowsCopy {w} old new number link x =
 abbrev pub KnowsFollower : {w : ℕ} → Bool → Follower w → Liberties → MarkedLinks → Events w → Type 0
 KnowsFollower together (OfLink r) may links e = KnowsLink together r may (levels_of links) e
 KnowsFollower together (OfCopy f) may links e = KnowsCopyFollower f may links e
+KnowsFollower together (OfLinks r) may links e = KnowsLinks r may (levels_of links) e
 KnowsFollower together OfNothing may links e = ⊤
 
 -- one more event, in the line of this number

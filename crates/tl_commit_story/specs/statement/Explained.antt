@@ -67,13 +67,14 @@ pub record IsExplained (together : Bool) (allow : Liberties) (old new : Option (
 abbrev pub IsPending : List ℕ → Type 0
 IsPending text = (w : ℕ) × (pending : List Pending) × TellsPending (says_recorded w) pending [] text
 
--- The reasons explain a verdict: for a breach of a rule by the events before it, for another fault by its words, and of a
--- trace without a fault they are its pending messages and the limits of the verdict.
+-- The reasons explain a verdict: for a breach of a rule by the events before it, and for another fault they begin with its
+-- words. Of a trace without a fault they are its pending messages and the limits of the verdict.
 abbrev pub Explains : Bool → Liberties → Option (List ℕ) → Option (List ℕ) → List ℕ → List ℕ → Status → Type 0
 Explains together allow old new verdict reasons Clean = (pending : List ℕ) × IsPending pending × (reasons ≡ pending ++ limits together)
 Explains together allow old new verdict reasons Broken =
     (found : Fault) × (is_breach found ≡ true → IsExplained together allow old new verdict reasons found)
-    × (is_breach found ≡ false → (n : ℕ) × (verdict ≡ fault_text n found) × (reasons ≡ other_words found))
+    × (is_breach found ≡ false → (n : ℕ) × (verdict ≡ fault_text n found)
+    × ((shown : List ℕ) × (reasons ≡ other_words found ++ shown)))
 
 -- ---- a file with two readers
 

@@ -4,13 +4,15 @@ use Rattle.std.specs.Prelude.{◌≡◌, ◌==◌, ◌+◌, ◌*◌, ◌++◌, �
 use Rattle.std.specs.Prelude.{Option, Some, None, if◌then◌else◌, length, slice_get}
 use Rattle.tl_allowed.specs.statement.Allowed.{allowed_under}
 use Rattle.tl_beat.specs.declared.beat.Beat.{Beat}
+use Rattle.tl_beat.specs.declared.beat.Beat.TheVariants as beat
+use Rattle.tl_beat.specs.declared.beat.BeatD.{BeatD}
 use Rattle.tl_beat.specs.declared.beat.Link.{Link}
 use Rattle.tl_beat.specs.declared.channel.Channel.TheVariants as channel
 use Rattle.tl_beat.specs.statement.Digits.{digits}
 use Rattle.tl_commit_lines.specs.statement.MarkedHeader.{MarkedLinks, complete_of, levels_of}
 use Rattle.tl_commits.specs.statement.Events.{Events, beats_of}
 use Rattle.tl_lines.specs.declared.fault.Fault.{Fault}
-use Rattle.tl_lines.specs.declared.fault.Fault.TheVariants.{Rule as Breaks, CommitRule}
+use Rattle.tl_lines.specs.declared.fault.Fault.TheVariants.{Rule as Breaks, MemoryRule as BreaksTogether, CommitRule}
 use Rattle.tl_events.specs.declared.commit.Commit.TheVariants as commit
 use Rattle.tl_events.specs.declared.commit.Event.{Event}
 use Rattle.tl_events.specs.declared.commit.Event.TheVariants as event
@@ -21,9 +23,13 @@ use Rattle.tl_links.specs.statement.Allowed.{allowed_line}
 use Rattle.tl_params.specs.declared.level.Level.{Level}
 use Rattle.tl_params.specs.declared.level.Level.TheVariants.{UL, UH, C}
 use Rattle.tl_params.specs.declared.liberties.Liberties.{Liberties}
+use Rattle.tl_params.specs.declared.memory_rule.MemoryRule.{MemoryRule}
+use Rattle.tl_params.specs.declared.memory_rule.MemoryRule.TheVariants.{M1, M4}
 use Rattle.tl_params.specs.declared.perm.Perm.{Perm}
 use Rattle.tl_params.specs.declared.rule.Rule.{Rule}
+use Rattle.tl_witness.specs.statement.Grounds.{grounds_text}
 use Rattle.tl_commit_story.specs.declared.cached.Cached.{Cached}
+use Rattle.tl_commit_story.specs.statement.BeatLines.{event_names}
 use Rattle.tl_commit_story.specs.statement.Cached.{Stored, begun_by, block_of, came, cited, held_since, holding}
 use Rattle.tl_commit_story.specs.statement.Cached.{last_store, places_of}
 use Rattle.tl_commit_story.specs.statement.Numbered.{numbered}
@@ -119,6 +125,20 @@ AreLinkGrounds together rule may levels link (event.Beat x) e grounds =
 AreLinkGrounds together rule may levels link (event.Commit x) e grounds =
     grounds ≡ no_cache_words (slice_get levels link.0)
 
+-- ---- rules of memory
+
+-- The lines for a response that breaks M1 or M4: those for the beats alone, with the lines of this trace. For M2 and M3
+-- there are none.
+abbrev pub response_grounds : {w : ℕ} → MemoryRule → ℕ → Link → BeatD w → Events w → List ℕ
+response_grounds M1 n link x e = grounds_text (event_names e) M1 n link.0 x (beats_of e)
+response_grounds M4 n link x e = grounds_text (event_names e) M4 n link.0 x (beats_of e)
+response_grounds _ n link x e = []
+
+-- no other event breaks such a rule
+abbrev pub memory_grounds : {w : ℕ} → MemoryRule → ℕ → Link → Event w → Events w → List ℕ
+memory_grounds rule n link (event.Beat (beat.D x)) e = response_grounds rule n link x e
+memory_grounds rule n link _ e = []
+
 -- ---- all rules
 
 -- these are the grounds for the fault of an event after those of e
@@ -129,6 +149,8 @@ AreGrounds together (Breaks rule) may links link x e grounds =
 AreGrounds together (CommitRule rule) may links link x e grounds =
     grounds ≡ copy_grounds may (levels_of links) link x e
     ++ copy_lines rule (complete_of links) (length (levels_of links)) link.0 x e
+AreGrounds together (BreaksTogether rule) may links link x e grounds =
+    grounds ≡ memory_grounds rule (length (levels_of links)) link x e
 AreGrounds together _ may links link x e grounds = grounds ≡ []
 
 -- The reasons begin with the sentence of the rule that the event breaks, and the event.

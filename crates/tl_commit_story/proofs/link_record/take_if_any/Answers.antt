@@ -1,4 +1,3 @@
-use Rattle.std.proofs.Common.{rules}
 use Rattle.std.proofs.lemmas.Result.{IfOk-weaker}
 use Rattle.tl_commit_story.proofs.Recorded.{allowed-next}
 use Rattle.tl_commit_story.proofs.link_record.take_if_any.Goals as goal

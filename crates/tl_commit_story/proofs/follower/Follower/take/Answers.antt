@@ -1,0 +1,8 @@
+use Rattle.std.proofs.lemmas.Result.{IfOk-weaker}
+use Rattle.tl_commit_lines.specs.statement.MarkedHeader.{levels_of}
+use Rattle.tl_commit_story.proofs.follower.Follower.take.Goals as goal
+
+pub returns-in-OfLinks : goal.returns-in-OfLinks
+returns-in-OfLinks g c = IfOk-weaker c.take-in-OfLinks.result _ _
+    (λ on follows. λ yes together may links e at k.
+    follows yes may (levels_of links) e (rw c.in-OfLinks.is at k)) c.take-in-OfLinks.ensures

@@ -120,6 +120,24 @@ The monitor says: line 6 H12</desc>
 STORED_TOLD = f"""{GRANTED_TOLD}Line 5: 00 stores 1 byte at 00000000: 05.
 Line 6: 00 loads 1 byte at 00000000: 06.
 """
+# Of a wide trace with stores and loads.
+WIDE_STORED = """Line 2: 00 A AcquirePerm NtoT block 6000001 source 0100.
+Line 3: 00 D Grant toT block 6000001 source 0100 sink 0000.
+Line 4: 00 E GrantAck block 6000001 sink 0000.
+Line 5: 00 stores 1 byte at 0000000180000050: 05.
+Line 6: 00 loads 1 byte at 0000000180000050: 05.
+Line 7: 00 C ReleaseData TtoN block 6000001 source 0200 2 beats, not all.
+"""
+# Its explanation, but for the sentence of the rule.
+WIDE_LOST = f"""line 7 M7
+  7: 00 C ReleaseData TtoN size=6 source=0200 address=0000000180000040 data={''.join(f'{it:02x}' for it in range(31, 16, -1))}06{''.join(f'{it:02x}' for it in range(15, -1, -1))} corrupt=0
+  link 00 holds Trunk of block 0000000180000040 since:
+  3: 00 D Grant toT size=6 source=0100 sink=0000 denied=0 data=- corrupt=0
+  a ProbeAckData or ReleaseData of the block is under way since:
+  7: 00 C ReleaseData TtoN size=6 source=0200 address=0000000180000040 data=..
+  the last stores to these bytes:
+  5: link 00 stores 1 byte at 0000000180000050: 05
+"""
 ANSWERED_TOLD = """Line 5: 00 A Get block 000 source 00.
 Line 6: 00 D AccessAckData block 000 source 00.
 The monitor says: clean 5</desc>
@@ -553,6 +571,12 @@ ROWS = [
     ("tltool explain --coherent rules/M6_right.trace", 0, "coherent 5\n  nothing is pending at the end\n  coherent means ..", ""),
     *((f"tltool explain --coherent rules/{name}.trace | sed 2d", 0, told, "") for name, told in STORIES.items()),
     *((f"(tltool explain {name} | head -1; tltool explain --coherent rules/{name}.trace | sed -n 's/^  //;2p') | uniq | wc -l", 0, "1\n", "") for name in ("M5", "M6", "M7")),
+    # the same of wide traces
+    ("tltool explain --coherent wide/store_lost.trace | sed '2d;/^  byte/d'", 0, WIDE_LOST, ""),
+    ("(tltool explain M7 | head -1; tltool explain --coherent wide/store_lost.trace | sed -n 's/^  //;2p') | uniq | wc -l", 0, "1\n", ""),
+    ("tltool explain wide/store_lost.trace | sed -n '1p;$p'", 0, "clean 6\n  clean means that no beat breaks a rule of its own link; it says nothing about two links together, nor about the data, nor about stores and loads\n", ""),
+    ("sed '6s/05$/06/' wide/store_given_back.trace >load.trace; tltool explain --coherent load.trace | sed -n '1p;3,6p'", 0, "line 6 M6\n  6: link 00 loads 1 byte at 0000000180000050: 06\n" + "".join(f"{it}\n" for it in WIDE_LOST.splitlines()[2:4]) + "  the last stores to these bytes:\n", ""),
+    ("sed '5s/ 05$/ 5/' wide/store_lost.trace >digit.trace; tltool explain digit.trace", 1, "line 5 F3\n  F3: a field isn't of its form: ..", ""),
     ("sed '5s/05/07 /' rules/M6.trace >long.trace; tltool explain --coherent long.trace", 1, "line 5 F1\n  F1: more than 256 bytes, or ..", ""),
     ("sed '5s/05/07 /' rules/M6.trace >spaced.trace; tltool explain --coherent spaced.trace | tail -3", 0, f"  00 S 0 00000000 07 \n  {19 * ' '}^\n  fields: 6; a line of S has 5\n", ""),
     ("sed '6s/.*/00 I 0 00000000 05/' rules/M6.trace >valued.trace; tltool explain valued.trace | tail -3", 0, f"  00 I 0 00000000 05\n  {16 * ' '}^^\n  fields: 5; a line of I has 4\n", ""),
@@ -663,6 +687,17 @@ ROWS = [
     ("tltool chart --lines 6-6 rules/M6.trace | grep -o '^Line .*'", 0, "Line 6: 00 loads 1 byte at 00000000: 06.\n", ""),
     ("(cat rules/M6.trace; echo '00 S 4 00000000 05') | tltool chart | grep -c 'says: line 7 F3'", 0, "1\n", ""),
     ("tltool chart --allow early rules/M6.trace | cmp - <(tltool chart rules/M6.trace)", 0, "", ""),
+    # and of wide traces with stores and loads
+    *((f"tltool chart {way}wide/store_lost.trace | sed -n '/^Line/,/<.desc>/p'", 0, f"{WIDE_STORED}The monitor says: clean 6</desc>\n", "") for way in ("", "<")),
+    ("tltool chart --block 6000001 wide/store_lost.trace | sed -n '/^Line/,/<.desc>/p'", 0, f"{WIDE_STORED}With line 3 00 is a writer.\nThe monitor says: clean 6</desc>\n", ""),
+    ("tltool chart --block 6000000 wide/store_lost.trace | grep -c '^Line'", 1, "0\n", ""),
+    ("tltool chart wide/store_given_back.trace | grep -c \"<rect class='[wr]' width='6' height='6'\"", 0, "2\n", ""),
+    ("tltool chart wide/store_given_back.trace | grep -c \"<rect class='w' width='6' height='6'\"", 0, "1\n", ""),
+    ("tltool chart --lines 2-4 wide/store_lost.trace | grep -o 'stores and loads that follow: .'", 0, "stores and loads that follow: 2\n", ""),
+    # with --block they are those of the block, though it comes after the last line that is drawn
+    ("tltool chart --lines 1-1 --block 6000001 wide/store_lost.trace | grep -o 'that follow: .'", 0, "that follow: 3\nthat follow: 2\n", ""),
+    ("sed '5s/50 05$/50 5/' wide/store_lost.trace | tltool chart | sed -n '/^Line/,/<.desc>/p'", 0, "".join(f"{it}\n" for it in WIDE_STORED.splitlines()[:3]) + "The monitor says: line 5 F3</desc>\n", ""),
+    ("(sed '1s/C+/C/' wide/store_lost.trace) | tltool chart | grep -c 'says: line 5 F2'", 0, "1\n", ""),
     ("tltool chart wide/two_caches.trace >/dev/full", 3, "", "tltool: write failed\n"),
     ("tltool chart nope.trace", 3, "", "tltool: cannot open nope.trace\n"),
     ("tltool chart rules", 3, "", "tltool: read failed\n"),

@@ -72,9 +72,18 @@ class Beat:
         return f"{head} {self.address:0{address}x}{mask} {data} {self.corrupt}"
 
 
+def commit_words(link, letter, size, address, *value):
+    """A store or a load in words."""
+    count = 2**int(size, 16)
+    action = {"S": "stores", "L": "loads", "I": "begins to load"}[letter]
+    return ": ".join([f"link {link} {action} {count} byte{'s' * (count > 1)} at {address}", *value])
+
+
 def words(line):
-    """A line of a wide beat in words."""
+    """A line of a wide beat, or of a store or a load, in words."""
     link, channel, *fields = line.split()
+    if channel in COMMITS:
+        return commit_words(link, channel, *fields)
     if channel == "E":
         return f"{link} E GrantAck sink={fields[0]}"
     opcode, param, *others = fields
@@ -370,7 +379,7 @@ def names_of(beats, width, link):
     """The names of blocks and sinks, and of the sources of a link, by the numbers that they have in the narrow trace."""
     names = {"blocks": {}, "sources": {0: 0}, "sinks": {0: 0}}
     for beat, parts in zip(beats, narrowed(beats, width)):
-        if beat.channel in "ABC":
+        if beat.channel in "ABC" + COMMITS:
             names["blocks"][parts[0].address // BLOCK] = beat.address // BLOCK
         if beat.channel in "ABCD" and beat.link == link:
             names["sources"][parts[0].source] = beat.source
@@ -432,10 +441,16 @@ def long_block(number):
     return f"{number:03x}" if number < 16**3 else f"{number:07x}" if number < 16**7 else f"{number:015x}"
 
 
+def address_of(narrow, names):
+    """The address that a wide trace has in the place of one of the narrow trace."""
+    return f"{names['blocks'][narrow // BLOCK] * BLOCK + narrow % BLOCK:016x}"
+
+
 def charted_wide(told, names, width):
     """The words of a row of a narrow chart with the names of the wide trace; how many beats the wide beats of the message are."""
     parts = max(1, width // 16)
     told = re.sub(r"(?<=block )\w+", lambda it: long_block(names["blocks"][int(it[0], 16)]), told)
+    told = re.sub(r"(?<= at )\w+", lambda it: address_of(int(it[0], 16), names), told)
     told = re.sub(r"(?<=source )\w+", lambda it: f"{names['sources'].get(int(it[0], 16), 0):04x}", told)
     told = re.sub(r"(?<=sink )\w+", lambda it: f"{names['sinks'].get(int(it[0], 16), 0):04x}", told)
     return re.sub(r" (\d+) beats", lambda it: "" if int(it[1]) <= parts else f" {int(it[1]) // parts} beats", told)

@@ -8,12 +8,15 @@ one; each once more with a line spoiled. `TOOL monitor` and `TOOL coherent` must
 faults/wide.py makes of it by the text of docs/FORMATS.md, at the line of the wide event whose part is at fault. Where no beats were
 joined they must say what they say of the trace that was written wide, which has the model's verdict. With `--all` and a report they
 must find what they find line by line in the trace without the lines found before, and count the beats and the commits of the others.
-`cover --json` must count what it counts of the narrow trace, with the lines of the wide one. Lines that spell no event have the fault
+`cover --json` must count what it counts of the narrow trace, with the lines of the wide one. `chart` must draw the rows of the chart
+of the narrow one with those lines and names. `explain`, also with `--coherent`, must write what it writes of the narrow trace with
+those lines and names, but for the values of bytes and for the grounds of M1 to M4. Lines that spell no event have the fault
 of the table in docs/FORMATS.md, and commits take no numbers of sources. Ends with 'wide commits: N passed, M failed'."""
 import concurrent.futures
 import os
 import pathlib
 import random
+import re
 import subprocess
 import sys
 import tempfile
@@ -77,6 +80,24 @@ def wanted(tool, words, head, events, width):
     return wide.wanted(tool, words, *head, events, width)
 
 
+def compared(told):
+    """What is compared of an explanation: no values of bytes, and of M1 to M4 no grounds."""
+    status, text = told
+    first, *lines = text.splitlines()
+    if first.split()[-1] in ("M1", "M2", "M3", "M4"):
+        lines = lines[:2]
+    return status, [first, *(it for it in lines if not re.match(r"  byte |  and \d+ more", it))]
+
+
+def misexplained(tool, text, liberties, levels, events, width):
+    """What is wrong with the explanations of a wide trace."""
+    for commands in ["explain"], ["explain", "--coherent"]:
+        ought = wide.wanted_reasons(tool, commands, liberties, levels, events, width)
+        says = wide.file_of(tool, commands, text)
+        if ought and compared(says) != compared(ought):
+            yield f"{' '.join(commands)} says {says}, and ought to say {ought}"
+
+
 def slips(tool, name, text, seed, verdict=None):
     """What is wrong with what is said of a trace that is written wide. `verdict` is what `coherent` ought to say of the trace."""
     rng = random.Random(seed)
@@ -98,6 +119,8 @@ def slips(tool, name, text, seed, verdict=None):
                 yield from (f"{name}: {it}" for it in wide.report(tool, [command, "--all", str(most)], told, *found))
             if wide.miscounted(tool, told, *head, written, width):
                 yield f"{name}: cover of {width} bytes counts other situations than those of the narrow trace"
+            for check in misexplained, wide.mischarted:
+                yield from (f"{name} at {width} bytes: {it}" for it in check(tool, told, *head, written, width))
             if not spoil and width == narrow:
                 for command, is_verdict in ("monitor", None), ("coherent", verdict):
                     says = of(tool, command, text=told)

@@ -35,21 +35,21 @@ use tl_reasons::explain::write_both;
 use tl_reasons::explain_fault::ExplainFault;
 
 /// Whether two texts are the same.
-fn is_same(one: &[u8], other: &[u8]) -> bool
+pub fn is_same(one: &[u8], other: &[u8]) -> bool
     ensures { result ≡ true → one.now ≡ other.now }
 {
     one == other
 }
 
 /// Whether both judge all links together, or neither.
-fn is_mode(one: bool, other: bool) -> bool
+pub fn is_mode(one: bool, other: bool) -> bool
     ensures { result ≡ true → one ≡ other }
 {
     one == other
 }
 
 /// Whether the verdict is that the line after these has this fault.
-pub(crate) fn is_verdict(
+pub fn is_verdict(
     alloc: Global,
     count: u64,
     fault: Fault,

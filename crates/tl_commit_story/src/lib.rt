@@ -18,7 +18,7 @@ mod pending;
 mod places;
 mod replay;
 mod reread;
-mod sentences;
+pub mod sentences;
 mod store_line;
 mod stores;
 mod story;

@@ -5,7 +5,7 @@ ghost use Rattle.tl_allowed.specs.code.Known.{Knows};
 ghost use Rattle.tl_beat.specs.declared.beat.Link.{Link};
 ghost use Rattle.tl_beat.specs.statement.Width.{IsWidth};
 ghost use Rattle.tl_commit_story.specs.code.Recording.{KnowsAllowances, KnowsLink, RecordsEvent, TellsLink};
-ghost use Rattle.tl_commit_story.specs.statement.Grounds.{allowance, no_cache_words};
+ghost use Rattle.tl_commit_story.specs.statement.Grounds.{allowance};
 ghost use Rattle.tl_commits.specs.statement.Events.{Events, beats_of};
 ghost use Rattle.tl_events.specs.declared.commit.Commit.{Commit};
 ghost use Rattle.tl_events.specs.declared.commit.Event.TheVariants as event;
@@ -15,6 +15,7 @@ ghost use Rattle.tl_params.specs.declared.rule.Rule.{Rule};
 ghost use Rattle.tl_rules.specs.statement.Conformance.{Trace};
 
 use crate::numbered::{no_beat, no_link};
+use crate::sentences::no_cache_words;
 use std::alloc::{AllocError, Global};
 use tl_allowed::allowances::Allowances;
 use tl_beat::beat::{Beat, Link};
@@ -103,20 +104,6 @@ fn level_at(levels: &[Level], link: Link) -> Option<Level>
     match levels.get(usize::from(link.0)) {
         None => None,
         Some(level) => Some(*level),
-    }
-}
-
-/// The words for a commit of a link that has no cache.
-fn no_cache_words(level: Option<Level>) -> &'static str
-    ensures { result.now ≡ no_cache_words level }
-{
-    match level {
-        None => "  the header names no such link\n",
-        Some(Level::UL) =>
-            "  the link is of level UL; stores and loads are those of caches, on links of level C\n",
-        Some(Level::UH) =>
-            "  the link is of level UH; stores and loads are those of caches, on links of level C\n",
-        Some(Level::C) => "",
     }
 }
 

@@ -1,12 +1,14 @@
 //! The sentences of faults, and the limits of a verdict.
 
 ghost use Rattle.std.specs.Prelude.{◌≡◌, ◌++◌, OnOk};
+ghost use Rattle.tl_commit_story.specs.statement.Grounds.{no_cache_words};
 ghost use Rattle.tl_commit_story.specs.statement.Words;
 
 use std::alloc::AllocError;
 use tl_beat::fault::LineFault;
 use tl_explain::named::{append_memory_sentence, append_sentence};
 use tl_lines::fault::Fault;
+use tl_params::level::Level;
 use tl_reasons::commit_rules::append_commit_sentence;
 
 /// Appends the sentence of the rule that a fault breaks, nothing for another fault.
@@ -68,5 +70,19 @@ pub fn limits(together: bool) -> &'static str
         "  coherent means that no beat breaks a rule of its own link or of memory, and no event a rule of stores and loads; it says nothing about messages that never come, nor about a link that isn't in the trace\n"
     } else {
         "  clean means that no beat breaks a rule of its own link; it says nothing about two links together, nor about the data, nor about stores and loads\n"
+    }
+}
+
+/// The words for a commit of a link that has no cache.
+pub fn no_cache_words(level: Option<Level>) -> &'static str
+    ensures { result.now ≡ no_cache_words level }
+{
+    match level {
+        None => "  the header names no such link\n",
+        Some(Level::UL) =>
+            "  the link is of level UL; stores and loads are those of caches, on links of level C\n",
+        Some(Level::UH) =>
+            "  the link is of level UH; stores and loads are those of caches, on links of level C\n",
+        Some(Level::C) => "",
     }
 }

@@ -5,7 +5,6 @@ use Rattle.std.proofs.lemmas.List.Elements.{All-append, All-cons, All-nil, All-w
 use Rattle.std.specs.Prelude.{IfOk, Option, Some, None, Result, Ok, Err}
 use Rattle.tl_chart.specs.declared.note.Note.{Note}
 use Rattle.tl_chart.specs.declared.window.Window.{Window}
-use Rattle.tl_commit_lines.specs.code.EventWatching.{KnowsEventLines}
 use Rattle.tl_lines.specs.code.Judging.{Ends, Finishes, Judges, Stops}
 use Rattle.tl_lines.specs.code.Progress.{HasAll}
 use Rattle.tl_lines.specs.declared.fault.Fault.{Fault}
@@ -16,6 +15,7 @@ use Rattle.tl_event_chart.specs.code.Drawing.{Draws, DrawsLine, EndsCharted, Has
 use Rattle.tl_event_chart.specs.declared.canvas.Canvas.{Canvas}
 use Rattle.tl_event_chart.specs.declared.lines.ChartedLines.{ChartedLines}
 use Rattle.tl_event_chart.specs.statement.Noted.{AreNoted, IsNoted}
+use Rattle.tl_wide_event_lines.specs.code.EventWatching.{KnowsAnyLines}
 
 -- ---- notes
 
@@ -78,7 +78,7 @@ abbrev Tells : Type 1
 Tells = List (List ℕ) → List ℕ → Status → Type 0
 
 module _ (old new : ChartedLines) (line was is : List ℕ) (tells : Tells) where
-  pub charted-judged : (fault : Option Fault) → Judges KnowsEventLines tells old.lines new.lines line was is fault
+  pub charted-judged : (fault : Option Fault) → Judges KnowsAnyLines tells old.lines new.lines line was is fault
       → DrawsLine old new line → Judges KnowsCharted tells old new line was is fault
   charted-judged None judges draws = λ lines before known. (judges lines before known.0, draws lines known.1)
   charted-judged (Some found) judges draws = λ lines before known more. judges lines before known.0 more
@@ -93,11 +93,11 @@ pub charted-open : (h : ChartedLines) (line : List ℕ) → Ends KnowsCharted En
 charted-open h line = λ lines text known more. drawn-among h.window h.canvas lines (line ∷ more) known.1.has
 
 pub charted-stops : (h : ChartedLines) (line said : List ℕ) (tells : Tells) (found : Fault)
-    → Stops KnowsEventLines tells h.lines line said said found → Stops KnowsCharted tells h line said said found
+    → Stops KnowsAnyLines tells h.lines line said said found → Stops KnowsCharted tells h line said said found
 charted-stops h line said tells found stops = λ lines before known more. stops lines before known.0 more
 
 pub charted-finishes : (h : ChartedLines) (count : ℕ) (was is : List ℕ) (tells : Tells) (fault : Option Fault)
-    → Finishes KnowsEventLines tells h.lines count was is fault → Finishes KnowsCharted tells h count was is fault
+    → Finishes KnowsAnyLines tells h.lines count was is fault → Finishes KnowsCharted tells h count was is fault
 charted-finishes h count was is tells None ends = λ lines before known counted. ends lines before known.0 counted
 charted-finishes h count was is tells (Some found) ends = λ lines before known counted.
     ends lines before known.0 counted

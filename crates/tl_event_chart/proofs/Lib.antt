@@ -1,3 +1,4 @@
 pub mod Drawing
+pub mod NarrowWords
 pub mod Narrowing
 pub mod Verdict

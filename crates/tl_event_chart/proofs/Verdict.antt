@@ -25,6 +25,9 @@ use Rattle.tl_event_chart.specs.declared.canvas.Canvas.{Canvas}
 use Rattle.tl_event_chart.specs.statement.EventCharted.{ChartsEvents, IsChartedBeside}
 use Rattle.tl_event_chart.specs.statement.Noted.{AreNoted}
 use Rattle.tl_params.specs.declared.liberties.Liberties.{Liberties}
+use Rattle.tl_wide.specs.statement.Width.{wide_bytes_of}
+use Rattle.tl_wide_event_lines.specs.statement.JudgedWideEvents.{JudgedAny, JudgedWideEvents}
+use Rattle.tl_wide_events.specs.statement.Narrowed.{WideEvents}
 use Rattle.tl_wide_lines.specs.statement.JudgedTrace.{JudgedTrace, SaidOf}
 
 -- the text is a line
@@ -69,14 +72,31 @@ trace-said allow (line ∷ lines) text status (inl (width, may, levels, names, j
 trace-said allow (line ∷ lines) text status (inr (none, judged)) =
     verdict_ended allow (line ∷ lines) text status judged
 
+commits-said : (allow : Liberties) (lines : List (List ℕ)) (text : List ℕ) (status : Status)
+    → JudgedCommits false allow lines text status → IsSaid text
+commits-said allow [] text status judged = trace-said allow [] text status judged
+commits-said allow (line ∷ lines) text status (inl (width, may, links, names, judged)) =
+    events-said _ links may [] lines text status judged
+commits-said allow (line ∷ lines) text status (inr (none, judged)) =
+    trace-said allow (line ∷ lines) text status judged
+
+wide-events-said : (w : ℕ) (links : List MarkedLevel) (may : Liberties) (t : WideEvents w) (lines : List (List ℕ))
+    (text : List ℕ) (status : Status) → JudgedWideEvents w false links may t lines text status → IsSaid text
+unfolding JudgedWideEvents
+wide-events-said w links may t [] text status (is, clean) = clean-said (length t) text is
+wide-events-said w links may t (line ∷ lines) text status (inl (link, x, spells, good, judged)) =
+    wide-events-said w links may ((link, x) ∷ t) lines text status judged
+wide-events-said w links may t (line ∷ lines) text status (inr (found, at, is, broken)) =
+    fault-said (length t + 2) found text is
+
 -- a verdict is a line
 pub verdict-said : (allow : Liberties) (lines : List (List ℕ)) (text : List ℕ) (status : Status)
-    → JudgedCommits false allow lines text status → IsSaid text
-verdict-said allow [] text status judged = trace-said allow [] text status judged
+    → JudgedAny false allow lines text status → IsSaid text
+verdict-said allow [] text status judged = commits-said allow [] text status judged
 verdict-said allow (line ∷ lines) text status (inl (width, may, links, names, judged)) =
-    events-said _ links may [] lines text status judged
+    wide-events-said (wide_bytes_of width) links may [] lines text status judged
 verdict-said allow (line ∷ lines) text status (inr (none, judged)) =
-    trace-said allow (line ∷ lines) text status judged
+    commits-said allow (line ∷ lines) text status judged
 
 -- ---- the chart
 
@@ -108,8 +128,8 @@ charted-beside win lines canvas names notes text said verdict broken status old 
 -- what was read has its verdict, and this chart
 pub charts-events : (allow : Liberties) (win : Window) (had left : Option (List ℕ)) (canvas : Canvas)
     (verdict text : List ℕ) (status : Status) (chart : List ℕ) → (read : List ℕ) × Consumes had left read
-    × JudgedCommits false allow (lines_of read) verdict status
-    × EndsAs (JudgedCommits false allow) left read verdict status × HasNotes canvas win (lines_of read)
+    × JudgedAny false allow (lines_of read) verdict status
+    × EndsAs (JudgedAny false allow) left read verdict status × HasNotes canvas win (lines_of read)
     → text ≡ verdict
     → ((asked : Window) (lines : List (List ℕ)) (said : List ℕ) → HasNotes canvas asked lines
     → text ≡ said ++ codes "\n" → IsChartedBeside asked lines text status chart)

@@ -1,2 +1,3 @@
 pub mod EventCharted
 pub mod Noted
+pub mod WideWords

@@ -2,12 +2,14 @@
 
 ghost use Rattle.std.specs.Prelude.{◌≡◌, ◌≤◌, [], List, ℕ, IfOk, OnOk};
 ghost use Rattle.tl_commit_story.specs.code.Stored.{piece_in};
-ghost use Rattle.tl_event_chart.specs.code.Drawing.{Draws, DrawsBeats, Narrows};
-ghost use Rattle.tl_event_chart.specs.statement.Noted.{is_store};
+ghost use Rattle.tl_event_chart.specs.code.Drawing.{Draws, DrawsBeats, FindsPlace, Narrows};
+ghost use Rattle.tl_event_chart.specs.code.Widened.{wide_piece_in};
+ghost use Rattle.tl_event_chart.specs.statement.Noted.{is_store, is_wide_store};
 ghost use Rattle.tl_events.specs.statement.CommitLine.{SpellsCommit};
+ghost use Rattle.tl_wide_events.specs.statement.WideCommitLine.{SpellsWideCommit};
 
 use crate::naming::{name_part, new_table};
-use crate::words::words_of;
+use crate::words::{wide_words_of, words_of};
 use std::alloc::{AllocError, Global};
 use tl_beat::beat::{Beat, Link};
 use tl_chart::arrow::Arrow;
@@ -18,6 +20,7 @@ use tl_chart::window::Window;
 use tl_events::commit::{Commit, Piece};
 use tl_params::key::block_at;
 use tl_wide::beat::WideBeat;
+use tl_wide_events::commit::WideCommit;
 
 /// No block of a trace has this number.
 const NO_BLOCK: u32 = u32::MAX;
@@ -37,7 +40,7 @@ pub struct Canvas {
 }
 
 /// The bytes that a commit reaches.
-fn piece_of(commit: Commit) -> Piece
+pub fn piece_of(commit: Commit) -> Piece
     ensures { result ≡ piece_in commit }
 {
     match commit {
@@ -52,6 +55,13 @@ fn is_full(commit: Commit) -> bool
     ensures { result ≡ is_store commit }
 {
     matches!(commit, Commit::Store { .. })
+}
+
+/// The same in a wide trace.
+fn is_full_wide(commit: WideCommit) -> bool
+    ensures { result ≡ is_wide_store commit }
+{
+    matches!(commit, WideCommit::Store { .. })
 }
 
 /// This window, with a block that no trace has in place of its block.
@@ -130,10 +140,10 @@ impl Canvas {
     ) -> Result<(), AllocError>
         ensures { DrawsBeats self.old self.new }
     {
+        self.watch_part(beat, part);
         if self.gatherer.is_closed() {
             return Ok(());
         }
-        self.watch_part(beat, part);
         match &mut self.names {
             Names::Own => Ok(()),
             Names::Written(table) => name_part(table, link, beat, part),
@@ -149,30 +159,66 @@ impl Canvas {
         Ok(())
     }
 
+    /// Whether a store to the block of this number, or a load from it, is drawn in the line of this number. One that follows
+    /// those that are drawn is counted. If there are too many, drawing ends before it.
+    fn place_note(&mut self, number: u64, block: u32) -> Result<bool, AllocError>
+        ensures { IfOk result (FindsPlace self.old self.new number) }
+    {
+        let window = self.gatherer.window;
+        if number < window.first || !window.shows(Some(block)) {
+            return Ok(false);
+        }
+        if self.gatherer.is_closed() || number > window.last {
+            self.skip_note()?;
+            return Ok(false);
+        }
+        if self.notes.len() >= usize::from(window.most) {
+            self.gatherer.window.last = number.saturating_sub(1);
+            self.skip_note()?;
+            return Ok(false);
+        }
+        Ok(true)
+    }
+
     /// Draws a commit of a link, in the line of this number. If there are too many, drawing ends before it.
     pub fn note(&mut self, link: Link, number: u64, commit: Commit) -> Result<(), AllocError>
         requires { (piece_in commit).size ≤ 3 }
         ensures { OnOk result ((line : List ℕ) → SpellsCommit line link commit →
             Draws self.old self.new number line) }
     {
-        let window = self.gatherer.window;
-        let block = block_at(piece_of(commit).address);
-        if number < window.first || !window.shows(Some(block)) {
-            return Ok(());
+        if self.place_note(number, block_at(piece_of(commit).address))? {
+            self.notes.push(Note {
+                link,
+                line: number,
+                full: is_full(commit),
+                words: words_of(link, commit),
+            })?;
         }
-        if self.gatherer.is_closed() || number > window.last {
-            return self.skip_note();
+        Ok(())
+    }
+
+    /// Draws a commit of a link in a wide trace, whose block has this number, in the line of this number. If there are too many,
+    /// drawing ends before it.
+    pub fn note_wide(
+        &mut self,
+        link: Link,
+        number: u64,
+        commit: WideCommit,
+        block: u32,
+    ) -> Result<(), AllocError>
+        requires { (wide_piece_in commit).size ≤ 3 }
+        ensures { OnOk result ((line : List ℕ) → SpellsWideCommit line link commit →
+            Draws self.old self.new number line) }
+    {
+        self.watch(commit.address() / 64, block);
+        if self.place_note(number, block)? {
+            self.notes.push(Note {
+                link,
+                line: number,
+                full: is_full_wide(commit),
+                words: wide_words_of(link, commit),
+            })?;
         }
-        if self.notes.len() >= usize::from(window.most) {
-            self.gatherer.window.last = number.saturating_sub(1);
-            return self.skip_note();
-        }
-        self.notes.push(Note {
-            link,
-            line: number,
-            full: is_full(commit),
-            words: words_of(link, commit),
-        })?;
         Ok(())
     }
 

@@ -3,7 +3,6 @@
 ghost use Rattle.std.specs.Prelude.{◌≡◌, ◌≢◌, ◌++◌, ◌-◌, [], ℕ, List, IfErr, IfOk, codes, false, length, take};
 ghost use Rattle.std.specs.Io.KnownBytes.{Appends, Consumes};
 ghost use Rattle.tl_chart.specs.declared.window.Window.{Window};
-ghost use Rattle.tl_commit_lines.specs.statement.JudgedEvents.{JudgedCommits};
 ghost use Rattle.tl_lines.specs.code.Progress.{HasAll};
 ghost use Rattle.tl_lines.specs.declared.status.ToolFault.{ToolFault};
 ghost use Rattle.tl_engine.specs.statement.Charted.{is_broken};
@@ -11,6 +10,7 @@ ghost use Rattle.tl_lines.specs.statement.Lines.{lines_of};
 ghost use Rattle.tl_lines.specs.statement.Run.{EndsAs};
 ghost use Rattle.tl_event_chart.specs.statement.EventCharted.{ChartsEvents, GivesUpChartingEvents, IsChartedBeside};
 ghost use Rattle.tl_event_chart.specs.code.Drawing.{HasNotes};
+ghost use Rattle.tl_wide_event_lines.specs.statement.JudgedWideEvents.{JudgedAny};
 
 use crate::canvas::Canvas;
 use crate::lines::ChartedLines;
@@ -58,8 +58,8 @@ fn gather<R: Read>(
 ) -> Result<(ChartedLines, Status), ToolFault>
     requires { verdict.old.items ≡ [] }
     ensures ok { IfOk result (λ both. (read : List ℕ) × Consumes (R.remaining reader.old) (R.remaining reader.new) read
-        × JudgedCommits false allow (lines_of read) verdict.new.items both.1
-        × EndsAs (JudgedCommits false allow) (R.remaining reader.new) read verdict.new.items both.1
+        × JudgedAny false allow (lines_of read) verdict.new.items both.1
+        × EndsAs (JudgedAny false allow) (R.remaining reader.new) read verdict.new.items both.1
         × HasNotes both.0.canvas window (lines_of read)) }
     ensures fault { IfErr result (λ fault. fault ≢ ToolFault.Write) }
 {

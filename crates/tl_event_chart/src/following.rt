@@ -11,13 +11,13 @@ use std::alloc::{AllocError, Global};
 use tl_chart::window::Window;
 use tl_commit_lines::header::{CommitHeader, read_marked_for};
 use tl_commit_lines::judge::levels_of;
-use tl_lines::links_header::LinksHeader;
 use tl_monitor::monitor::Monitor;
 use tl_params::level::Level;
 use tl_params::liberties::Liberties;
 use tl_params::width::Width;
 use tl_wide::width::WideWidth;
-use tl_wide_lines::header::{WideHeader, read_wide_for};
+use tl_wide_event_lines::header::{WideCommitHeader, read_wide_marked_for};
+use tl_wide_lines::header::read_wide_for;
 
 /// Follows the beats of a trace, by their width.
 #[derive(Drop)]
@@ -45,15 +45,24 @@ fn monitor_of<const W: usize>(
     Monitor::with_liberties(alloc, levels, may).map_err(|_| AllocError)
 }
 
+/// The links of a wide trace.
+#[derive(Clone, Copy)]
+struct WideLinks<'a> {
+    levels: &'a [Level],
+    may: Liberties,
+    /// Whether their stores and loads are in the trace.
+    has_commits: bool,
+}
+
 /// Follows the wide beats of links.
 fn wide_of<const P: usize>(
     alloc: Global,
-    links: &LinksHeader,
+    links: WideLinks<'_>,
 ) -> Result<WideFollower<P>, AllocError>
     requires { IsWidth P }
 {
-    let monitor = monitor_of(alloc, links.levels.as_slice(), links.may)?;
-    Ok(WideFollower::new(alloc, monitor))
+    let monitor = monitor_of(alloc, links.levels, links.may)?;
+    Ok(WideFollower::new(alloc, monitor, links.has_commits))
 }
 
 /// The number of beats that a beat with data becomes.
@@ -65,10 +74,13 @@ fn parts_of(width: WideWidth) -> u8 {
     }
 }
 
-/// Follows the wide beats after a header.
-fn begin_wide(alloc: Global, header: &WideHeader) -> Result<Following, AllocError> {
-    let links = &header.links;
-    let following = match header.width {
+/// Follows the wide beats of links of this width.
+fn begin_wide(
+    alloc: Global,
+    width: WideWidth,
+    links: WideLinks<'_>,
+) -> Result<Following, AllocError> {
+    let following = match width {
         WideWidth::Four => Following::WideFour(wide_of(alloc, links)?),
         WideWidth::Eight => Following::WideEight(wide_of(alloc, links)?),
         WideWidth::Sixteen => Following::WideSixteen(wide_of(alloc, links)?),
@@ -92,6 +104,38 @@ fn begin_events(
     Ok(following)
 }
 
+/// Begins to draw after a header of wide beats, with this width and these links.
+fn begin_canvas(
+    alloc: Global,
+    width: WideWidth,
+    links: WideLinks<'_>,
+    window: Window,
+) -> Result<(Following, Canvas), AllocError>
+    ensures notes { IfOk result (λ both. both.1.notes.items ≡ []) }
+    ensures window { IfOk result (λ both. Narrows window both.1.gatherer.window) }
+{
+    let canvas = Canvas::of_wide(alloc, links.levels.len(), window, parts_of(width))?;
+    Ok((begin_wide(alloc, width, links)?, canvas))
+}
+
+/// Begins to draw after a header of a wide trace with stores and loads.
+fn begin_wide_events(
+    alloc: Global,
+    header: &WideCommitHeader,
+    window: Window,
+) -> Result<(Following, Canvas), AllocError>
+    ensures notes { IfOk result (λ both. both.1.notes.items ≡ []) }
+    ensures window { IfOk result (λ both. Narrows window both.1.gatherer.window) }
+{
+    let levels = levels_of(alloc, header.narrow.links.as_slice())?;
+    let links = WideLinks {
+        levels: levels.as_slice(),
+        may: header.narrow.may,
+        has_commits: true,
+    };
+    begin_canvas(alloc, header.width, links, window)
+}
+
 /// Begins to draw after a header of wide beats or of stores and loads. After another line nothing is drawn.
 pub fn begin(
     alloc: Global,
@@ -103,9 +147,15 @@ pub fn begin(
     ensures window { IfOk result (λ both. Narrows window both.1.gatherer.window) }
 {
     if let Some(header) = read_wide_for(allow, line) {
-        let count = header.links.levels.len();
-        let canvas = Canvas::of_wide(alloc, count, window, parts_of(header.width))?;
-        return Ok((begin_wide(alloc, &header)?, canvas));
+        let links = WideLinks {
+            levels: header.links.levels.as_slice(),
+            may: header.links.may,
+            has_commits: false,
+        };
+        return begin_canvas(alloc, header.width, links, window);
+    }
+    if let Some(header) = read_wide_marked_for(allow, line) {
+        return begin_wide_events(alloc, &header, window);
     }
     if let Some(header) = read_marked_for(allow, line) {
         let levels = levels_of(alloc, header.links.as_slice())?;

@@ -9,4 +9,4 @@ mod following;
 mod lines;
 mod naming;
 mod wide;
-mod words;
+pub mod words;

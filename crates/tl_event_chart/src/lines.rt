@@ -1,22 +1,22 @@
 //! Judges the lines of a trace, and draws them.
 
 ghost use Rattle.std.specs.Prelude.{◌≡◌, [], false, IfOk, OnOk};
-ghost use Rattle.tl_commit_lines.specs.code.EventWatching.{KnowsEventLines, events_judged_for};
 ghost use Rattle.tl_event_chart.specs.code.Drawing.{DrawsLine, KnowsNotes, Narrows};
+ghost use Rattle.tl_wide_event_lines.specs.code.EventWatching.{KnowsAnyLines, any_judged_for};
 
 use crate::canvas::Canvas;
 use crate::following::{Following, begin};
 use std::alloc::{AllocError, Global};
 use tl_chart::window::Window;
-use tl_commit_lines::lines::EventLines;
 use tl_lines::fault::Fault;
 use tl_lines::line_handler::LineHandler;
 use tl_params::liberties::Liberties;
+use tl_wide_event_lines::lines::WideEventLines;
 
 /// Judges the lines of a trace, each link by itself, and draws them.
 #[derive(Drop)]
 pub struct ChartedLines {
-    lines: EventLines,
+    lines: WideEventLines,
     alloc: Global,
     /// The liberties of the links beyond those that the header names.
     allow: Liberties,
@@ -30,14 +30,14 @@ pub struct ChartedLines {
 impl ChartedLines {
     /// No line has been read. `allow` is added to the liberties that the header names.
     pub fn new(alloc: Global, allow: Liberties, window: Window) -> Result<Self, AllocError>
-        ensures knows { IfOk result (λ h. KnowsEventLines h.lines [] []) }
+        ensures knows { IfOk result (λ h. KnowsAnyLines h.lines [] []) }
         ensures notes { IfOk result (λ h. KnowsNotes h []) }
-        ensures purpose { IfOk result (λ h. events_judged_for h.lines ≡ (false, allow)) }
+        ensures purpose { IfOk result (λ h. any_judged_for h.lines ≡ (false, allow)) }
         ensures asked { IfOk result (λ h. h.window ≡ window) }
     {
         let canvas = Canvas::new(alloc, 0, window)?;
         Ok(ChartedLines {
-            lines: EventLines::new(alloc, false, allow),
+            lines: WideEventLines::new(alloc, false, allow),
             alloc,
             allow,
             window,
@@ -79,18 +79,18 @@ impl ChartedLines {
 
 impl LineHandler for ChartedLines {
     ghost use Rattle.std.specs.Prelude.{Bool};
-    ghost use Rattle.tl_commit_lines.specs.statement.JudgedEvents.{JudgedCommits};
     ghost use Rattle.tl_chart.specs.declared.window.Window.{Window};
     ghost use Rattle.tl_event_chart.specs.code.Drawing.{EndsCharted, KnowsCharted};
     ghost use Rattle.tl_params.specs.declared.liberties.Liberties.{Liberties};
+    ghost use Rattle.tl_wide_event_lines.specs.statement.JudgedWideEvents.{JudgedAny};
 
     ghost knows = { KnowsCharted };
 
     ghost Purpose = { (Bool × Liberties) × Window };
 
-    ghost purpose = { λ h. (events_judged_for h.lines, h.window) };
+    ghost purpose = { λ h. (any_judged_for h.lines, h.window) };
 
-    ghost tells = { λ p. JudgedCommits p.0.0 p.0.1 };
+    ghost tells = { λ p. JudgedAny p.0.0 p.0.1 };
 
     ghost ends = { EndsCharted };
 

@@ -1,4 +1,4 @@
-mod Lessons
+pub mod Lessons
 mod Stories
 mod WideExplaining
-mod WideReplaying
+pub mod WideReplaying

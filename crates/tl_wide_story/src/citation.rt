@@ -104,8 +104,23 @@ pub struct WideWording<const W: usize> {
     pub ghost width: { IsTrue (is_wide_width W) },
 }
 
+impl<const W: usize> WideWording<W> {
+    /// Keeps the address of the block that the verdict is about: that of the beat at fault, or of the request that it
+    /// may answer. `same_link` says that a beat is of the link of the beat at fault.
+    pub fn note_address(&mut self, at_fault: bool, same_link: bool, beat: &WideBeat<W>) {
+        match beat {
+            WideBeat::A(x) if at_fault || same_link && x.source == self.source => {
+                self.address = x.address;
+            }
+            WideBeat::B(x) if at_fault => self.address = x.address,
+            WideBeat::C(x) if at_fault => self.address = x.address,
+            _ => {}
+        }
+    }
+}
+
 /// Appends the words of a cited line, after its number.
-fn append_cited<const W: usize>(spelling: &Spelling, out: &mut Vec<u8>) -> io::Result<()>
+pub fn append_cited<const W: usize>(spelling: &Spelling, out: &mut Vec<u8>) -> io::Result<()>
     requires { IsWideWidth W }
 {
     let number = number_of(spelling);

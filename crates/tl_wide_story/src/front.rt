@@ -15,7 +15,7 @@ use tl_wide_lines::text::append_wide_text;
 
 #[tactic(auto, unfolding(crate::specs::statement::WideExplained::wide_beat_line))]
 /// Appends the readable line of a wide beat, after the number of its line.
-fn append_wide_beat_line<const W: usize>(
+pub fn append_wide_beat_line<const W: usize>(
     number: u64,
     link: Link,
     beat: &WideBeat<W>,

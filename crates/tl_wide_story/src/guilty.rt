@@ -13,7 +13,7 @@ use tl_rules::rule::Rule;
 
 /// Forgets the words of a rule after the first `before` bytes, if they show a mask that is in no line: that of a part of more
 /// than one.
-fn forget_mask<const W: usize>(rule: Rule, before: usize, grounds: &mut Vec<u8>) {
+pub fn forget_mask<const W: usize>(rule: Rule, before: usize, grounds: &mut Vec<u8>) {
     if rule == Rule::L5 && W > 16 {
         grounds.truncate(before);
     }

@@ -1,17 +1,17 @@
 //! Explains the verdict on a recorded trace of wide beats.
 #![tactic(auto)]
 
-mod allowed_beats;
-mod citation;
+pub mod allowed_beats;
+pub mod citation;
 mod examine;
 pub mod explain;
-mod front;
-mod guilty;
+pub mod front;
+pub mod guilty;
 mod learner;
 mod lesson;
 mod memory_beats;
 mod numbering;
-mod pending_beats;
+pub mod pending_beats;
 mod places;
 mod replay;
 mod reread;

@@ -73,14 +73,7 @@ impl<const W: usize> WideReplay<W> {
         ensures { IsNoted self.old self.new }
     {
         let same_link = link == self.recorder.subject.link;
-        match beat {
-            WideBeat::A(x) if at_fault || same_link && x.source == self.wording.source => {
-                self.wording.address = x.address;
-            }
-            WideBeat::B(x) if at_fault => self.wording.address = x.address,
-            WideBeat::C(x) if at_fault => self.wording.address = x.address,
-            _ => {}
-        }
+        self.wording.note_address(at_fault, same_link, beat);
     }
 
     /// Records a part of a wide beat. Returns true if it can be recorded.

@@ -34,6 +34,7 @@ use Rattle.tl_report.specs.statement.Said.{GivesUpSearching, Searches, all_text,
 use Rattle.tl_wide.specs.declared.width.WideWidth.{WideWidth}
 use Rattle.tl_wide.specs.statement.Width.{wide_bytes_of}
 use Rattle.tl_wide_event_lines.specs.statement.JudgedWideEvents.{AnySoFar, JudgedAny}
+use Rattle.tl_wide_event_story.specs.statement.WideEventsExplained.{GivesUpAny, ReachesBoth as ReachesBothWideEvents}
 use Rattle.tl_wide_lines.specs.statement.WideDecoded.{DecodedSoFar, DecodedWide}
 use Rattle.tl_wide_story.specs.statement.WideExplained.{GivesUpWide, ReachesBoth}
 
@@ -119,6 +120,15 @@ EndsExplainedCommits together allow had left had_again left_again held holds sta
     × IfOk outcome (λ judged. (text : List ℕ)
     × ReachesBothEvents together allow had left had_again left_again text judged × Appends held holds text)
     × IfErr outcome (GivesUpEvents together allow had left had_again left_again held holds)
+
+-- The same of a wide trace with stores and loads.
+abbrev pub EndsExplainedWideEvents : Bool → Liberties → Option (List ℕ) → Option (List ℕ) → Option (List ℕ)
+    → Option (List ℕ) → Option (List ℕ) → Option (List ℕ) → ℕ → Type 0
+EndsExplainedWideEvents together allow had left had_again left_again held holds status =
+    (outcome : Result Status ExplainFault) × (status ≡ explain_status outcome)
+    × IfOk outcome (λ judged. (text : List ℕ)
+    × ReachesBothWideEvents together allow had left had_again left_again text judged × Appends held holds text)
+    × IfErr outcome (GivesUpAny together allow had left had_again left_again held holds)
 
 -- For this reason it was given up to say which liberties would allow the beat. Only with `Write` was anything written.
 abbrev pub GivesUpAllowing : Liberties → Option (List ℕ) → Option (List ℕ) → Option (List ℕ) → Option (List ℕ) → ToolFault → Type 0

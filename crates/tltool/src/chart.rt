@@ -3,7 +3,7 @@
 ghost use Rattle.tltool.specs.Ended.{EndsCharted, EndsChartedEvents};
 
 use crate::front::front_of;
-use crate::wide_commits::{is_wide_commits, refuse_chart};
+use crate::wide_commits::is_wide_commits;
 use crate::{told, unopened};
 use std::io::{Read, Write};
 use std::{fs, io};
@@ -45,7 +45,7 @@ fn chart_events_over<R: Read, W: Write>(
 
 /// Whether a first line is a header of wide beats, or of a trace with stores and loads.
 fn is_of_events(line: &[u8]) -> bool {
-    read_wide(line).is_some() || read_marked(line).is_some()
+    read_wide(line).is_some() || read_marked(line).is_some() || is_wide_commits(line)
 }
 
 /// Draws the trace that a reader has, by its header.
@@ -57,9 +57,6 @@ fn chart_whole<R: Read + Drop>(
 ) -> u8 {
     let mut output = io::writer(rt);
     let front = front_of(&mut input);
-    if is_wide_commits(front.as_slice()) {
-        return refuse_chart(rt);
-    }
     let mut whole = front.as_slice().chain(input);
     if is_of_events(front.as_slice()) {
         chart_events_over(rt, allow, window, &mut whole, &mut output)

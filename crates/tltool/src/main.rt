@@ -44,7 +44,7 @@ use tl_report::find::find_all;
 use tl_wide_event_lines::run::run_any;
 use tl_words::words::{WordsFault, invocation, usage_status};
 use wide::{explain_wide_over, is_wide_file};
-use wide_commits::{explain_verdict, is_wide_commits_file};
+use wide_commits::{explain_wide_events_over, is_wide_commits_file};
 
 /// The exit status of a run. Its fault is printed on standard error.
 pub(crate) fn told(rt: &HostRuntime, outcome: Result<Status, ToolFault>) -> u8
@@ -223,12 +223,12 @@ pub(crate) fn explain<W: Write>(
         let _ = write_once(name, &mut rt.stderr());
         return exit_of(&Err(ToolFault::Read));
     }
-    if is_wide_commits_file(rt, name) {
-        return explain_verdict(rt, coherent, allow, &mut first, output);
-    }
     let Ok(mut second) = fs::open(rt, name) else {
         return unopened(rt, name);
     };
+    if is_wide_commits_file(rt, name) {
+        return explain_wide_events_over(rt, coherent, allow, name, &mut first, &mut second, output);
+    }
     if is_wide_file(rt, name) {
         return explain_wide_over(rt, coherent, allow, name, &mut first, &mut second, output);
     }

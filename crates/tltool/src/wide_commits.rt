@@ -1,12 +1,15 @@
-//! Wide traces with stores and loads, of which `explain` writes the verdict alone, and which `chart` doesn't draw.
+//! Explains the verdict on a wide trace with stores and loads.
+
+ghost use Rattle.std.specs.Prelude.{◌≡◌};
+ghost use Rattle.tltool.specs.Ended.{EndsExplainedWideEvents};
 
 use crate::front::front_of;
-use crate::told;
+use crate::told_explained;
 use std::fs;
 use std::io::{Read, Write};
 use tl_params::liberties::Liberties;
 use tl_wide_event_lines::header::read_wide_marked;
-use tl_wide_event_lines::run::run_any;
+use tl_wide_event_story::explain::explain_wide_events;
 
 /// Whether a first line is the header of a wide trace with stores and loads.
 pub(crate) fn is_wide_commits(line: &[u8]) -> bool {
@@ -21,23 +24,20 @@ pub(crate) fn is_wide_commits_file(rt: &HostRuntime, name: &str) -> bool {
     is_wide_commits(front_of(&mut file).as_slice())
 }
 
-/// Writes the verdict on such a trace, and says on standard error that it is all. Returns the exit status.
-pub(crate) fn explain_verdict<R: Read, W: Write>(
+/// Explains the file of this name, a wide trace with stores and loads, of which these are two readers. These liberties are
+/// allowed beyond those that its header names. Returns the exit status.
+pub(crate) fn explain_wide_events_over<R: Read, S: Read, W: Write>(
     rt: &HostRuntime,
     coherent: bool,
     allow: Liberties,
-    input: &mut R,
+    name: &str,
+    first: &mut R,
+    second: &mut S,
     output: &mut W,
-) -> u8 {
-    let outcome = run_any(rt.alloc(), coherent, allow, input, output);
-    let _ = rt.eprintln(
-        "tltool: explain writes the verdict alone of a wide trace with stores and loads",
-    );
-    told(rt, outcome)
-}
-
-/// Says on standard error that such a trace isn't drawn. Returns the exit status.
-pub(crate) fn refuse_chart(rt: &HostRuntime) -> u8 {
-    let _ = rt.eprintln("tltool: chart doesn't draw wide traces with stores and loads");
-    2
+) -> u8
+    ensures { EndsExplainedWideEvents coherent allow (R.remaining first.old) (R.remaining first.new)
+        (S.remaining second.old) (S.remaining second.new) (W.contents output.old) (W.contents output.new) result }
+{
+    let outcome = explain_wide_events(rt.alloc(), coherent, allow, first, second, output);
+    told_explained(rt, name, outcome)
 }

@@ -7,7 +7,6 @@ use Rattle.tl_chart.specs.declared.note.Note.{Note}
 use Rattle.tl_chart.specs.declared.window.Window.{Window}
 use Rattle.tl_chart.specs.statement.Chart.{IsChartBeside}
 use Rattle.tl_chart.specs.statement.Drawn.{Drawn}
-use Rattle.tl_commit_lines.specs.statement.JudgedEvents.{JudgedCommits}
 use Rattle.tl_lines.specs.declared.status.Status.{Status}
 use Rattle.tl_lines.specs.declared.status.ToolFault.{ToolFault}
 use Rattle.tl_lines.specs.declared.status.ToolFault.TheVariants.{Write}
@@ -17,6 +16,7 @@ use Rattle.tl_lines.specs.statement.Parts.{AppendsShort}
 use Rattle.tl_lines.specs.statement.Run.{EndsAs}
 use Rattle.tl_event_chart.specs.statement.Noted.{AreNoted}
 use Rattle.tl_params.specs.declared.liberties.Liberties.{Liberties}
+use Rattle.tl_wide_event_lines.specs.statement.JudgedWideEvents.{JudgedAny}
 
 -- The text is the chart of a drawing from the first line of the window on, with names, and with this verdict below it.
 -- Beside it are notes, each of which is a store or a load of these lines, within the window.
@@ -37,8 +37,8 @@ pub record IsChartedBeside (win : Window) (lines : List (List ℕ)) (verdict : L
 -- The verdict is that of `monitor` with the same `--allow`.
 abbrev pub ChartsEvents : Liberties → Window → Option (List ℕ) → Option (List ℕ) → Status → List ℕ → Type 0
 ChartsEvents allow win had left status chart =
-    (read verdict : List ℕ) × Consumes had left read × JudgedCommits false allow (lines_of read) verdict status
-    × EndsAs (JudgedCommits false allow) left read verdict status × IsChartedBeside win (lines_of read) verdict status
+    (read verdict : List ℕ) × Consumes had left read × JudgedAny false allow (lines_of read) verdict status
+    × EndsAs (JudgedAny false allow) left read verdict status × IsChartedBeside win (lines_of read) verdict status
     chart
 
 -- Charting ended with this fault. `Write`: the trace was judged, and the writer took only a front of the chart.

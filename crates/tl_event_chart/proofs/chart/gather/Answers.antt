@@ -1,6 +1,6 @@
 use Rattle.std.proofs.Common.{◌≡◌, ◌∙◌, Bool, ap, subst}
 use Rattle.tl_chart.specs.declared.window.Window.{Window}
-use Rattle.tl_commit_lines.specs.statement.JudgedEvents.{JudgedCommits}
+use Rattle.tl_wide_event_lines.specs.statement.JudgedWideEvents.{JudgedAny}
 use Rattle.tl_lines.specs.statement.Lines.{lines_of}
 use Rattle.tl_lines.specs.statement.Run.{EndsAs}
 use Rattle.tl_params.specs.declared.liberties.Liberties.{Liberties}
@@ -18,9 +18,9 @@ returns-clause-ok g c = if-both c.judged.result (λ both ok purpose.
     ap (λ (p : (Bool × Liberties) × Window). p.1) purpose ∙ c.in_ok-handler.ensures.asked in (
       read,
       consumed,
-      subst (λ (p : Bool × Liberties). JudgedCommits p.0 p.1 (lines_of read) c.judged.new.text.items both.1)
+      subst (λ (p : Bool × Liberties). JudgedAny p.0 p.1 (lines_of read) c.judged.new.text.items both.1)
           c.in_ok-handler.ensures.purpose judged,
-      subst (λ (p : Bool × Liberties). EndsAs (JudgedCommits p.0 p.1) (g.R.Read.remaining c.judged.new.reader) read
+      subst (λ (p : Bool × Liberties). EndsAs (JudgedAny p.0 p.1) (g.R.Read.remaining c.judged.new.reader) read
           c.judged.new.text.items both.1)
           c.in_ok-handler.ensures.purpose ended,
       subst (λ (w : Window). HasNotes both.0.canvas w (lines_of read)) asked

@@ -1,12 +1,12 @@
-use Rattle.tl_commit_lines.specs.code.EventWatching.{events_judged_for}
-use Rattle.tl_commit_lines.specs.statement.JudgedEvents.{JudgedCommits}
+use Rattle.tl_wide_event_lines.specs.code.EventWatching.{any_judged_for}
+use Rattle.tl_wide_event_lines.specs.statement.JudgedWideEvents.{JudgedAny}
 use Rattle.tl_event_chart.proofs.Drawing.{charted-open, charted-stops}
 use Rattle.tl_event_chart.proofs.lines.ChartedLinesLineHandler.open_fault.Goals as goal
 
 pub returns-clause-stops : goal.returns-clause-stops
 returns-clause-stops c = λ line said is.
     charted-stops c.args.self.now line said
-    (JudgedCommits (events_judged_for c.args.self.now.lines).0 (events_judged_for c.args.self.now.lines).1)
+    (JudgedAny (any_judged_for c.args.self.now.lines).0 (any_judged_for c.args.self.now.lines).1)
     c.open_fault.result (c.open_fault.ensures.stops line said is)
 
 pub returns-clause-ends : goal.returns-clause-ends

@@ -1,0 +1,2 @@
+mod Retold
+mod Storied

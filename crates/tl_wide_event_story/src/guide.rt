@@ -1,0 +1,225 @@
+//! Follows the events of a wide trace by the events that they become, for the grounds of its first fault.
+
+ghost use Rattle.std.specs.Prelude.{◌≡◌};
+ghost use Rattle.tl_beat.specs.statement.Width.{IsWidth};
+ghost use Rattle.tl_events.specs.statement.CommitLine.{IsCommit};
+ghost use Rattle.tl_wide.specs.statement.Width.{IsWideWidth, part_width};
+ghost use Rattle.tl_wide_event_lines.specs.code.EventJudging.{IsValid};
+ghost use Rattle.tl_wide_events.specs.statement.WideCommitLine.{IsWideCommit};
+
+use crate::copy_guide::{CopyGuide, Passing};
+use crate::link_guide::LinkGuide;
+use arrayvec::ArrayVec;
+use std::alloc::{AllocError, Global};
+use tl_beat::beat::{Beat, Link};
+use tl_commit_lines::header::CommitHeader;
+use tl_commit_lines::judge::complete_of;
+use tl_events::commit::Commit;
+use tl_lines::fault::Fault;
+use tl_lines::links_header::LinksHeader;
+use tl_wide::beat::WideBeat;
+use tl_wide::narrow::Narrower;
+use tl_wide::parts::Parts;
+use tl_wide_events::commit::{WideCommit, WideEvent};
+use tl_wide_events::narrow::narrow_commit;
+use tl_wide_lines::judge::Clue;
+use tl_wide_story::citation::citation;
+
+/// Follows events for the grounds of a fault.
+#[derive(Drop)]
+pub enum Kind<const W: usize, const P: usize> {
+    /// For a rule of a link.
+    OfLink(LinkGuide<W, P>),
+    /// For a rule of stores and loads.
+    OfCopy(CopyGuide<P>),
+    /// For another fault.
+    OfNothing,
+}
+
+/// The numbers of the names of a wide trace, and the facts of its events that the grounds need.
+#[derive(Drop)]
+pub struct Guide<const W: usize, const P: usize> {
+    pub alloc: Global,
+    pub narrower: Narrower,
+    pub fault: Fault,
+    pub kind: Kind<W, P>,
+}
+
+/// The header without the marks of its links.
+pub fn plain_of(header: &CommitHeader) -> LinksHeader {
+    let mut levels = ArrayVec::new();
+    for link in header.links.as_slice() {
+        let _ = levels.try_push(link.level);
+    }
+    LinksHeader {
+        width: header.width,
+        may: header.may,
+        levels,
+    }
+}
+
+/// Follows events for a fault, before any event of the links that a header names. None if the header has no such link.
+fn kind_of<const W: usize, const P: usize>(
+    alloc: Global,
+    together: bool,
+    fault: Fault,
+    clue: &Clue,
+    header: &CommitHeader,
+) -> Result<Option<Kind<W, P>>, AllocError>
+    requires wide { IsWideWidth W }
+    requires width { IsWidth P }
+{
+    let links = plain_of(header);
+    match fault {
+        Fault::Rule(_) => {
+            let guide = LinkGuide::new(alloc, together, clue, &links)?;
+            Ok(Some(Kind::OfLink(guide)))
+        }
+        Fault::CommitRule(_) => {
+            let complete = complete_of(alloc, header.links.as_slice())?;
+            match CopyGuide::new(alloc, clue.subject, &links, complete.as_slice())? {
+                None => Ok(None),
+                Some(guide) => Ok(Some(Kind::OfCopy(guide))),
+            }
+        }
+        _ => Ok(Some(Kind::OfNothing)),
+    }
+}
+
+impl<const W: usize, const P: usize> Kind<W, P> {
+    /// Keeps the address of a wide beat, if the verdict may be about its block.
+    pub fn note_address(&mut self, at_fault: bool, link: Link, beat: &WideBeat<W>) {
+        if let Kind::OfLink(guide) = self {
+            guide.note_address(at_fault, link, beat);
+        }
+    }
+
+    /// Takes a part of a wide beat. Returns true if it could be taken.
+    fn take_part(&mut self, passing: Passing<'_, W>, part: &Beat<P>) -> Result<bool, AllocError>
+        requires wide { IsWideWidth W }
+        requires width { IsWidth P }
+    {
+        match self {
+            Kind::OfNothing => Ok(true),
+            Kind::OfCopy(guide) => guide.take_part(passing, part),
+            Kind::OfLink(guide) => {
+                guide.allow(passing.link, part)?;
+                Ok(guide.record(passing.cited, passing.link, part))
+            }
+        }
+    }
+
+    /// Takes a commit, which becomes this narrow one. Returns true if it could be taken.
+    fn take_commit(
+        &mut self,
+        number: u64,
+        link: Link,
+        commit: WideCommit,
+        narrow: Commit,
+    ) -> Result<bool, AllocError>
+        requires width { IsWidth P }
+        requires commit { IsCommit narrow }
+    {
+        match self {
+            Kind::OfCopy(guide) => guide.take_commit(number, link, commit, narrow),
+            _ => Ok(true),
+        }
+    }
+}
+
+impl<const W: usize, const P: usize> Guide<W, P> {
+    /// Follows events for a fault of an event of these names, before any event of the links that a header names. None if the
+    /// header has no such link.
+    pub fn new(
+        alloc: Global,
+        together: bool,
+        fault: Fault,
+        clue: &Clue,
+        header: &CommitHeader,
+    ) -> Result<Option<Self>, AllocError>
+        requires wide { IsWideWidth W }
+        requires width { IsWidth P }
+    {
+        match kind_of(alloc, together, fault, clue, header)? {
+            None => Ok(None),
+            Some(kind) => Ok(Some(Guide {
+                alloc,
+                narrower: Narrower::new(alloc),
+                fault,
+                kind,
+            })),
+        }
+    }
+
+    /// Takes the parts of a wide beat. Returns true if each could be taken.
+    fn take_parts(&mut self, passing: Passing<'_, W>, parts: Parts) -> Result<bool, AllocError>
+        requires wide { IsWideWidth W }
+        requires width { IsWidth P }
+        requires part { P ≡ part_width W }
+    {
+        let mut left = parts;
+        while let Some(part) = left.next::<W, P>(passing.beat) {
+            if !self.kind.take_part(passing, &part)? {
+                return Ok(false);
+            }
+        }
+        Ok(true)
+    }
+
+    /// Takes a wide beat. Returns true if it could be taken.
+    fn take_beat(&mut self, passing: Passing<'_, W>) -> Result<bool, AllocError>
+        requires wide { IsWideWidth W }
+        requires width { IsWidth P }
+        requires part { P ≡ part_width W }
+    {
+        let narrowed = self.narrower.narrow::<W, P>(passing.link, passing.beat)?;
+        let Some(parts) = narrowed else {
+            return Ok(false);
+        };
+        self.kind.note_address(false, passing.link, passing.beat);
+        self.take_parts(passing, parts)
+    }
+
+    /// Takes a commit. Returns true if it could be taken.
+    fn take_commit(
+        &mut self,
+        number: u64,
+        link: Link,
+        commit: WideCommit,
+    ) -> Result<bool, AllocError>
+        requires width { IsWidth P }
+        requires commit { IsWideCommit commit }
+    {
+        match narrow_commit(&mut self.narrower, link, commit)? {
+            None => Ok(false),
+            Some(narrow) => self.kind.take_commit(number, link, commit, narrow),
+        }
+    }
+
+    /// Takes the event of the line with this number. Returns true if it could be taken.
+    pub fn take(
+        &mut self,
+        number: u64,
+        line: &[u8],
+        link: Link,
+        event: &WideEvent<W>,
+    ) -> Result<bool, AllocError>
+        requires wide { IsWideWidth W }
+        requires width { IsWidth P }
+        requires part { P ≡ part_width W }
+        requires event { IsValid event.now }
+    {
+        match event {
+            WideEvent::Beat(beat) => {
+                let cited = citation(number, line);
+                self.take_beat(Passing {
+                    number,
+                    link,
+                    beat,
+                    cited: cited.as_slice(),
+                })
+            }
+            WideEvent::Commit(commit) => self.take_commit(number, link, *commit),
+        }
+    }
+}

@@ -96,13 +96,14 @@ fn append_store(store: Option<StoreLine>, told: u64, out: &mut Vec<u8>) -> Resul
 }
 
 impl<const P: usize> CopyGuide<P> {
-    /// Follows the block of a subject in the cache of its link, before any event of the links that a header names. None if there
-    /// is no such block or link.
+    /// Follows the block of a subject in the cache of its link, before any event of the links that a header names. `zero` says
+    /// whether memory was zero before the trace. None if there is no such block or link.
     pub fn new(
         alloc: Global,
         subject: Subject,
         links: &LinksHeader,
         complete: &[bool],
+        zero: bool,
     ) -> Result<Option<Self>, AllocError>
         requires { IsWidth P }
     {
@@ -111,7 +112,7 @@ impl<const P: usize> CopyGuide<P> {
             return Err(AllocError);
         };
         let (link, block) = (subject.link, subject.block);
-        match CopyRecord::new(alloc, link, block, levels, complete, links.may) {
+        match CopyRecord::new(alloc, link, block, levels, complete, zero, links.may) {
             Err(error) => {
                 drop(monitor);
                 Err(error)

@@ -77,7 +77,13 @@ fn kind_of<const W: usize, const P: usize>(
         }
         Fault::CommitRule(_) => {
             let complete = complete_of(alloc, header.links.as_slice())?;
-            match CopyGuide::new(alloc, clue.subject, &links, complete.as_slice())? {
+            match CopyGuide::new(
+                alloc,
+                clue.subject,
+                &links,
+                complete.as_slice(),
+                header.zero,
+            )? {
                 None => Ok(None),
                 Some(guide) => Ok(Some(Kind::OfCopy(guide))),
             }

@@ -695,7 +695,7 @@ ROWS = [
     ("tltool chart wide/store_given_back.trace | grep -c \"<rect class='w' width='6' height='6'\"", 0, "1\n", ""),
     ("tltool chart --lines 2-4 wide/store_lost.trace | grep -o 'stores and loads that follow: .'", 0, "stores and loads that follow: 2\n", ""),
     # with --block they are those of the block, though it comes after the last line that is drawn
-    ("tltool chart --lines 1-1 --block 6000001 wide/store_lost.trace | grep -o 'that follow: .'", 0, "that follow: 3\nthat follow: 2\n", ""),
+    ("tltool chart --lines 1-1 --block 6000001 wide/store_lost.trace | grep -o 'that follow: .'", 0, "that follow: 4\nthat follow: 2\n", ""),
     ("sed '5s/50 05$/50 5/' wide/store_lost.trace | tltool chart | sed -n '/^Line/,/<.desc>/p'", 0, "".join(f"{it}\n" for it in WIDE_STORED.splitlines()[:3]) + "The monitor says: line 5 F3</desc>\n", ""),
     ("(sed '1s/C+/C/' wide/store_lost.trace) | tltool chart | grep -c 'says: line 5 F2'", 0, "1\n", ""),
     ("tltool chart wide/two_caches.trace >/dev/full", 3, "", "tltool: write failed\n"),

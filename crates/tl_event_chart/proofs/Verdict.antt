@@ -80,7 +80,7 @@ commits-said allow (line ∷ lines) text status (inl (width, may, links, names, 
 commits-said allow (line ∷ lines) text status (inr (none, judged)) =
     trace-said allow (line ∷ lines) text status judged
 
-wide-events-said : (w : ℕ) (links : List MarkedLevel) (may : Liberties) (t : WideEvents w) (lines : List (List ℕ))
+wide-events-said : (w : ℕ) (links : MarkedLinks) (may : Liberties) (t : WideEvents w) (lines : List (List ℕ))
     (text : List ℕ) (status : Status) → JudgedWideEvents w false links may t lines text status → IsSaid text
 unfolding JudgedWideEvents
 wide-events-said w links may t [] text status (is, clean) = clean-said (length t) text is

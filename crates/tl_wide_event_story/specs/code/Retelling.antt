@@ -1,7 +1,7 @@
 -- What is known while the lines of a wide trace with stores and loads are read again, up to the line at fault.
 use Rattle.std.specs.Prelude.{◌≡◌, ◌≤◌, ◌+◌, ◌++◌, ◌∷◌, ℕ, true, false, [], List, length, Option, Some, None, IfSome, ⊤}
 use Rattle.tl_beat.specs.declared.beat.Link.{Link}
-use Rattle.tl_commit_lines.specs.declared.header.MarkedLevel.{MarkedLevel}
+use Rattle.tl_commit_lines.specs.statement.MarkedHeader.{MarkedLinks}
 use Rattle.tl_lines.specs.declared.fault.Fault.{Fault}
 use Rattle.tl_event_chart.specs.code.Widened.{wide_piece_in}
 use Rattle.tl_params.specs.declared.liberties.Liberties.{Liberties}
@@ -38,7 +38,7 @@ pub record IsBegun (w : ℕ) (allow : Liberties) (lines : List (List ℕ)) : Typ
   pub are_lines : lines ≡ header ∷ spelled
   pub width : WideWidth
   pub may : Liberties
-  pub links : List MarkedLevel
+  pub links : MarkedLinks
   pub named : NamesWideMarked allow header width may links
   pub of_width : wide_bytes_of width ≡ w
 
@@ -61,7 +61,7 @@ pub record HasTold {w p : ℕ} (r : WideEventReplay w p) (lines : List (List ℕ
   pub width : WideWidth
   pub of_width : wide_bytes_of width ≡ w
   pub may : Liberties
-  pub links : List MarkedLevel
+  pub links : MarkedLinks
   pub header : List ℕ
   pub before : List (List ℕ)
   pub line : List ℕ

@@ -4,7 +4,7 @@ use Rattle.std.specs.Fmt.{decimal}
 use Rattle.std.specs.Io.KnownBytes.{Consumes}
 use Rattle.tl_beat.specs.declared.beat.Link.{Link}
 use Rattle.tl_beat.specs.statement.Digits.{digits}
-use Rattle.tl_commit_lines.specs.declared.header.MarkedLevel.{MarkedLevel}
+use Rattle.tl_commit_lines.specs.statement.MarkedHeader.{MarkedLinks}
 use Rattle.tl_commit_story.specs.statement.Words.{is_breach, limits, other_words, sentence_of}
 use Rattle.tl_reasons.specs.declared.explain_fault.ExplainFault.{ExplainFault}
 use Rattle.tl_reasons.specs.declared.explain_fault.ExplainFault.TheVariants.{Tool}
@@ -56,7 +56,7 @@ pub record IsShown (together : Bool) (allow : Liberties) (old new : Option (List
   pub judged : JudgedAny together allow (lines_of read) verdict Broken
   pub width : WideWidth
   pub may : Liberties
-  pub links : List MarkedLevel
+  pub links : MarkedLinks
   pub header : List ℕ
   pub named : NamesWideMarked allow header width may links
   pub bytes : ℕ

@@ -1,4 +1,5 @@
 use Rattle.std.proofs.Common.{[], refl, rules}
+use Rattle.tl_commit_lines.specs.statement.MarkedHeader.{links_in}
 use Rattle.tl_wide_event_story.proofs.Retold.{of-any}
 use Rattle.tl_wide_event_story.proofs.replay.WideEventReplay.begin.Goals as goal
 
@@ -9,7 +10,7 @@ returns g c = of-any c.new.result (record {
   are_lines = refl;
   width = c.in-Some.header.width;
   may = c.in-Some.header.narrow.may;
-  links = c.in-Some.header.narrow.links.items;
+  links = links_in c.in-Some.header.narrow;
   named = c.in-Some.ensures;
   of_width = search rules;
 })

@@ -542,9 +542,9 @@ ROWS = [
     (f"printf '{COPY_READ}05\\n' | tltool coherent", 0, "coherent 11\n", ""),
     ("echo 'tltrace 5 32 none commits UL C' | tltool coherent", 0, "coherent 0\n", ""),
     ("echo 'tltrace 5 32 none zero UL UH C' | tltool coherent", 0, "coherent 0\n", ""),
-    ("printf 'tltrace 5 32 none zero UL\\n00 A 4 0 5 0001 0000000000000000 ffffffff - 0\\n00 D 1 0 5 0001 0000 0 %063d1 0\\n' 0 | tltool coherent", 1, "line 3 M3\n", ""),
-    ("printf 'tltrace 5 32 none zero UL\\n00 A 4 0 5 0001 0000000000000000 ffffffff - 0\\n00 D 1 0 5 0001 0000 0 %064d 0\\n' 0 | tltool coherent", 0, "coherent 2\n", ""),
-    ("printf 'tltrace 5 32 none UL\\n00 A 4 0 5 0001 0000000000000000 ffffffff - 0\\n00 D 1 0 5 0001 0000 0 %063d1 0\\n' 0 | tltool coherent", 0, "coherent 2\n", ""),
+    ("printf 'tltrace 5 32 none zero UH\\n00 A 4 0 5 0001 0000000000000000 ffffffff - 0\\n00 D 1 0 5 0001 0000 0 %063d1 0\\n' 0 | tltool coherent", 1, "line 3 M3\n", ""),
+    ("printf 'tltrace 5 32 none zero UH\\n00 A 4 0 5 0001 0000000000000000 ffffffff - 0\\n00 D 1 0 5 0001 0000 0 %064d 0\\n' 0 | tltool coherent", 0, "coherent 2\n", ""),
+    ("printf 'tltrace 5 32 none UH\\n00 A 4 0 5 0001 0000000000000000 ffffffff - 0\\n00 D 1 0 5 0001 0000 0 %063d1 0\\n' 0 | tltool coherent", 0, "coherent 2\n", ""),
     # the mark is of its link alone
     ("sed '1s/C+/C C+/' rules/M6.trace | tltool coherent", 0, "coherent 5\n", ""),
     ("sed '1s/C+/C C+/; s/^00/01/' rules/M6.trace | tltool coherent", 1, "line 6 M6\n", ""),

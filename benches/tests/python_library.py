@@ -121,10 +121,10 @@ def read_trace(module, name):
 
 
 def traces_of_rules(with_commits):
-    """The example traces of the rules, those with stores and loads or the others."""
+    """The example traces of the rules, those with stores and loads or the others. The library can't be told that memory was zero."""
     folder = os.path.join(ROOT, "crates/tl_examples/data/rules")
-    names = [os.path.join(folder, it) for it in sorted(os.listdir(folder))]
-    return [it for it in names if ("C+" in open(it).readline()) == with_commits]
+    heads = ((it.path, open(it.path).readline()) for it in sorted(os.scandir(folder), key=lambda it: it.name))
+    return [path for path, head in heads if " zero " not in head and ("C+" in head) == with_commits]
 
 
 def renamed(beat):

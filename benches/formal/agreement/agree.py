@@ -81,10 +81,11 @@ def recorded(path, liberties):
 
 
 def examples(tool):
-    """The examples but those of wide beats and those with stores and loads, which the modules don't take."""
+    """The examples but those of wide beats and those with stores and loads, or with memory that was zero, which the modules don't take."""
     for path in sorted((ROOT / "crates/tl_examples/data").rglob("*.trace")):
         text = path.read_text("latin-1")
-        if not text.startswith("tltrace 5 ") and " C+" not in text.partition("\n")[0]:
+        head = text.partition("\n")[0]
+        if not head.startswith("tltrace 5 ") and " C+" not in head and " zero " not in head:
             yield case_of(tool, path.name, text)
 
 

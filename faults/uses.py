@@ -681,9 +681,6 @@ ROWS = [
     *((f"tltool chart {way}rules/M6.trace | sed -n '/^Line/,/<.desc>/p'", 0, f"{STORED_TOLD}The monitor says: clean 5</desc>\n", "") for way in ("", "<")),
     ("tltool chart --block 000 rules/M6.trace | sed -n '/^Line/,/<.desc>/p'", 0, f"{STORED_TOLD}With line 3 00 is a writer.\nThe monitor says: clean 5</desc>\n", ""),
     ("tltool chart --block 001 rules/M6.trace | grep -c '^Line'", 1, "0\n", ""),
-    ("tltool chart rules/M6.trace | grep -c \"<rect class='[wr]' width='6' height='6'\"", 0, "2\n", ""),
-    ("tltool chart rules/M6.trace | grep -c \"<rect class='w' width='6' height='6'\"", 0, "1\n", ""),
-    ("tltool chart --lines 2-4 rules/M6.trace | grep -o 'stores and loads that follow: .'", 0, "stores and loads that follow: 2\n", ""),
     ("tltool chart --lines 6-6 rules/M6.trace | grep -o '^Line .*'", 0, "Line 6: 00 loads 1 byte at 00000000: 06.\n", ""),
     ("(cat rules/M6.trace; echo '00 S 4 00000000 05') | tltool chart | grep -c 'says: line 7 F3'", 0, "1\n", ""),
     ("tltool chart --allow early rules/M6.trace | cmp - <(tltool chart rules/M6.trace)", 0, "", ""),
@@ -691,9 +688,14 @@ ROWS = [
     *((f"tltool chart {way}wide/store_lost.trace | sed -n '/^Line/,/<.desc>/p'", 0, f"{WIDE_STORED}The monitor says: clean 6</desc>\n", "") for way in ("", "<")),
     ("tltool chart --block 6000001 wide/store_lost.trace | sed -n '/^Line/,/<.desc>/p'", 0, f"{WIDE_STORED}With line 3 00 is a writer.\nThe monitor says: clean 6</desc>\n", ""),
     ("tltool chart --block 6000000 wide/store_lost.trace | grep -c '^Line'", 1, "0\n", ""),
-    ("tltool chart wide/store_given_back.trace | grep -c \"<rect class='[wr]' width='6' height='6'\"", 0, "2\n", ""),
-    ("tltool chart wide/store_given_back.trace | grep -c \"<rect class='w' width='6' height='6'\"", 0, "1\n", ""),
-    ("tltool chart --lines 2-4 wide/store_lost.trace | grep -o 'stores and loads that follow: .'", 0, "stores and loads that follow: 2\n", ""),
+    # of both, the marks of stores and loads, and those that aren't drawn
+    *(
+        row for trace in ("rules/M6.trace", "wide/store_given_back.trace") for row in (
+            (f"tltool chart {trace} | grep -c \"<rect class='[wr]' width='6' height='6'\"", 0, "2\n", ""),
+            (f"tltool chart {trace} | grep -c \"<rect class='w' width='6' height='6'\"", 0, "1\n", ""),
+            (f"tltool chart --lines 2-4 {trace} | grep -o 'stores and loads that follow: .'", 0, "stores and loads that follow: 2\n", ""),
+        )
+    ),
     # with --block they are those of the block, though it comes after the last line that is drawn
     ("tltool chart --lines 1-1 --block 6000001 wide/store_lost.trace | grep -o 'that follow: .'", 0, "that follow: 4\nthat follow: 2\n", ""),
     ("sed '5s/50 05$/50 5/' wide/store_lost.trace | tltool chart | sed -n '/^Line/,/<.desc>/p'", 0, "".join(f"{it}\n" for it in WIDE_STORED.splitlines()[:3]) + "The monitor says: line 5 F3</desc>\n", ""),

@@ -142,7 +142,7 @@ impl<const W: usize> BlockState<W> {
         let Some(access) = find(accesses, link, source) else {
             return Ok(None);
         };
-        let renewed = access.renewed(
+        let bytes = access.reading(
             alloc,
             self.free,
             &self.bytes,
@@ -150,9 +150,9 @@ impl<const W: usize> BlockState<W> {
             self.outrun.as_slice(),
         )?;
         Ok(Some(Expected {
-            address: renewed.writer.asked.request.address,
-            size: renewed.writer.asked.request.size,
-            bytes: renewed.read,
+            address: access.writer.asked.request.address,
+            size: access.writer.asked.request.size,
+            bytes,
         }))
     }
 

@@ -56,7 +56,7 @@ fn writes_of_others<const W: usize>(
 }
 
 impl<const W: usize> PendingAccess<W> {
-    ghost use Rattle.tl_memory.specs.code.Writers.{IsGrown, IsRenewed, IsWatched, found_by};
+    ghost use Rattle.tl_memory.specs.code.Writers.{IsGrown, IsReading, IsRenewed, IsWatched, found_by};
 
     /// An access whose first beat this is, with these windows.
     pub fn new(alloc: Global, writer: &Writer<W>, windows: WritingWindows) -> Self
@@ -71,18 +71,18 @@ impl<const W: usize> PendingAccess<W> {
         }
     }
 
-    /// A copy with the bytes that the access may find now added, if it isn't a Put and may be performed now. `free`,
-    /// `bytes` and `accesses` are those of its block. The error means that there is no memory left.
+    /// The bytes that the access may have found, and those that it may find now, if it isn't a Put and may be performed
+    /// now. `free`, `bytes` and `accesses` are those of its block. The error means that there is no memory left.
     #[inline(always)]
-    pub fn renewed(
+    pub fn reading(
         &self,
         alloc: Global,
         free: Freedom,
         bytes: &BlockBytes,
         accesses: &[PendingAccess<W>],
         outrun: &[OutrunAccess],
-    ) -> Result<Self, AllocError>
-        ensures { IfOk result (λ pending. IsRenewed (found_by free bytes.now accesses.now outrun.now) self.now pending) }
+    ) -> Result<ReadBytes, AllocError>
+        ensures { IfOk result (IsReading (found_by free bytes.now accesses.now outrun.now) self.now) }
     {
         let asked = &self.writer.asked;
         let opcode = asked.request.opcode;
@@ -97,6 +97,22 @@ impl<const W: usize> PendingAccess<W> {
             )?;
             read.find(bytes, writes.as_slice())?;
         }
+        Ok(read)
+    }
+
+    /// A copy with the bytes that the access may find now added, as `reading` finds them. The error is the same.
+    #[inline(always)]
+    pub fn renewed(
+        &self,
+        alloc: Global,
+        free: Freedom,
+        bytes: &BlockBytes,
+        accesses: &[PendingAccess<W>],
+        outrun: &[OutrunAccess],
+    ) -> Result<Self, AllocError>
+        ensures { IfOk result (λ pending. IsRenewed (found_by free bytes.now accesses.now outrun.now) self.now pending) }
+    {
+        let read = self.reading(alloc, free, bytes, accesses, outrun)?;
         Ok(PendingAccess {
             writer: self.writer,
             windows: self.windows,

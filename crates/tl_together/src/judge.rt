@@ -293,8 +293,9 @@ impl<const W: usize> Judge<W> {
     }
 
     /// Judges a beat of a link by all rules but those that are left, and takes it if it breaks none. After a refusal the
-    /// judge is as before, and goes on. The error is `Closed` if `push` refused an earlier beat for a broken rule.
-    #[inline(always)]
+    /// judge is as before, and goes on. The error is `Closed` if `push` refused an earlier beat for a broken rule. It is
+    /// made once, so that the compiler puts into it what it alone calls.
+    #[inline(never)]
     fn push_but(&mut self, left: Unjudged, link: Link, beat: &Beat<W>) -> Result<(), JudgeFault>
         requires { IsWidth W }
         ensures answer { (levels : List Level) (l : Liberties) (t : Trace W) (closed : Bool) →
@@ -347,7 +348,7 @@ impl<const W: usize> Judge<W> {
 
     /// Judges a beat of a link, and takes it if it breaks no rule. After a refusal the judge is as before, and goes on.
     /// The error is `Closed` if `push` refused an earlier beat for a broken rule.
-    #[inline(never)]
+    #[inline(always)]
     pub fn try_push(&mut self, link: Link, beat: &Beat<W>) -> Result<(), JudgeFault>
         requires { IsWidth W }
         ensures answer { (levels : List Level) (l : Liberties) (t : Trace W) (closed : Bool) →
@@ -361,7 +362,7 @@ impl<const W: usize> Judge<W> {
     }
 
     /// The same but for M2 and M3, which the caller judges: a response may bring any bytes.
-    #[inline(never)]
+    #[inline(always)]
     pub fn try_push_but_bytes(&mut self, link: Link, beat: &Beat<W>) -> Result<(), JudgeFault>
         requires { IsWidth W }
         ensures answer { (levels : List Level) (l : Liberties) (t : Trace W) (closed : Bool) →

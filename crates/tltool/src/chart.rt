@@ -2,17 +2,18 @@
 
 ghost use Rattle.tltool.specs.Ended.{EndsCharted, EndsChartedEvents};
 
+use crate::commits::is_commits;
 use crate::front::front_of;
+use crate::input::open;
+use crate::told;
+use crate::wide::is_wide;
 use crate::wide_commits::is_wide_commits;
-use crate::{told, unopened};
+use std::io;
 use std::io::{Read, Write};
-use std::{fs, io};
 use tl_command::chart::Range;
-use tl_commit_lines::header::read_marked;
 use tl_engine::chart::{Window, chart_input, window_of};
 use tl_event_chart::chart::chart_events;
 use tl_params::liberties::Liberties;
-use tl_wide_lines::header::read_wide;
 
 /// Draws the input of a reader, and returns the exit status. These liberties are allowed beyond those that the header
 /// names.
@@ -45,7 +46,7 @@ fn chart_events_over<R: Read, W: Write>(
 
 /// Whether a first line is a header of wide beats, or of a trace with stores and loads.
 fn is_of_events(line: &[u8]) -> bool {
-    read_wide(line).is_some() || read_marked(line).is_some() || is_wide_commits(line)
+    is_wide(line) || is_commits(line) || is_wide_commits(line)
 }
 
 /// Draws the trace that a reader has, by its header.
@@ -68,12 +69,8 @@ fn chart_whole<R: Read + Drop>(
 /// Draws a chart of the trace on standard input, or in the file of this name. These liberties are allowed beyond those
 /// that the header names. Returns the exit status.
 pub(crate) fn chart(rt: &HostRuntime, range: Range, allow: Liberties, name: Option<String>) -> u8 {
-    let window = window_of(range);
-    match name {
-        None => chart_whole(rt, allow, window, rt.reader()),
-        Some(name) => match fs::open(rt, name.as_str()) {
-            Ok(file) => chart_whole(rt, allow, window, file),
-            Err(_) => unopened(rt, name.as_str()),
-        },
+    match open(rt, name.as_deref()) {
+        Ok(input) => chart_whole(rt, allow, window_of(range), input),
+        Err(status) => status,
     }
 }

@@ -3,20 +3,15 @@
 ghost use Rattle.std.specs.Prelude.{◌≡◌};
 ghost use Rattle.tltool.specs.Ended.{EndsExplainedCommits};
 
-use crate::front::front_of;
 use crate::told_explained;
-use std::fs;
 use std::io::{Read, Write};
 use tl_commit_lines::header::read_marked;
 use tl_commit_story::explain::explain_events;
 use tl_params::liberties::Liberties;
 
-/// Whether the file of this name begins with a header of a trace with stores and loads.
-pub(crate) fn is_commits_file(rt: &HostRuntime, name: &str) -> bool {
-    let Ok(mut file) = fs::open(rt, name) else {
-        return false;
-    };
-    read_marked(front_of(&mut file).as_slice()).is_some()
+/// Whether a first line is the header of a trace with stores and loads.
+pub(crate) fn is_commits(line: &[u8]) -> bool {
+    read_marked(line).is_some()
 }
 
 /// Explains the file of this name, a trace with stores and loads, of which these are two readers. These liberties are

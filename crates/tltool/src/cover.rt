@@ -1,12 +1,13 @@
 //! Reports the situations of traces.
 
-ghost use Rattle.std.specs.Prelude.{◌≡◌, ◌+◌, length, ℕ, List, Option, Err, IfErr, IfOk, OnErr, OnOk};
+ghost use Rattle.std.specs.Prelude.{◌≡◌, ◌+◌, length, ℕ, List, Option, Err, IfErr, IfOk, OnOk};
 ghost use Rattle.tl_lines.specs.statement.Exit.{exit_status};
 ghost use Rattle.tltool.specs.Covered.{AddsTried, EndsCovered, EndsCoveredIn, EndsTold};
 
-use crate::{told, unopened};
+use crate::input::{Input, open};
+use crate::told;
+use std::io;
 use std::io::{Read, Write};
-use std::{fs, io};
 use tl_command::cover::CoverForm;
 use tl_lines::status::ToolFault;
 use tl_params::liberties::Liberties;
@@ -30,23 +31,19 @@ fn try_over<R: Read>(rt: &HostRuntime, input: &mut R, all: &mut Vec<Tried>) -> R
     Ok(())
 }
 
-/// The same for the file of this name. If it can't be opened, prints that and returns the exit status.
-fn try_file<R: Read + Drop>(
+/// The same for an input that was opened. Otherwise the error is the exit status, and is returned.
+fn try_opened<R: Read + Drop>(
     rt: &HostRuntime,
-    name: &str,
-    opened: io::Result<R>,
+    opened: Result<R, u8>,
     all: &mut Vec<Tried>,
 ) -> Result<(), u8>
-    ensures opened { IfOk opened (λ file. OnOk result ((left : Option (List ℕ))
-        × AddsTried (R.remaining file) left all.old.items all.new.items)) }
-    ensures unopened { OnErr opened (result ≡ Err (exit_status (Err ToolFault.Read))) }
-    ensures refused { IfErr result (λ status. status ≡ exit_status (Err ToolFault.Read)) }
+    ensures opened { IfOk opened (λ input. OnOk result ((left : Option (List ℕ))
+        × AddsTried (R.remaining input) left all.old.items all.new.items)) }
+    ensures unopened { IfErr opened (λ status. result ≡ Err status) }
+    ensures refused { OnOk opened (IfErr result (λ status. status ≡ exit_status (Err ToolFault.Read))) }
     ensures counted { OnOk result (length all.new.items ≡ length all.old.items + 1) }
 {
-    match opened {
-        Ok(mut file) => try_over(rt, &mut file, all),
-        Err(_) => Err(unopened(rt, name)),
-    }
+    try_over(rt, &mut opened?, all)
 }
 
 /// The same for the files of these names in turn, up to one that can't be opened or read.
@@ -55,8 +52,7 @@ fn try_files(rt: &HostRuntime, names: &[String], all: &mut Vec<Tried>) -> Result
     ensures counted { OnOk result (length all.new.items ≡ length all.old.items + length names.now) }
 {
     for name in names {
-        let opened = fs::open(rt, name.as_str());
-        try_file(rt, name.as_str(), opened, all)?;
+        try_opened(rt, open(rt, Some(name.as_str())), all)?;
     }
     Ok(())
 }
@@ -109,7 +105,7 @@ fn cover_files<W: Write>(rt: &HostRuntime, form: CoverForm, names: &[String], ou
 pub(crate) fn cover(rt: &HostRuntime, form: CoverForm, names: &[String]) -> u8 {
     let mut output = io::writer(rt);
     if names.is_empty() {
-        cover_over(rt, form, &mut rt.reader(), &mut output)
+        cover_over(rt, form, &mut Input::Standard(rt.reader()), &mut output)
     } else {
         cover_files(rt, form, names, &mut output)
     }

@@ -1,13 +1,12 @@
 //! Decodes lines of wide beats.
 
-ghost use Rattle.std.specs.Prelude.{◌≡◌, ℕ, Err, IfOk, List, OnErr, Option};
-ghost use Rattle.tl_lines.specs.declared.status.ToolFault.{ToolFault};
-ghost use Rattle.tl_lines.specs.statement.Exit.{exit_status};
+ghost use Rattle.std.specs.Prelude.{◌≡◌, ℕ, IfErr, IfOk, List, Option};
 ghost use Rattle.tltool.specs.Ended.{EndsDecoded};
 
-use crate::{told, unopened};
+use crate::input::open;
+use crate::told;
+use std::io;
 use std::io::{Read, Write};
-use std::{fs, io};
 use tl_wide::width::WideWidth;
 use tl_wide_lines::decode::decode_wide;
 
@@ -24,32 +23,24 @@ fn decode_over<R: Read, W: Write>(
     told(rt, decode_wide(rt.alloc(), width, input, output))
 }
 
-/// The same for the file of this name. If it can't be opened, says so.
-fn decode_file<R: Read + Drop, W: Write>(
+/// The same for an input that was opened. Otherwise the error is the exit status.
+fn decode_opened<R: Read + Drop, W: Write>(
     rt: &HostRuntime,
     width: WideWidth,
-    name: &str,
-    opened: io::Result<R>,
+    opened: Result<R, u8>,
     output: &mut W,
 ) -> u8
-    ensures opened { IfOk opened (λ file. (left : Option (List ℕ)) × EndsDecoded width (R.remaining file) left
+    ensures opened { IfOk opened (λ input. (left : Option (List ℕ)) × EndsDecoded width (R.remaining input) left
         (W.contents output.old) (W.contents output.new) result) }
-    ensures unopened { OnErr opened (result ≡ exit_status (Err ToolFault.Read)) }
+    ensures unopened { IfErr opened (λ status. result ≡ status) }
 {
     match opened {
-        Ok(mut file) => decode_over(rt, width, &mut file, output),
-        Err(_) => unopened(rt, name),
+        Ok(mut input) => decode_over(rt, width, &mut input, output),
+        Err(status) => status,
     }
 }
 
 /// Decodes lines of wide beats of this width on standard input, or in the file of this name. Returns the exit status.
 pub(crate) fn decode(rt: &HostRuntime, width: WideWidth, name: Option<String>) -> u8 {
-    let mut output = io::writer(rt);
-    match name {
-        None => decode_over(rt, width, &mut rt.reader(), &mut output),
-        Some(name) => {
-            let opened = fs::open(rt, name.as_str());
-            decode_file(rt, width, name.as_str(), opened, &mut output)
-        }
-    }
+    decode_opened(rt, width, open(rt, name.as_deref()), &mut io::writer(rt))
 }

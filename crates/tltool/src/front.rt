@@ -1,6 +1,7 @@
 //! Reads the first line of a trace.
 
 use arrayvec::ArrayVec;
+use std::fs;
 use std::io::Read;
 
 /// The number of bytes of a first line that are read.
@@ -20,4 +21,12 @@ pub fn front_of<R: Read>(reader: &mut R) -> ArrayVec<u8, LOOKED_AT> {
         }
     }
     front
+}
+
+/// The first line of the file of this name, or its first 257 bytes; less if they can't be read.
+pub(crate) fn front_of_file(rt: &HostRuntime, name: &str) -> ArrayVec<u8, LOOKED_AT> {
+    match fs::open(rt, name) {
+        Ok(mut file) => front_of(&mut file),
+        Err(_) => ArrayVec::new(),
+    }
 }

@@ -1,7 +1,7 @@
 //! `tltool`: reads, judges and draws TileLink traces, and writes and plays schedules.
 #![tactic(auto)]
 
-ghost use Rattle.std.specs.Prelude.{◌≡◌, IfOk, OnOk, OnErr, Err};
+ghost use Rattle.std.specs.Prelude.{◌≡◌, IfErr, IfOk, OnOk, OnErr, Err};
 ghost use Rattle.tl_lines.specs.statement.Exit.{exit_status};
 ghost use Rattle.tltool.specs.Ended.{EndsAllowed, EndsAs, EndsDrawn, EndsExplained, EndsFound, EndsOver, IsRefused};
 ghost use Rattle.tltool.specs.Ended.{explain_status};
@@ -11,15 +11,18 @@ mod commits;
 mod cover;
 mod decode;
 mod front;
+mod input;
 mod report;
 mod times;
 mod wide;
 mod wide_commits;
 
 use chart::chart;
-use commits::{explain_commits_over, is_commits_file};
+use commits::{explain_commits_over, is_commits};
 use cover::cover;
 use decode::decode;
+use front::front_of_file;
+use input::{Input, open};
 use report::report;
 use std::fs::File;
 use std::io::{Read, Write};
@@ -43,8 +46,8 @@ use tl_reasons::named::tell_named;
 use tl_report::find::find_all;
 use tl_wide_event_lines::run::run_any;
 use tl_words::words::{WordsFault, invocation, usage_status};
-use wide::{explain_wide_over, is_wide_file};
-use wide_commits::{explain_wide_events_over, is_wide_commits_file};
+use wide::{explain_wide_over, is_wide};
+use wide_commits::{explain_wide_events_over, is_wide_commits};
 
 /// The exit status of a run. Its fault is printed on standard error.
 pub(crate) fn told(rt: &HostRuntime, outcome: Result<Status, ToolFault>) -> u8
@@ -107,22 +110,21 @@ pub(crate) fn unopened(rt: &HostRuntime, name: &str) -> u8
     exit_of(&Err(ToolFault::Read))
 }
 
-/// Runs a command over the file of this name, or says that it can't be opened. Returns the exit status.
-fn run_file<R: Read + Drop, W: Write>(
+/// Runs a command over an input that was opened. Otherwise the error is the exit status. Returns the exit status.
+fn run_opened<R: Read + Drop, W: Write>(
     rt: &HostRuntime,
     command: Command,
     allow: Liberties,
-    name: &str,
-    opened: io::Result<R>,
+    opened: Result<R, u8>,
     output: &mut W,
 ) -> u8
-    ensures opened { IfOk opened (λ file. EndsOver command allow (R.remaining file) (W.contents output.old)
+    ensures opened { IfOk opened (λ input. EndsOver command allow (R.remaining input) (W.contents output.old)
         (W.contents output.new) result) }
-    ensures unopened { OnErr opened (result ≡ exit_status (Err ToolFault.Read)) }
+    ensures unopened { IfErr opened (λ status. result ≡ status) }
 {
     match opened {
-        Ok(mut file) => run_over(rt, command, allow, &mut file, output),
-        Err(_) => unopened(rt, name),
+        Ok(mut input) => run_over(rt, command, allow, &mut input, output),
+        Err(status) => status,
     }
 }
 
@@ -216,32 +218,35 @@ pub(crate) fn explain<W: Write>(
     name: &str,
     output: &mut W,
 ) -> u8 {
-    let Ok(mut first) = fs::open(rt, name) else {
+    let Ok(file) = fs::open(rt, name) else {
         return explain_name(rt, name, output);
     };
-    if is_read_once(&first) {
+    if is_read_once(&file) {
         let _ = write_once(name, &mut rt.stderr());
         return exit_of(&Err(ToolFault::Read));
     }
-    let Ok(mut second) = fs::open(rt, name) else {
-        return unopened(rt, name);
+    let mut first = Input::File(file);
+    let mut second = match open(rt, Some(name)) {
+        Ok(second) => second,
+        Err(status) => return status,
     };
-    if is_wide_commits_file(rt, name) {
+    let front = front_of_file(rt, name);
+    if is_wide_commits(front.as_slice()) {
         return explain_wide_events_over(rt, coherent, allow, name, &mut first, &mut second, output);
     }
-    if is_wide_file(rt, name) {
+    if is_wide(front.as_slice()) {
         return explain_wide_over(rt, coherent, allow, name, &mut first, &mut second, output);
     }
-    if is_commits_file(rt, name) {
+    if is_commits(front.as_slice()) {
         return explain_commits_over(rt, coherent, allow, name, &mut first, &mut second, output);
     }
     let explained = explain_over(rt, coherent, allow, name, &mut first, &mut second, output);
     if explained != 1 || coherent {
         return explained;
     }
-    match fs::open(rt, name) {
+    match open(rt, Some(name)) {
         Ok(mut third) => allow_over(rt, explained, allow, &mut third, output),
-        Err(_) => unopened(rt, name),
+        Err(status) => status,
     }
 }
 
@@ -256,17 +261,13 @@ fn read(
 ) -> u8 {
     let mut output = io::writer(rt);
     match (command, name, times) {
-        (_, None, _) => run_over(rt, command, allow, &mut rt.reader(), &mut output),
         (Command::Explain { coherent }, Some(name), None) => {
             explain(rt, coherent, allow, name.as_str(), &mut output)
         }
         (Command::Explain { coherent }, Some(name), Some(times)) => {
             explain_timed(rt, coherent, allow, name.as_str(), times.as_str())
         }
-        (_, Some(name), _) => {
-            let opened = fs::open(rt, name.as_str());
-            run_file(rt, command, allow, name.as_str(), opened, &mut output)
-        }
+        (_, name, _) => run_opened(rt, command, allow, open(rt, name.as_deref()), &mut output),
     }
 }
 
@@ -288,13 +289,9 @@ fn find_over<R: Read, W: Write>(rt: &HostRuntime, aim: Aim, input: &mut R, outpu
 
 /// Finds the lines at fault of the trace on standard input, or in the file of this name. Returns the exit status.
 fn find(rt: &HostRuntime, aim: Aim, name: Option<String>) -> u8 {
-    let mut output = io::writer(rt);
-    match name {
-        None => find_over(rt, aim, &mut rt.reader(), &mut output),
-        Some(name) => match fs::open(rt, name.as_str()) {
-            Ok(mut file) => find_over(rt, aim, &mut file, &mut output),
-            Err(_) => unopened(rt, name.as_str()),
-        },
+    match open(rt, name.as_deref()) {
+        Ok(mut input) => find_over(rt, aim, &mut input, &mut io::writer(rt)),
+        Err(status) => status,
     }
 }
 

@@ -3,6 +3,7 @@
 ghost use Rattle.std.specs.Prelude.{◌≡◌, ℕ, IfOk, List, OnErr, Option, false};
 ghost use Rattle.tltool.specs.Reported.{EndsJudged, EndsReported, status_reported};
 
+use crate::input::open;
 use crate::{told, unopened};
 use std::io::{Read, Write};
 use std::{fs, io};
@@ -83,23 +84,11 @@ fn status_reported(findings: &Findings, written: bool) -> u8
     }
 }
 
-/// Judges the trace in the file of this name. The error is the exit status.
-fn judge_file(rt: &HostRuntime, inquiry: Inquiry, name: &str) -> Result<Account, u8> {
-    let Ok(mut input) = fs::open(rt, name) else {
-        return Err(unopened(rt, name));
-    };
-    judge_over(rt, inquiry, &mut input, &mut io::writer(rt)).map_err(|fault| told(rt, Err(fault)))
-}
-
 /// Judges the trace on standard input, or in the file of this name. The error is the exit status.
-fn judge(rt: &HostRuntime, inquiry: Inquiry, file: Option<String>) -> Result<Account, u8> {
-    match file {
-        None => {
-            let judged = judge_over(rt, inquiry, &mut rt.reader(), &mut io::writer(rt));
-            judged.map_err(|fault| told(rt, Err(fault)))
-        }
-        Some(name) => judge_file(rt, inquiry, name.as_str()),
-    }
+fn judge(rt: &HostRuntime, inquiry: Inquiry, name: Option<String>) -> Result<Account, u8> {
+    let mut input = open(rt, name.as_deref())?;
+    let judged = judge_over(rt, inquiry, &mut input, &mut io::writer(rt));
+    judged.map_err(|fault| told(rt, Err(fault)))
 }
 
 /// Judges the trace on standard input, or in the file of this name, and writes its report in each form for which a file

@@ -2,6 +2,7 @@
 
 ghost use Rattle.tltool.specs.Timed.{EndsTimed};
 
+use crate::input::open;
 use crate::{explain, told, unopened};
 use std::io::{Read, Write};
 use std::{fs, io};
@@ -43,8 +44,9 @@ pub(crate) fn explain_timed(
     if fs::open(rt, name).is_err() {
         return unopened(rt, name);
     }
-    let Ok(mut file) = fs::open(rt, times) else {
-        return unopened(rt, times);
+    let mut file = match open(rt, Some(times)) {
+        Ok(file) => file,
+        Err(status) => return status,
     };
     let mut text = Vec::new(rt.alloc());
     let explained = explain(rt, coherent, allow, name, &mut text);

@@ -3,20 +3,15 @@
 ghost use Rattle.std.specs.Prelude.{◌≡◌};
 ghost use Rattle.tltool.specs.Ended.{EndsExplainedWide};
 
-use crate::front::front_of;
 use crate::told_explained;
-use std::fs;
 use std::io::{Read, Write};
 use tl_params::liberties::Liberties;
 use tl_wide_lines::header::read_wide;
 use tl_wide_story::explain::explain_wide;
 
-/// Whether the file of this name begins with a header of wide beats.
-pub(crate) fn is_wide_file(rt: &HostRuntime, name: &str) -> bool {
-    let Ok(mut file) = fs::open(rt, name) else {
-        return false;
-    };
-    read_wide(front_of(&mut file).as_slice()).is_some()
+/// Whether a first line is a header of wide beats.
+pub(crate) fn is_wide(line: &[u8]) -> bool {
+    read_wide(line).is_some()
 }
 
 /// Explains the file of this name, a trace of wide beats, of which these are two readers. These liberties are allowed

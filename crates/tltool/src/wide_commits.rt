@@ -3,9 +3,7 @@
 ghost use Rattle.std.specs.Prelude.{◌≡◌};
 ghost use Rattle.tltool.specs.Ended.{EndsExplainedWideEvents};
 
-use crate::front::front_of;
 use crate::told_explained;
-use std::fs;
 use std::io::{Read, Write};
 use tl_params::liberties::Liberties;
 use tl_wide_event_lines::header::read_wide_marked;
@@ -14,14 +12,6 @@ use tl_wide_event_story::explain::explain_wide_events;
 /// Whether a first line is the header of a wide trace with stores and loads.
 pub(crate) fn is_wide_commits(line: &[u8]) -> bool {
     read_wide_marked(line).is_some()
-}
-
-/// Whether the file of this name begins with such a header.
-pub(crate) fn is_wide_commits_file(rt: &HostRuntime, name: &str) -> bool {
-    let Ok(mut file) = fs::open(rt, name) else {
-        return false;
-    };
-    is_wide_commits(front_of(&mut file).as_slice())
 }
 
 /// Explains the file of this name, a wide trace with stores and loads, of which these are two readers. These liberties are

@@ -13,6 +13,7 @@ use Rattle.tl_rules.specs.statement.Windows.{needs}
 use Rattle.tl_bytes.specs.statement.Free.{is_free}
 use Rattle.tl_bytes.specs.code.Tellings.{left_as}
 use Rattle.tl_bytes.specs.declared.block_bytes.BlockBytes.{BlockBytes}
+use Rattle.tl_bytes.specs.declared.read_bytes.ReadBytes.{ReadBytes}
 use Rattle.tl_bytes.specs.declared.windows.WindowCount.{WindowCount}
 use Rattle.tl_bytes.specs.declared.windows.WindowCount.TheVariants as count
 use Rattle.tl_bytes.specs.declared.write.Write.{Write}
@@ -87,20 +88,23 @@ abbrev pub grown_in : {w : ℕ} → Writer w → Vec (PendingAccess w) → List 
 grown_in writer old [] = old
 grown_in writer old (newest ∷ more) = with_item old 0 (with_writer writer newest)
 
+-- the bytes that an access may bring which may bring more, unless it is a Put
+abbrev pub IsReading : {w : ℕ} → (PendingAccess w → ℕ → ℕ → Bool) → PendingAccess w → ReadBytes → Type 0
+IsReading more old read = is_put old.writer.asked.request.opcode ≡ false → (place byte : ℕ) → place < 64
+    → may_bring read place byte ≡ (may_bring old.read place byte || more old place byte)
+
 -- the entry of an access that may bring more, unless it is a Put
 pub record IsRenewed {w : ℕ} (more : PendingAccess w → ℕ → ℕ → Bool) (old new : PendingAccess w) : Type 0 where
   pub writer_is : new.writer ≡ old.writer
   pub windows_are : new.windows ≡ old.windows
-  pub read_is : is_put old.writer.asked.request.opcode ≡ false → (place byte : ℕ) → place < 64
-      → may_bring new.read place byte ≡ (may_bring old.read place byte || more old place byte)
+  pub read_is : IsReading more old new.read
 
 -- the entry of one that asks for more
 pub record IsGrown {w : ℕ} (writer : Writer w) (more : PendingAccess w → ℕ → ℕ → Bool) (old new : PendingAccess w)
     : Type 0 where
   pub writer_is : new.writer ≡ writer
   pub windows_are : new.windows ≡ old.windows
-  pub read_is : is_put old.writer.asked.request.opcode ≡ false → (place byte : ℕ) → place < 64
-      → may_bring new.read place byte ≡ (may_bring old.read place byte || more old place byte)
+  pub read_is : IsReading more old new.read
 
 -- this is the access, and what it may write in its block
 abbrev pub IsWriter : {w : ℕ} → Writer w → Access w → Type 0

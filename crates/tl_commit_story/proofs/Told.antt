@@ -5,8 +5,9 @@ use Rattle.std.proofs.lemmas.List.{append-nil}
 use Rattle.std.specs.Prelude.{Option, None, Result, Ok, Err, OnOk, is_ok, ⊤}
 use Rattle.tl_events.specs.declared.commit.Commit.{Commit}
 use Rattle.tl_events.specs.declared.commit.Commit.TheVariants as commit
-use Rattle.tl_events.specs.statement.CommitLine.{IsCommit, value_digits}
-use Rattle.tl_commit_story.specs.code.Stored.{last_in, piece_in}
+use Rattle.tl_events.specs.statement.CommitLine.{IsCommit}
+use Rattle.tl_commit_story.specs.code.Stored.{last_in}
+use Rattle.tl_commit_words.specs.statement.CommitWords.{piece_in}
 use Rattle.tl_commit_story.specs.statement.Cached.{Stored}
 use Rattle.tl_beat.specs.declared.beat.Link.{Link}
 use Rattle.tl_commits.specs.statement.Events.{Events}
@@ -20,14 +21,6 @@ pub small-piece : (x : Commit) → IsCommit x → (piece_in x).size ≤ 3
 small-piece (commit.Store piece value) is = is.0.small
 small-piece (commit.Load piece value) is = is.0.small
 small-piece (commit.Begin piece) is = is.small
-
--- the number of digits of the value of a piece
-pub value-digits : (size : ℕ) → size ≤ 3 → (2 * 2 ^ size % 256 ≡ value_digits size) × (2 * 2 ^ size % 256 ≤ 16)
-value-digits zero le = (omega arith, omega arith)
-value-digits (suc zero) le = (omega arith, omega arith)
-value-digits (suc (suc zero)) le = (omega arith, omega arith)
-value-digits (suc (suc (suc zero))) le = (omega arith, omega arith)
-value-digits (suc (suc (suc (suc n)))) le = absurd (omega arith)
 
 -- stores that are the same at each place are told the same
 pub stores-same : (f g : ℕ → Option Stored) (place count n : ℕ) → ((p : ℕ) → p < place + count → f p ≡ g p)

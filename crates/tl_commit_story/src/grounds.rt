@@ -17,7 +17,7 @@ ghost use Rattle.tl_params.specs.declared.level.Level.{Level};
 ghost use Rattle.tl_params.specs.declared.liberties.Liberties.{Liberties};
 ghost use Rattle.tl_rules.specs.statement.Conformance.{Trace, same_perm};
 ghost use Rattle.tl_commit_story.specs.code.Following.{FollowsBeat, IsSameBut, KnowsGrounds, TakesEvent};
-ghost use Rattle.tl_commit_story.specs.code.Stored.{piece_in};
+ghost use Rattle.tl_commit_words.specs.statement.CommitWords.{piece_in};
 ghost use Rattle.tl_commit_story.specs.statement.Cached.{is_asked, moves};
 ghost use Rattle.tl_commit_story.specs.statement.Grounds.{begun_words, grounds_at, holds_words, since_words};
 

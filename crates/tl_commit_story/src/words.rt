@@ -3,16 +3,16 @@
 ghost use Rattle.std.specs.Prelude.{◌≡◌, ◌≤◌, ◌++◌, OnOk};
 ghost use Rattle.tl_beat.specs.statement.Digits.{digits};
 ghost use Rattle.tl_beat.specs.statement.Width.{IsWidth};
-ghost use Rattle.tl_events.specs.statement.CommitLine.{value_digits};
 ghost use Rattle.tl_events.specs.statement.EventLine.{SpellsEvent};
-ghost use Rattle.tl_commit_story.specs.code.Stored.{piece_in};
 ghost use Rattle.tl_commit_story.specs.statement.Words;
+ghost use Rattle.tl_commit_words.specs.statement.CommitWords.{piece_in};
 
 use arrayvec::ArrayVec;
 use itoa::Buffer;
 use std::alloc::AllocError;
 use tl_beat::beat::Link;
-use tl_events::commit::{Commit, Event, Piece};
+use tl_commit_words::words::words_of;
+use tl_events::commit::{Commit, Event};
 use tl_explain::words::append_beat_line;
 use tl_wide::text::append_long;
 
@@ -24,68 +24,6 @@ pub fn append_digits(number: u64, count: u8, out: &mut Vec<u8>) -> Result<(), Al
     let mut text = ArrayVec::new();
     append_long(&mut text, number, count);
     out.extend_from_slice(text.as_slice())
-}
-
-/// A number of bytes, `2^size` of them.
-fn bytes_words(size: u8) -> &'static str
-    ensures { result.now ≡ Words.bytes_words size }
-{
-    match size {
-        0 => "1 byte",
-        1 => "2 bytes",
-        2 => "4 bytes",
-        _ => "8 bytes",
-    }
-}
-
-/// The number of digits of the value of a piece.
-fn value_digits(size: u8) -> u8
-    requires { size ≤ 3 }
-    ensures count { result ≡ value_digits size }
-    ensures few { result ≤ 16 }
-{
-    2 << size
-}
-
-/// Appends the bytes of a piece.
-fn append_piece(piece: Piece, out: &mut Vec<u8>) -> Result<(), AllocError>
-    ensures { OnOk result (out.new.items ≡ out.old.items ++ Words.piece_words piece) }
-{
-    out.extend_from_slice(bytes_words(piece.size).as_bytes())?;
-    out.extend_from_slice(b" at ")?;
-    append_digits(u64::from(piece.address), 8, out)
-}
-
-/// Appends the bytes of a piece, and their value.
-fn append_value(piece: Piece, value: u64, out: &mut Vec<u8>) -> Result<(), AllocError>
-    requires { piece.size ≤ 3 }
-    ensures { OnOk result (out.new.items
-        ≡ out.old.items ++ (Words.piece_words piece ++ Words.value_words piece value)) }
-{
-    append_piece(piece, out)?;
-    out.extend_from_slice(b": ")?;
-    append_digits(value, value_digits(piece.size), out)
-}
-
-/// Appends the action of a core.
-fn append_commit_words(commit: Commit, out: &mut Vec<u8>) -> Result<(), AllocError>
-    requires { (piece_in commit).size ≤ 3 }
-    ensures { OnOk result (out.new.items ≡ out.old.items ++ Words.commit_words commit) }
-{
-    match commit {
-        Commit::Store { piece, value } => {
-            out.extend_from_slice(b" stores ")?;
-            append_value(piece, value, out)
-        }
-        Commit::Load { piece, value } => {
-            out.extend_from_slice(b" loads ")?;
-            append_value(piece, value, out)
-        }
-        Commit::Begin { piece } => {
-            out.extend_from_slice(b" begins to load ")?;
-            append_piece(piece, out)
-        }
-    }
 }
 
 #[tactic(auto, unfolding(crate::specs::statement::Words::commit_text))]
@@ -103,8 +41,7 @@ pub fn append_commit(
     out.extend_from_slice(b"  ")?;
     out.extend_from_slice(digits.format(number).as_bytes())?;
     out.extend_from_slice(b": link ")?;
-    append_digits(u64::from(link.0), 2, out)?;
-    append_commit_words(commit, out)?;
+    out.extend_from_slice(words_of(link, commit).as_slice())?;
     out.push(b'\n')?;
     Ok(())
 }

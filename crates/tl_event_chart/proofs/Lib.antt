@@ -1,4 +1,3 @@
 pub mod Drawing
-pub mod NarrowWords
 pub mod Narrowing
 pub mod Verdict

@@ -1,3 +1,2 @@
 pub mod EventCharted
 pub mod Noted
-pub mod WideWords

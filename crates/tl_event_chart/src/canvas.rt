@@ -1,15 +1,13 @@
 //! The picture of a trace: its messages, the names that it has, and its stores and loads.
 
 ghost use Rattle.std.specs.Prelude.{◌≡◌, ◌≤◌, [], List, ℕ, IfOk, OnOk};
-ghost use Rattle.tl_commit_story.specs.code.Stored.{piece_in};
+ghost use Rattle.tl_commit_words.specs.statement.CommitWords.{piece_in, wide_piece_in};
 ghost use Rattle.tl_event_chart.specs.code.Drawing.{Draws, DrawsBeats, FindsPlace, Narrows};
-ghost use Rattle.tl_event_chart.specs.code.Widened.{wide_piece_in};
 ghost use Rattle.tl_event_chart.specs.statement.Noted.{is_store, is_wide_store};
 ghost use Rattle.tl_events.specs.statement.CommitLine.{SpellsCommit};
 ghost use Rattle.tl_wide_events.specs.statement.WideCommitLine.{SpellsWideCommit};
 
 use crate::naming::{name_part, new_table};
-use crate::words::{wide_words_of, words_of};
 use std::alloc::{AllocError, Global};
 use tl_beat::beat::{Beat, Link};
 use tl_chart::arrow::Arrow;
@@ -17,6 +15,7 @@ use tl_chart::gatherer::Gatherer;
 use tl_chart::names::Names;
 use tl_chart::note::{Beside, Note};
 use tl_chart::window::Window;
+use tl_commit_words::words::{wide_words_of, words_of};
 use tl_events::commit::{Commit, Piece};
 use tl_params::key::block_at;
 use tl_wide::beat::WideBeat;

@@ -9,4 +9,3 @@ mod following;
 mod lines;
 mod naming;
 mod wide;
-pub mod words;

@@ -2,7 +2,7 @@
 
 ghost use Rattle.std.specs.Prelude.{◌≡◌, ◌≤◌, ℕ, List, OnOk};
 ghost use Rattle.tl_event_chart.specs.code.Drawing.{Draws, DrawsBeats};
-ghost use Rattle.tl_event_chart.specs.code.Widened.{wide_piece_in};
+ghost use Rattle.tl_commit_words.specs.statement.CommitWords.{wide_piece_in};
 ghost use Rattle.tl_wide.specs.statement.Width.{IsWideWidth, part_width};
 ghost use Rattle.tl_wide_events.specs.statement.WideCommitLine.{SpellsWideCommit};
 

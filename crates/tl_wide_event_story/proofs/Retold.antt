@@ -4,7 +4,7 @@ use Rattle.std.proofs.Common.{length-append}
 use Rattle.std.specs.Prelude.{IfOk, IfSome, Option, Some, None, Result, Ok, Err}
 use Rattle.tl_beat.specs.declared.beat.Link.{Link}
 use Rattle.tl_lines.specs.declared.fault.Fault.{Fault}
-use Rattle.tl_event_chart.specs.code.Widened.{wide_piece_in}
+use Rattle.tl_commit_words.specs.statement.CommitWords.{wide_piece_in}
 use Rattle.tl_params.specs.declared.liberties.Liberties.{Liberties}
 use Rattle.tl_wide_event_lines.specs.code.EventJudging.{IsValid}
 use Rattle.tl_wide_event_lines.specs.statement.WideMarkedHeader.{NamesWideMarked}

@@ -1,7 +1,7 @@
 //! The bytes of a block that an event of a wide trace is about.
 
 ghost use Rattle.std.specs.Prelude.{◌≡◌, ◌≤◌, ◌+◌};
-ghost use Rattle.tl_event_chart.specs.code.Widened.{wide_piece_in};
+ghost use Rattle.tl_commit_words.specs.statement.CommitWords.{wide_piece_in};
 
 use std::alloc::AllocError;
 use tl_beat::beat::Beat;

@@ -1,7 +1,7 @@
 //! Writes the events of a wide trace in words.
 
 ghost use Rattle.std.specs.Prelude.{◌≡◌, ◌≤◌, ◌++◌, OnOk};
-ghost use Rattle.tl_event_chart.specs.code.Widened.{wide_piece_in};
+ghost use Rattle.tl_commit_words.specs.statement.CommitWords.{wide_piece_in};
 ghost use Rattle.tl_wide.specs.statement.Width.{IsWideWidth};
 ghost use Rattle.tl_wide_event_story.specs.code.Retelling.{IsSmall};
 ghost use Rattle.tl_wide_event_story.specs.statement.WideEventsExplained.{wide_commit_text, wide_event_text};
@@ -9,7 +9,7 @@ ghost use Rattle.tl_wide_event_story.specs.statement.WideEventsExplained.{wide_c
 use itoa::Buffer;
 use std::alloc::AllocError;
 use tl_beat::beat::Link;
-use tl_event_chart::words::wide_words_of;
+use tl_commit_words::words::wide_words_of;
 use tl_wide_events::commit::{WideCommit, WideEvent};
 use tl_wide_story::front::append_wide_beat_line;
 

@@ -1,5 +1,5 @@
 -- The words of an explanation: an event, and the sentence of the fault of its line.
-use Rattle.std.specs.Prelude.{◌==◌, ◌++◌, ℕ, Bool, true, false, List, [], if◌then◌else◌, codes}
+use Rattle.std.specs.Prelude.{◌++◌, ℕ, Bool, true, false, List, [], codes}
 use Rattle.std.specs.Fmt.{decimal}
 use Rattle.tl_beat.specs.declared.beat.Link.{Link}
 use Rattle.tl_beat.specs.declared.fault.LineFault.{LineFault}
@@ -7,42 +7,19 @@ use Rattle.tl_beat.specs.declared.fault.LineFault.TheVariants.{F1, F2, F3, F4, F
 use Rattle.tl_beat.specs.statement.Digits.{digits}
 use Rattle.tl_lines.specs.declared.fault.Fault.{Fault}
 use Rattle.tl_lines.specs.declared.fault.Fault.TheVariants as fault
+use Rattle.tl_commit_words.specs.statement.CommitWords.{commit_words}
 use Rattle.tl_reasons.specs.statement.CommitSentences.{commit_rule_line}
 use Rattle.tl_events.specs.declared.commit.Commit.{Commit}
-use Rattle.tl_events.specs.declared.commit.Commit.TheVariants as commit
 use Rattle.tl_events.specs.declared.commit.Event.{Event}
 use Rattle.tl_events.specs.declared.commit.Event.TheVariants as event
-use Rattle.tl_events.specs.declared.commit.Piece.{Piece}
-use Rattle.tl_events.specs.statement.CommitLine.{value_digits}
 use Rattle.tl_explain.specs.statement.Sentences.{beat_line, memory_rule_line, rule_line}
 
 -- ---- events
 
--- 2^size bytes
-abbrev pub bytes_words : ℕ → List ℕ
-bytes_words size =
-    if size == 0 then codes "1 byte" else
-    if size == 1 then codes "2 bytes" else
-    if size == 2 then codes "4 bytes" else codes "8 bytes"
-
--- the bytes of a piece
-abbrev pub piece_words : Piece → List ℕ
-piece_words piece = bytes_words piece.size ++ (codes " at " ++ digits 8 piece.address)
-
--- their value, the byte of the highest address first
-abbrev pub value_words : Piece → ℕ → List ℕ
-value_words piece value = codes ": " ++ digits (value_digits piece.size) value
-
--- the action of a core
-abbrev pub commit_words : Commit → List ℕ
-commit_words (commit.Store piece value) = codes " stores " ++ (piece_words piece ++ value_words piece value)
-commit_words (commit.Load piece value) = codes " loads " ++ (piece_words piece ++ value_words piece value)
-commit_words (commit.Begin piece) = codes " begins to load " ++ piece_words piece
-
 -- the words of a commit, after the number of its line
 unfoldable pub commit_text : ℕ → Link → Commit → List ℕ
 commit_text n link x =
-    codes "  " ++ (decimal n ++ (codes ": link " ++ (digits 2 link.0 ++ (commit_words x ++ codes "\n"))))
+    codes "  " ++ (decimal n ++ (codes ": link " ++ ((digits 2 link.0 ++ commit_words x) ++ codes "\n")))
 
 -- the words of an event, after the number of its line
 abbrev pub event_text : {w : ℕ} → ℕ → Link → Event w → List ℕ

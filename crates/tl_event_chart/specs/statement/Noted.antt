@@ -3,10 +3,9 @@ use Rattle.std.specs.Prelude.{◌≡◌, ◌≤◌, ◌⊎◌, ◌+◌, ◌++◌
 use Rattle.tl_beat.specs.statement.Digits.{digits}
 use Rattle.tl_chart.specs.declared.note.Note.{Note}
 use Rattle.tl_chart.specs.declared.window.Window.{Window}
-use Rattle.tl_commit_story.specs.statement.Words.{commit_words}
+use Rattle.tl_commit_words.specs.statement.CommitWords.{commit_words, wide_commit_words}
 use Rattle.tl_events.specs.declared.commit.Commit.{Commit}
 use Rattle.tl_events.specs.declared.commit.Commit.TheVariants as commit
-use Rattle.tl_event_chart.specs.statement.WideWords.{wide_commit_words}
 use Rattle.tl_events.specs.statement.CommitLine.{SpellsCommit}
 use Rattle.tl_wide_events.specs.declared.commit.WideCommit.{WideCommit}
 use Rattle.tl_wide_events.specs.declared.commit.WideCommit.TheVariants as wide

@@ -3,7 +3,7 @@ use Rattle.std.specs.Prelude.{◌≡◌, ◌≤◌, ◌+◌, ◌++◌, ◌∷◌
 use Rattle.tl_beat.specs.declared.beat.Link.{Link}
 use Rattle.tl_commit_lines.specs.statement.MarkedHeader.{MarkedLinks}
 use Rattle.tl_lines.specs.declared.fault.Fault.{Fault}
-use Rattle.tl_event_chart.specs.code.Widened.{wide_piece_in}
+use Rattle.tl_commit_words.specs.statement.CommitWords.{wide_piece_in}
 use Rattle.tl_params.specs.declared.liberties.Liberties.{Liberties}
 use Rattle.tl_wide.specs.declared.width.WideWidth.{WideWidth}
 use Rattle.tl_wide.specs.statement.Width.{wide_bytes_of}

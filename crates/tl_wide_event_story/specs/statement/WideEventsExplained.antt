@@ -16,7 +16,7 @@ use Rattle.tl_lines.specs.statement.Fault.{fault_text}
 use Rattle.tl_lines.specs.statement.Lines.{lines_of}
 use Rattle.tl_lines.specs.statement.Parts.{AppendsShort}
 use Rattle.tl_reasons.specs.statement.Unexplained.{GivesUpReading, ReachesBy}
-use Rattle.tl_event_chart.specs.statement.WideWords.{wide_commit_words}
+use Rattle.tl_commit_words.specs.statement.CommitWords.{wide_commit_words}
 use Rattle.tl_params.specs.declared.liberties.Liberties.{Liberties}
 use Rattle.tl_wide.specs.declared.width.WideWidth.{WideWidth}
 use Rattle.tl_wide.specs.statement.Width.{wide_bytes_of}

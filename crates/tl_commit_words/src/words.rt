@@ -1,11 +1,10 @@
-//! The words of a store or a load beside a lifeline.
+//! Writes stores and loads in words.
 
 ghost use Rattle.std.specs.Prelude.{◌≡◌, ◌≤◌, ◌+◌, ◌++◌, length};
 ghost use Rattle.tl_beat.specs.statement.Digits.{digits};
-ghost use Rattle.tl_commit_story.specs.code.Stored.{piece_in};
-ghost use Rattle.tl_commit_story.specs.statement.Words;
-ghost use Rattle.tl_event_chart.specs.code.Widened.{wide_piece_in, widened, widened_piece};
-ghost use Rattle.tl_event_chart.specs.statement.WideWords.{action_words, piece_words, value_words, wide_commit_words};
+ghost use Rattle.tl_commit_words.specs.statement.CommitWords;
+ghost use Rattle.tl_commit_words.specs.statement.CommitWords.{action_words, commit_words, piece_in, piece_words, value_words};
+ghost use Rattle.tl_commit_words.specs.statement.CommitWords.{wide_commit_words, wide_piece_in, widened, widened_piece};
 ghost use Rattle.tl_events.specs.statement.CommitLine.{value_digits};
 
 use arrayvec::ArrayVec;
@@ -31,7 +30,7 @@ fn append(words: &mut ArrayVec<u8, 64>, text: &str)
 
 /// A number of bytes, `2^size` of them.
 fn bytes_words(size: u8) -> &'static str
-    ensures text { result.now ≡ Words.bytes_words size }
+    ensures text { result.now ≡ CommitWords.bytes_words size }
     ensures few { length result.now ≤ 7 }
 {
     match size {
@@ -129,11 +128,11 @@ fn widened(commit: Commit) -> WideCommit
     }
 }
 
-#[tactic(auto, using(crate::proofs::NarrowWords::narrow_words, crate::proofs::NarrowWords::same_size))]
+#[tactic(auto, using(crate::proofs::Sizes::same_size))]
 /// The words of a commit of a link in a narrow trace.
 pub fn words_of(link: Link, commit: Commit) -> ArrayVec<u8, 64>
     requires { (piece_in commit).size ≤ 3 }
-    ensures { result.items ≡ digits 2 link.0 ++ Words.commit_words commit }
+    ensures { result.items ≡ digits 2 link.0 ++ commit_words commit }
 {
     action_of(link, widened(commit), NARROW)
 }

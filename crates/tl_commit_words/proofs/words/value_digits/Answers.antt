@@ -1,5 +1,5 @@
-use Rattle.tl_commit_story.proofs.Told.{value-digits}
-use Rattle.tl_commit_story.proofs.words.value_digits.Goals as goal
+use Rattle.tl_commit_words.proofs.Digits.{value-digits}
+use Rattle.tl_commit_words.proofs.words.value_digits.Goals as goal
 
 pub returns-clause-count : goal.returns-clause-count
 returns-clause-count c = (value-digits c.args.size c.requires).0

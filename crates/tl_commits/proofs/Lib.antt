@@ -26,3 +26,4 @@ pub mod PendingReads
 pub mod ReadSteps
 pub mod BeatsJudged
 pub mod CommitsJudged
+pub mod BytesAnswered

@@ -7,6 +7,7 @@ pub mod Granting
 pub mod Loading
 pub mod Reached
 pub mod Reading
+pub mod Responding
 pub mod Judging
 pub mod Tellings
 pub mod ValueTable

@@ -6,5 +6,6 @@ pub mod Copied
 pub mod Copies
 pub mod Events
 pub mod Knows
+pub mod ResponseBytes
 pub mod Seen
 pub mod True

@@ -1,12 +1,14 @@
 //! The bytes that Grants may bring, by the beats and the commits.
 
-ghost use Rattle.std.specs.Prelude.{ℕ, true, false, List, Some, ◌+◌, ◌*◌, ◌<◌, ◌≤◌, ◌≡◌, length, option_copied};
+ghost use Rattle.std.specs.Prelude.{ℕ, true, false, List, Some, ◌+◌, ◌*◌, ◌<◌, ◌≤◌, ◌≡◌, ◌||◌, length, option_copied};
 ghost use Rattle.std.specs.Prelude.{option_map};
 ghost use Rattle.std.specs.Prelude.{IfOk, OnOk};
 ghost use Rattle.tl_beat.specs.declared.beat.Beat.TheVariants as beat;
 ghost use Rattle.tl_beat.specs.declared.opcode.OpD.TheVariants as d;
 ghost use Rattle.tl_beat.specs.statement.Width.{IsWidth};
 ghost use Rattle.tl_bytes.specs.statement.Bytes.{each_from};
+ghost use Rattle.tl_bytes.specs.code.Tellings.{left_as};
+ghost use Rattle.tl_memory.specs.code.ByteSet.{has_at};
 ghost use Rattle.tl_memory.specs.statement.Links.{KeepsRules};
 ghost use Rattle.tl_params.specs.declared.level.Level.{Level};
 ghost use Rattle.tl_params.specs.declared.liberties.Liberties.{Liberties};
@@ -26,6 +28,7 @@ use tl_beat::beat::{Beat, BeatD, Link};
 use tl_beat::opcode::OpD;
 use tl_bytes::telling::Told;
 use tl_bytes::write::{Write, is_left_as};
+use tl_memory::byte_set::{ByteSet, add_write, with_told};
 use tl_memory::message::either;
 use tl_rules::admission::is_spoiled;
 use tl_together::judge::Judge;
@@ -59,6 +62,33 @@ fn is_told_or_any(told: &Option<Vec<Told>>, place: u8, byte: u8) -> bool
     }
 }
 
+/// Each value, at each place of a block.
+fn all_sets() -> [ByteSet; 64]
+    ensures { (place v : ℕ) → place < 64 → v < 256 → has_at result place v ≡ true }
+{
+    [ByteSet::all(); 64]
+}
+
+/// The values of each place of a block, or all. All are if there are none.
+fn told_sets(told: &Option<Vec<Told>>) -> [ByteSet; 64]
+    ensures { (place v : ℕ) → place < 64 → v < 256 → has_at result place v ≡ code.told_or_any told.now place v }
+{
+    match told {
+        None => all_sets(),
+        Some(told) => with_told([ByteSet::none(); 64], told.as_slice(), 0),
+    }
+}
+
+/// Adds to the set of each place the values that these writes may leave there.
+fn add_writes(sets: &mut [ByteSet; 64], writes: &[Write])
+    ensures { (place v : ℕ) → place < 64 → v < 256 →
+        has_at sets.new place v ≡ (has_at sets.old place v || left_as place v writes.now) }
+{
+    for write in writes {
+        add_write(sets, write);
+    }
+}
+
 impl GrantBytes {
     /// Any bytes.
     fn any(alloc: Global) -> Self
@@ -79,6 +109,15 @@ impl GrantBytes {
         }
         let place = place as u8;
         is_told_or_any(&self.told, place, byte) || is_left_as(self.writes.as_slice(), place, byte)
+    }
+
+    /// The values that a Grant may bring at each place.
+    pub(crate) fn sets(&self) -> [ByteSet; 64]
+        ensures { (place v : ℕ) → place < 64 → v < 256 → has_at result place v ≡ code.may_bring self.now place v }
+    {
+        let mut sets = told_sets(&self.told);
+        add_writes(&mut sets, self.writes.as_slice());
+        sets
     }
 
     /// Whether a Grant may bring each of these bytes, from a place on.

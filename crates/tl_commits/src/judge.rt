@@ -66,9 +66,9 @@ pub struct CommitJudge<const W: usize> {
     pub(crate) loads: Vec<Loading>,
     pub(crate) values: ValueTable,
     /// For each link the bytes that its unfinished Grant may bring.
-    grants: Vec<GrantBytes>,
+    pub(crate) grants: Vec<GrantBytes>,
     /// The bytes that pending accesses may have found.
-    readings: Vec<Reading>,
+    pub(crate) readings: Vec<Reading>,
 }
 
 /// Whether a link has a cache: it has a level, C.
@@ -175,7 +175,7 @@ impl<const W: usize> CommitJudge<W> {
 
     /// Keeps the bytes that a GrantData may bring, if one begins with a beat, and makes a reading, if the beat is of a Get or an
     /// atomic. The error means that there is no memory left. All that is known stays true in either case.
-    fn meet(&mut self, link: Link, beat: &Beat<W>) -> Result<(), AllocError>
+    pub(crate) fn meet(&mut self, link: Link, beat: &Beat<W>) -> Result<(), AllocError>
         ensures knows { (levels : List Level) (complete : Completeness) (l : Liberties) (e : Events W) →
             KnowsCommits self.old levels complete l e → KnowsCommits self.new levels complete l e }
         ensures met { OnOk result ((levels : List Level) (complete : Completeness) (l : Liberties) (e : Events W) →

@@ -21,6 +21,7 @@ mod reached;
 mod reading;
 mod readings;
 mod renewing;
+pub mod responding;
 pub mod rule;
 mod tellings;
 mod value_table;

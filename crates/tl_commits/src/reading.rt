@@ -9,6 +9,7 @@ ghost use Rattle.tl_rules.specs.statement.Conformance.{Trace, on_link};
 ghost use Rattle.tl_rules.specs.statement.History.{block_at};
 ghost use Rattle.tl_together.specs.code.Windows.{MayShow};
 ghost use Rattle.tl_together.specs.statement.Knows.{Knows};
+ghost use Rattle.tl_memory.specs.code.ByteSet.{has_at};
 ghost use Rattle.tl_commits.specs.code.Reading as code;
 ghost use Rattle.tl_commits.specs.code.Reading.{AllowsAs, IsAnswered, IsAsked, IsFound, IsFresh, IsNoted, IsReader, IsTakenBy};
 ghost use Rattle.tl_commits.specs.code.ValueTable.{KnowsTable};
@@ -194,6 +195,19 @@ impl Reading {
             return true;
         }
         self.found[place].has(byte)
+    }
+
+    /// The values that the answer may bring at each place of its block: all at a place that the access doesn't reach.
+    pub(crate) fn sets(&self) -> [ByteSet; 64]
+        ensures { (place v : ℕ) → place < 64 → v < 256 → has_at result place v ≡ code.allows self.now place v }
+    {
+        let mut sets = self.found;
+        for place in 0..64usize {
+            if !reaches(self.address, self.size, place) {
+                sets[place] = ByteSet::all();
+            }
+        }
+        sets
     }
 
     /// Whether the answer may bring each of these bytes, from a place on.

@@ -5,6 +5,8 @@ ghost use Rattle.std.specs.Prelude.{option_copied};
 ghost use Rattle.tl_beat.specs.declared.beat.Beat.TheVariants as beat;
 ghost use Rattle.tl_beat.specs.declared.opcode.OpD.TheVariants as d;
 ghost use Rattle.tl_beat.specs.statement.Width.{IsWidth};
+ghost use Rattle.tl_bytes.specs.statement.Bytes as bytes;
+ghost use Rattle.tl_bytes.specs.statement.Bytes.{pending_accesses};
 ghost use Rattle.tl_memory.specs.statement.Links.{KeepsRules};
 ghost use Rattle.tl_params.specs.declared.level.Level.{Level};
 ghost use Rattle.tl_params.specs.declared.liberties.Liberties.{Liberties};
@@ -17,9 +19,11 @@ ghost use Rattle.tl_commits.specs.code.ValueTable.{KnowsTable};
 ghost use Rattle.tl_commits.specs.statement.Completeness.{Completeness};
 ghost use Rattle.tl_commits.specs.statement.Copies.{link_beats};
 ghost use Rattle.tl_commits.specs.statement.Events.{Events, beats_of};
+ghost use Rattle.tl_commits.specs.code.Responding.{AreAnswered};
 ghost use Rattle.tl_commits.specs.statement.True.{is_true_seen};
 
 use crate::reading::{Reading, reader};
+use crate::responding::ResponseBytes;
 use crate::value_table::ValueTable;
 use std::alloc::AllocError;
 use tl_beat::beat::{Beat, BeatD, Link};
@@ -168,6 +172,35 @@ fn has_found<const W: usize>(
             reading.allows_each(first, lanes)
         }
     }
+}
+
+/// The values that the bytes of an AccessAckData may have by this beat, if it answers a pending access.
+pub(crate) fn answer_bytes<const W: usize>(
+    judge: &Judge<W>,
+    readings: &Vec<Reading>,
+    link: Link,
+    x: &BeatD<W>,
+) -> Option<ResponseBytes>
+    requires { IsWidth W }
+    ensures { (levels : List Level) (l : Liberties) (complete : Completeness) (e : Events W) →
+        Knows judge.now levels l (beats_of e) false → KeepsRules l levels (link, beat.D x.now) (beats_of e) →
+        KnowsReadings readings.now.items complete (length levels) e → x.now.opcode ≡ d.AccessAckData →
+        AreAnswered result complete (length levels) link.0
+        (find (bytes.is_of link.0 x.now.source) (pending_accesses (beats_of e))) e }
+{
+    let Some(reading) = find(readings.as_slice(), link, x.source) else {
+        return None;
+    };
+    let block = block_at(reading.address);
+    if !judge.is_pending(block, link, x.source) {
+        return None;
+    }
+    let come = W.saturating_mul(judge.beats_come(link));
+    Some(ResponseBytes {
+        block,
+        first: base::<W>(reading.address).saturating_add(come),
+        sets: reading.sets(),
+    })
 }
 
 /// Whether an access may have found the bytes of a beat, if it is of an AccessAckData.

@@ -6,6 +6,7 @@ use Rattle.tl_commits.specs.declared.fault.CommitFault.TheVariants as fault
 use Rattle.tl_commits.specs.declared.rule.CommitBreach.{CommitBreach}
 use Rattle.tl_commits.specs.declared.rule.CommitBreach.TheVariants.{OfBeats, OfCommits}
 use Rattle.tl_together.specs.declared.breach.Breach.{Breach}
+use Rattle.tl_together.specs.declared.breach.Breach.TheVariants.{OfLink}
 use Rattle.tl_beat.specs.declared.beat.Beat.{Beat}
 use Rattle.tl_beat.specs.declared.beat.Beat.TheVariants as beat
 use Rattle.tl_params.specs.declared.memory_rule.MemoryRule.{MemoryRule}
@@ -13,7 +14,7 @@ use Rattle.tl_commits.specs.statement.Completeness.{Completeness}
 use Rattle.tl_commits.specs.statement.Breaches.{broken_bytes_seen}
 use Rattle.tl_commits.specs.statement.Events.{Events}
 use Rattle.tl_events.specs.declared.rule.CommitRule.{CommitRule}
-use Rattle.std.specs.Prelude.{ℕ, true, ◌≡◌, ◌==◌, if◌then◌else◌, Option, Some, None}
+use Rattle.std.specs.Prelude.{ℕ, Bool, true, false, ◌≡◌, ◌==◌, if◌then◌else◌, Option, Some, None}
 use Rattle.tl_commits.specs.code.Loading.{AreRenewed}
 use Rattle.tl_commits.specs.code.ValueTable.{has_own, Table, values_in}
 use Rattle.tl_commits.specs.declared.block_values.BlockValues.{BlockValues}
@@ -27,6 +28,11 @@ of_judge judge.Closed = fault.Memory
 
 abbrev pub of_rule : CommitRule → CommitFault
 of_rule rule = fault.Broken (OfCommits rule)
+
+-- it is the breach of a rule of a link
+abbrev pub is_of_link : Option Breach → Bool
+is_of_link (Some (OfLink rule)) = true
+is_of_link _ = false
 
 -- the breach of this rule of beats, or the other one if there is none
 abbrev pub breach_or : Option Breach → CommitBreach → Option CommitBreach

@@ -78,13 +78,17 @@ abbrev pub found_after_seen : {w : ℕ} → Option (Access w) → ℕ → ℕ �
 found_after_seen None link k e = e
 found_after_seen (Some access) link k e = if is_get access.request.opcode then e else before_last_seen link k e
 
+-- the answer to an access that finds its bytes after e at the latest may bring the byte v: the access may have found it, or
+-- doesn't reach its address
+abbrev pub may_answer_seen : {w : ℕ} → Completeness → ℕ → Access w → Events w → ℕ → ℕ → Bool
+may_answer_seen complete n access e address v =
+    not (reaches access.request.address access.request.size address) || may_read_seen complete n access e address v
+
 -- an access may have found the requested bytes of beat k of its answer by then
 abbrev pub reads_truly_seen : {w : ℕ} → Completeness → ℕ → Option (Access w) → ℕ → BeatD w → Events w → Bool
 reads_truly_seen complete n None k x e = true
 reads_truly_seen {w} complete n (Some access) k x e =
-    each_from (λ address v. not (reaches access.request.address access.request.size address)
-    || may_read_seen complete n access e address v)
-    (w * (access.request.address / w) + w * k) (lanes_of (beat.D x))
+    each_from (may_answer_seen complete n access e) (w * (access.request.address / w) + w * k) (lanes_of (beat.D x))
 
 -- M2: the bytes of a beat of a GrantData may be granted. Those that are in doubt aren't judged.
 abbrev pub is_true_grant_seen : {w : ℕ} → Completeness → ℕ → ℕ → BeatD w → Option Request → Events w → Bool

@@ -1,5 +1,5 @@
 -- A line as it is shown.
-use Rattle.std.proofs.Common.{◌≡◌, ◌∙◌, ◌<◌, ◌/◌, ◌%◌, ℕ, false, List, [], ◌∷◌, ◌++◌, refl, ap, ap₂, arith, codes}
+use Rattle.std.proofs.Common.{◌≡◌, ◌<◌, ◌/◌, ◌%◌, ℕ, false, [], ◌∷◌, ◌++◌, refl, ap₂, arith, codes}
 use Rattle.tl_beat.specs.statement.Digits.{digit_char, digits}
 use Rattle.tl_explain.specs.statement.Shown.{byte_text, is_printable, under}
 

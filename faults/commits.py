@@ -262,12 +262,12 @@ def reasons_slips(tool, name, trace, seed):
 
 
 def header_of(schedule):
-    """The header of the trace of a schedule with stores and loads."""
+    """The header of the trace of a schedule with stores and loads: memory was zero before it."""
     _, version, *fields = schedule.split("\n")[0].split()
     width = fields.pop(0) if version in "23" else "8"
     profile = fields.pop(0) if version == "3" else "1"
     levels = [it.split(":")[0].replace("C", "C+") for it in fields[2:]]
-    return " ".join(["tltrace 4", width, "none" if profile == "1" else "writer", *levels])
+    return " ".join(["tltrace 4", width, "none" if profile == "1" else "writer", "zero", *levels])
 
 
 def commits_of(said, outcome, begun):

@@ -510,10 +510,10 @@ ROWS = [
     ("tltool run --trace schedules/a_writer_becomes_a_reader.schedule | tltool coherent", 0, "coherent 29\n", ""),
     ("tltool random --seed 1 | tltool run --trace | tltool coherent", 0, "coherent 1337\n", ""),
     ("tltool run --trace --commits schedules/a_writer_becomes_a_reader.schedule | tltool coherent", 0, "coherent 32\n", ""),
-    ("tltool run --commits --trace <schedules/a_writer_becomes_a_reader.schedule | sed -n '1p;/ [SL] /p'", 0, "tltrace 4 8 none C+ C+\n00 S 0 00000000 5a\n00 L 0 00000000 5a\n01 L 0 00000000 5a\n", ""),
-    ("tltool random --seed 1 --profile 2 --width 16 | tltool run --trace --commits | sed -n 1p", 0, "tltrace 4 16 writer C+ C+ C+ UH\n", ""),
+    ("tltool run --commits --trace <schedules/a_writer_becomes_a_reader.schedule | sed -n '1p;/ [SL] /p'", 0, "tltrace 4 8 none zero C+ C+\n00 S 0 00000000 5a\n00 L 0 00000000 5a\n01 L 0 00000000 5a\n", ""),
+    ("tltool random --seed 1 --profile 2 --width 16 | tltool run --trace --commits | sed -n 1p", 0, "tltrace 4 16 writer zero C+ C+ C+ UH\n", ""),
     ("printf 'x\\n' | tltool run --trace --commits", 1, "line 1 F7\n", ""),
-    ("printf 'tlsched 1 1 1 UL:1\\nx\\n' | tltool run --trace --commits", 1, "tltrace 4 8 none UL\nline 2 F8\n", ""),
+    ("printf 'tlsched 1 1 1 UL:1\\nx\\n' | tltool run --trace --commits", 1, "tltrace 4 8 none zero UL\nline 2 F8\n", ""),
     # two links that write one block, stale bytes, and an answer beside a writer: no link breaks a rule of its own
     ("tltool monitor rules/M1.trace", 0, "clean 4\n", ""),
     ("tltool coherent rules/M1.trace", 1, "line 5 M1\n", ""),

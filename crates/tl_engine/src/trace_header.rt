@@ -122,7 +122,7 @@ fn liberties_word(profile: Profile) -> &'static str
     }
 }
 
-/// Appends the header of a trace of these clients with their stores and loads.
+/// Appends the header of a trace of these clients with their stores and loads. Memory was zero before it.
 fn append_commits_header(
     version: Version,
     clients: &[ClientConfig],
@@ -135,6 +135,7 @@ fn append_commits_header(
     out.extend_from_slice(width_word(version.width()).as_bytes())?;
     out.push(b' ')?;
     out.extend_from_slice(liberties_word(version.profile()).as_bytes())?;
+    out.extend_from_slice(b" zero")?;
     append_levels(true, clients, out)?;
     out.push(b'\n')?;
     Ok(())

@@ -5,6 +5,7 @@ pub mod first
 pub mod follows
 pub mod Found
 pub mod Halves
+pub mod Marks
 pub mod Ordered
 pub mod Places
 pub mod Plain

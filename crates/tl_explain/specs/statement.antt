@@ -3,6 +3,7 @@ pub mod ParamNames
 pub mod Pending
 pub mod Reasons
 pub mod Sentences
+pub mod Shown
 pub mod Since
 pub mod Text
 pub mod OrderRules

@@ -1,5 +1,8 @@
 //! Explains why a line spells no beat.
 
+ghost use Rattle.std.specs.Prelude.{OnOk};
+ghost use Rattle.tl_explain.specs.statement.Shown.{Grows, Shows};
+
 use crate::shown::{Span, append_line, shown};
 use std::io;
 use std::io::Write;
@@ -127,7 +130,9 @@ fn letter_of(line: &[u8]) -> u8 {
 }
 
 /// Appends a form in words.
-fn append_form(form: Form, width: usize, out: &mut Vec<u8>) -> io::Result<()> {
+fn append_form(form: Form, width: usize, out: &mut Vec<u8>) -> io::Result<()>
+    ensures { OnOk result (Grows out.old.items out.new.items) }
+{
     match form {
         Form::Digits(1) => out.write_all(b"1 digit of 0 to 9 and a to f"),
         Form::Digits(count) => write!(out, "{count} digits of 0 to 9 and a to f"),
@@ -141,7 +146,9 @@ fn append_form(form: Form, width: usize, out: &mut Vec<u8>) -> io::Result<()> {
 }
 
 /// Explains a fault in a line's length, end or number of fields.
-fn tell_shape(line: &[u8], out: &mut Vec<u8>) -> io::Result<()> {
+fn tell_shape(line: &[u8], out: &mut Vec<u8>) -> io::Result<()>
+    ensures { OnOk result (Shows line.now out.old.items out.new.items) }
+{
     let end = shown(line).len();
     let at_end = Span { from: end, to: end };
     if line.len() > 256 {
@@ -172,27 +179,37 @@ fn tell_shape(line: &[u8], out: &mut Vec<u8>) -> io::Result<()> {
     )
 }
 
-/// Explains the first field that doesn't have its form.
-fn tell_form(line: &[u8], width: usize, out: &mut Vec<u8>) -> io::Result<()> {
-    let front = shown(line);
-    let letter = letter_of(front);
+/// The number of the first field that doesn't have its form; that of the last field if each has its form.
+fn misfit(front: &[u8], letter: u8, width: usize) -> usize {
     let mut number = 0usize;
     for bytes in front.split(|b| *b == b' ') {
         number = number.saturating_add(1);
-        let field = field_of(letter, number, width / 4);
-        if !fits(field.form, bytes, width) {
-            append_line(line, span_of(front, number), out)?;
-            let name = field.name;
-            write!(out, "  field {number}, {name}: ")?;
-            append_form(field.form, width, out)?;
-            return out.write_all(b"\n");
+        if !fits(field_of(letter, number, width / 4).form, bytes, width) {
+            return number;
         }
     }
-    Ok(())
+    number
+}
+
+/// Explains the first field that doesn't have its form.
+fn tell_form(line: &[u8], width: usize, out: &mut Vec<u8>) -> io::Result<()>
+    ensures { OnOk result (Shows line.now out.old.items out.new.items) }
+{
+    let front = shown(line);
+    let letter = letter_of(front);
+    let number = misfit(front, letter, width);
+    let field = field_of(letter, number, width / 4);
+    append_line(line, span_of(front, number), out)?;
+    let name = field.name;
+    write!(out, "  field {number}, {name}: ")?;
+    append_form(field.form, width, out)?;
+    out.write_all(b"\n")
 }
 
 /// Appends the line, carets under the field with this number, and a sentence.
-fn tell_field(line: &[u8], number: usize, sentence: &str, out: &mut Vec<u8>) -> io::Result<()> {
+fn tell_field(line: &[u8], number: usize, sentence: &str, out: &mut Vec<u8>) -> io::Result<()>
+    ensures { OnOk result (Shows line.now out.old.items out.new.items) }
+{
     append_line(line, span_of(shown(line), number), out)?;
     write!(out, "  field {number}, {sentence}\n")
 }
@@ -205,7 +222,9 @@ fn unused_opcodes(letter: u8) -> &'static str {
     }
 }
 
-fn tell_data(line: &[u8], out: &mut Vec<u8>) -> io::Result<()> {
+fn tell_data(line: &[u8], out: &mut Vec<u8>) -> io::Result<()>
+    ensures { OnOk result (Shows line.now out.old.items out.new.items) }
+{
     let front = shown(line);
     let number = if letter_of(front) == b'C' { 8 } else { 9 };
     let sentence = if matches!(bytes_of(front, number), Some(b"-")) {
@@ -217,7 +236,9 @@ fn tell_data(line: &[u8], out: &mut Vec<u8>) -> io::Result<()> {
 }
 
 /// Appends the line, carets under the bytes at fault, and one sentence. Beats have `width` bytes.
-pub fn tell(line: &[u8], fault: LineFault, width: usize, out: &mut Vec<u8>) -> io::Result<()> {
+pub fn tell(line: &[u8], fault: LineFault, width: usize, out: &mut Vec<u8>) -> io::Result<()>
+    ensures { OnOk result (Shows line.now out.old.items out.new.items) }
+{
     match fault {
         LineFault::F1 => tell_shape(line, out),
         LineFault::F2 => tell_field(line, 2, "channel: one of A, B, C, D, E", out),

@@ -23,7 +23,8 @@ abbrev pub levels_shown : Bool → List Level → List ℕ
 levels_shown marked [] = []
 levels_shown marked (level ∷ levels) = codes " " ++ level_shown marked level ++ levels_shown marked levels
 
--- the line of the header, of a schedule's version
+-- the line of the header, of a schedule's version: memory is zero before a world's first event
 abbrev pub commits_header_line : Version → List Level → List ℕ
 commits_header_line version levels =
-    fourth_front (width_of version) ++ liberties_text (profile_of version) ++ levels_shown true levels ++ codes "\n"
+    fourth_front (width_of version) ++ liberties_text (profile_of version) ++ codes " zero" ++ levels_shown true levels
+    ++ codes "\n"

@@ -1,0 +1,8 @@
+use Rattle.std.proofs.Common.{◌≡◌, ◌++◌, drop}
+use Rattle.std.specs.List.{flat_map}
+use Rattle.tl_explain.specs.statement.Shown.{byte_text}
+use Rattle.tl_explain.proofs.shown.append_bytes.Given as goal
+
+abbrev pub invariant-loop-byte : goal.invariant-loop-byte
+invariant-loop-byte l =
+    l.out.items ++ flat_map byte_text (drop l.byte-index l.bytes) ≡ l.initial.out.items ++ flat_map byte_text l.bytes

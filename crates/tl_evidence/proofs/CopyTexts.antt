@@ -1,6 +1,6 @@
 -- The lines about bytes of a copy, by what is kept.
 use Rattle.std.proofs.Common.{◌≡◌, ◌≤◌, ◌<◌, ◌+◌, ◌-◌, ◌*◌, ◌/◌, ◌%◌, ◌^◌, ◌++◌, ◌∙◌, ℕ, zero, suc, Bool, true, false}
-use Rattle.std.proofs.Common.{List, [], ◌∷◌, length, refl, ap, arith, append_assoc, take, codes}
+use Rattle.std.proofs.Common.{List, [], ◌∷◌, get_or, length, refl, ap, arith, append_assoc, take, codes}
 use Rattle.std.specs.Hash.{le_bytes}
 use Rattle.std.specs.Int.{byte_at, bytes_low_first, to_le_bytes, w64}
 use Rattle.std.proofs.lemmas.Bool.{lt-ltb}
@@ -17,6 +17,7 @@ use Rattle.tl_commits.specs.statement.Commits.{gives, is_kept, may_bring, may_gi
 use Rattle.tl_commits.specs.statement.Copied.{copied, copy_values}
 use Rattle.tl_commits.specs.statement.Copies.{brought, link_beats}
 use Rattle.tl_commits.specs.statement.Events.{Events, at_some, beats_of}
+use Rattle.tl_commits.specs.code.Responding.{AreBytes}
 use Rattle.tl_commits.specs.statement.Seen.{memory_may, values_seen}
 use Rattle.tl_events.specs.declared.commit.Event.{Event}
 use Rattle.tl_events.specs.declared.commit.Piece.{Piece}
@@ -64,6 +65,12 @@ pub are-bytes : (i count value : ℕ) → AreAll Byte (bytes_low_first i count v
 unfolding AreAll
 are-bytes i zero value = tt
 are-bytes i (suc count) value = (byte-small i value, are-bytes (suc i) count value)
+
+-- the bytes of an array
+pub bytes-all : (lanes : List ℕ) → ((i : ℕ) → i < length lanes → get_or lanes i 0 < 256) → AreAll Byte lanes
+unfolding AreAll
+bytes-all [] fits = tt
+bytes-all (v ∷ lanes) fits = (fits 0 (omega arith), bytes-all lanes (λ i lt. fits (suc i) (omega (arith, lt))))
 
 pub so-many : (i count value : ℕ) → length (bytes_low_first i count value) ≡ count
 so-many i zero value = refl
@@ -182,6 +189,27 @@ module _ {w : ℕ} (r : CopyRecord w) (may : Liberties) (levels : List Level) (c
       ≡ loaded_lines complete n link piece value e
   loaded-by piece value first count b sets bytes s block set here room is long says =
       rw (block, set) (loaded-bytes piece value first count sets bytes here room is long says)
+
+  -- the bytes of a beat of a response, by what is kept of values that are these
+  pub brought-by : (first : ℕ) (sets : List ByteSet) (from block : ℕ) (test : ℕ → ℕ → Bool) (lanes : List ℕ) (s : SetLines)
+      → AreBytes (record { block = r.block; first = first; sets = sets }) w from test → block ≡ r.block → s ≡ r.copy
+      → length lanes ≡ w → AreAll Byte lanes → length sets ≡ 64
+      → strays_text as_recorded (λ i v. is_in_set (slice_get sets (i - (64 * block + 0))) v)
+      (λ i v. set_in s (i - 64 * block) v) 0 (64 * block + first) lanes
+      ≡ strays_text as_recorded test (set_in_copy complete n link e) 0 from lanes
+  brought-by first sets from block test lanes s are here set wide bytes long =
+      let start : base + first ≡ from = are.from_is in
+      rw (here, set, start) (strays-same as_recorded Byte (λ v lt. lt)
+      (λ i v. is_in_set (slice_get sets (i - (base + 0))) v) test (λ i v. set_in r.copy (i - base) v)
+      (set_in_copy complete n link e) 0 from lanes bytes
+      (λ i low high. (
+        λ v fits.
+            let inside : i - (base + 0) < 64 = omega (arith, low, high, wide, start, are.inside) in
+            let whole : base + (i - (base + 0)) ≡ i = omega (arith, low, start) in
+            ap (λ o. is_in_set o v) (slice_get-get_or sets (i - (base + 0)) nothing (omega (arith, inside, long)))
+            ∙ are.sets_are (i - (base + 0)) v inside fits ∙ ap (λ a. test a v) whole,
+        λ v fits. copy-set i v (omega (arith, low, start)) (omega (arith, high, wide, start, are.inside)) fits,
+      )))
 
   -- ---- bytes that are lost
 

@@ -1,3 +1,4 @@
 pub mod Convicted
 pub mod CopyLines
+pub mod ResponseLines
 pub mod SetLines

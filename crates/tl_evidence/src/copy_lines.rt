@@ -15,7 +15,7 @@ ghost use Rattle.tl_params.specs.declared.liberties.Liberties.{Liberties};
 
 use crate::byte_values::ByteValues;
 use crate::copy_record::CopyRecord;
-use crate::possible::{Loadable, Possible};
+use crate::possible::{Allowed, Possible};
 use crate::set_lines::SetLines;
 use crate::strays::{append_more, append_values, tell_lanes};
 use std::alloc::AllocError;
@@ -30,7 +30,7 @@ use tl_witness::places::Places;
 const TOLD: u8 = 8;
 
 /// The number of bytes in a block.
-const BYTES: u8 = 64;
+pub(crate) const BYTES: u8 = 64;
 
 /// The first place in its block, and the number, of the bytes of a piece that a line can spell. None if it is another.
 fn room_of(piece: Piece) -> Option<(u8, usize)>
@@ -55,7 +55,7 @@ impl<const W: usize> CopyRecord<W> {
     ghost use Rattle.tl_evidence.specs.code.Following.{KnowsCopy};
 
     /// These values of the block's bytes.
-    fn possible<'a>(&self, set: &'a SetLines) -> Possible<'a>
+    pub(crate) fn possible<'a>(&self, set: &'a SetLines) -> Possible<'a>
         ensures block { result.block ≡ self.now.block }
         ensures set { result.set.now ≡ set.now }
     {
@@ -79,7 +79,7 @@ impl<const W: usize> CopyRecord<W> {
             return Ok(false);
         };
         let sets = self.judge.loaded(self.link, piece);
-        let values = Loadable {
+        let values = Allowed {
             first,
             sets: &sets,
             possible: self.possible(&self.copy),

@@ -7,5 +7,6 @@ pub mod copy_lines;
 pub mod copy_record;
 mod possible;
 mod recording;
+pub mod response_lines;
 mod set_lines;
 mod strays;

@@ -1,4 +1,4 @@
-//! The values that the bytes of a block may have in a copy, in memory or by a load.
+//! The values that the bytes of a block may have in a copy, in memory, by a load or in a response.
 
 ghost use Rattle.std.specs.Prelude.{slice_get, ◌^◌, ◌<◌, ◌≡◌};
 
@@ -41,7 +41,7 @@ impl ByteValues for Possible<'_> {
 }
 
 /// The set at this place of a list, if there is one.
-fn set_at(sets: &[ByteSet; 8], at: usize) -> Option<ByteSet>
+fn set_at(sets: &[ByteSet], at: usize) -> Option<ByteSet>
     ensures { result ≡ slice_get sets.now at }
 {
     match sets.get(at) {
@@ -50,15 +50,15 @@ fn set_at(sets: &[ByteSet; 8], at: usize) -> Option<ByteSet>
     }
 }
 
-/// The values that a load may bring of the bytes from a place of a block on: a set for each.
+/// The values that the bytes from a place of a block on may have in a load or a response: a set for each.
 #[derive(Drop)]
-pub struct Loadable<'a> {
+pub struct Allowed<'a> {
     pub first: u8,
-    pub sets: &'a [ByteSet; 8],
+    pub sets: &'a [ByteSet],
     pub possible: Possible<'a>,
 }
 
-impl ByteValues for Loadable<'_> {
+impl ByteValues for Allowed<'_> {
     ghost use Rattle.std.specs.Prelude.{◌-◌, ◌+◌, ◌*◌, slice_get};
     ghost use Rattle.tl_evidence.specs.code.Following.{is_in_set, set_in};
 

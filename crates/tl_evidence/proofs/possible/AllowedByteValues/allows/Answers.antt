@@ -1,7 +1,7 @@
 use Rattle.std.proofs.Common.{◌≡◌, ◌+◌, ◌-◌, ◌*◌, ◌∙◌, ap, arith, sym}
 use Rattle.std.specs.Prelude.{slice_get}
 use Rattle.tl_evidence.specs.code.Following.{is_in_set}
-use Rattle.tl_evidence.proofs.possible.LoadableByteValues.allows.Goals as goal
+use Rattle.tl_evidence.proofs.possible.AllowedByteValues.allows.Goals as goal
 
 pub returns-in-Some : goal.returns-in-Some
 returns-in-Some c =

@@ -588,6 +588,8 @@ ROWS = [
     ("sed '6s/06/6/' rules/M6.trace >digit.trace; tltool explain digit.trace | tail -3", 0, f"  00 L 0 00000000 6\n  {16 * ' '}^\n  field 5, data: 2 digits of 0 to 9 and a to f\n", ""),
     ("sed '3s/4 0/4 4/' rules/M6.trace >param.trace; tltool explain param.trace | tail -3", 0, f"  00 D 4 4 6 00 00 0 - 0\n  {7 * ' '}^\n  field 4, param: at most 3\n", ""),
     ("(sed 5q rules/M6.trace; printf '00 L 0') >cut.trace; tltool explain --coherent cut.trace | sed 2d", 0, f"line 6 F1\n  00 L 0\n  {6 * ' '}^\n  the line doesn't end in a line feed\n", ""),
+    ("sed '2s/$/ 0 0 0 0 0 0 0 0 0 0 0 0 0 0 0 0 0 0 0 0/' rules/M6.trace >wide.trace; tltool explain wide.trace | sed 2d", 0, f"line 2 F1\n  00 A 7 1 6 00 00000000 ff - 0{20 * ' 0'}\n  {30 * ' '}{39 * '^'}\n  fields: 30; a line of channel A has 10\n", ""),
+    ("sed \"5s/$/$(printf %0300d 0)/\" rules/M6.trace >many.trace; tltool explain many.trace | sed 2d", 0, f"line 5 F1\n  00 S 0 00000000 05{238 * '0'}\n  {256 * ' '}^\n  the line has more than 256 bytes\n", ""),
     # which links hold what conflicts, since which of these lines
     ("sed -e '1s/.*/tltrace 4 8 none C+ C+/' -e '1a01 I 0 00000040' -e '2a01 I 0 00000080' rules/M1.trace >held.trace; tltool explain --coherent held.trace | sed '1p;$!d'", 0, "line 7 M1\n  link 00 holds Trunk of block 00000000 since line 5\n", ""),
     ("sed -e '1s/.*/tltrace 4 8 none C+ C+/' -e '2a01 I 0 00000040' -e '4a01 I 0 00000080' rules/M1_begun.trace >begun.trace; tltool explain --coherent begun.trace | sed '1p;$!d'", 0, "line 7 M1\n  link 00 is being granted Trunk of block 00000000 since line 5\n", ""),

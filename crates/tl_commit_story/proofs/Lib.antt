@@ -1,5 +1,6 @@
 pub mod Copies
 pub mod Followed
+pub mod LineShown
 pub mod LinksFollowed
 pub mod Numbers
 pub mod Recorded

@@ -1,5 +1,7 @@
 -- What a handler says that judges the lines and reads them again.
-use Rattle.std.proofs.Common.{◌≡◌, ◌∙◌, ◌+◌, ◌++◌, ℕ, Bool, true, false, List, [], ap, sym, subst, arith}
+use Rattle.std.proofs.Common.{◌≡◌, ◌≢◌, ◌∙◌, ◌+◌, ◌<◌, ◌++◌, ℕ, Bool, true, false, List, [], ap, sym, subst, arith}
+use Rattle.std.proofs.Common.{drop, length, take}
+use Rattle.std.proofs.lemmas.List.{length-take-le}
 use Rattle.std.specs.Prelude.{Option, Some, None}
 use Rattle.std.specs.Io.KnownBytes.{Consumes}
 use Rattle.tl_commit_lines.proofs.EventsJudged.{commits-so-far, events-have-text}
@@ -8,19 +10,27 @@ use Rattle.tl_commit_lines.specs.statement.JudgedEvents.{CommitsSoFar, JudgedCom
 use Rattle.tl_lines.specs.code.GivenUp.{IsKnown}
 use Rattle.tl_lines.specs.code.Judging.{Ends, Finishes, IsTotal, Judges, KnowsFor, Stops}
 use Rattle.tl_lines.specs.code.Progress.{HasAll}
+use Rattle.tl_beat.specs.declared.fault.LineFault.{LineFault}
+use Rattle.tl_events.specs.statement.EventLine.{event_fault}
+use Rattle.tl_explain.specs.statement.Shown.{Shows}
 use Rattle.tl_lines.specs.declared.fault.Fault.{Fault}
+use Rattle.tl_lines.specs.declared.fault.Fault.TheVariants.{Beyond, CommitRule, Event, Header, Line, MemoryRule, Rule}
 use Rattle.tl_lines.specs.declared.status.Status.{Status}
 use Rattle.tl_lines.specs.declared.status.Status.TheVariants.{Clean, Broken}
 use Rattle.tl_lines.specs.statement.Fault.{fault_text}
 use Rattle.tl_lines.specs.statement.Lines.{lines_of}
 use Rattle.tl_lines.specs.statement.Run.{RunsTo}
+use Rattle.tl_lines.specs.statement.Width.{bytes_of}
 use Rattle.tl_params.specs.declared.liberties.Liberties.{Liberties}
+use Rattle.tl_params.specs.declared.width.Width.{Width}
+use Rattle.tl_reasons.specs.statement.Fronts.{front_after, line_after}
 use Rattle.tl_commit_lines.specs.statement.MarkedHeader.{NamesMarked}
 use Rattle.tl_commit_story.specs.code.Replaying.{EndsStory, HasTold, KnowsStory, ReadsLast, ReadsLine}
 use Rattle.tl_commit_story.specs.declared.examine.EventExaminer.{EventExaminer}
 use Rattle.tl_commit_story.specs.declared.story.Story.{Story}
-use Rattle.tl_commit_story.specs.statement.Explained.{Explains, IsExplained, ReachesEvents}
-use Rattle.tl_commit_story.specs.statement.Words.{is_breach, other_words}
+use Rattle.tl_commit_story.specs.statement.Explained.{AreWords, Explains, IsExplained, ReachesEvents}
+use Rattle.tl_commit_story.specs.statement.Words.{is_breach, is_of_line, line_words, other_words}
+use Rattle.tl_commit_story.proofs.LineShown.{fault-of-front, line-there, shows-front, stands-at}
 
 abbrev Tells : Type 1
 Tells = List (List ℕ) → List ℕ → Status → Type 0
@@ -114,12 +124,54 @@ pub reached : (together : Bool) (allow : Liberties) (had left : Option (List ℕ
 reached together allow had left held verdict status none (read, text, consumed, appended, judged, ends) =
     rw (appended, none) (read, consumed, judged, ends)
 
--- of a fault that is no breach of a rule the words are told
+-- ---- a fault that is no breach of a rule
+
+-- its words are all that is told
 pub other-explains : (together : Bool) (allow : Liberties) (old new : Option (List ℕ)) (verdict reasons : List ℕ)
-    (good : ℕ) (found : Fault) (mid shown : List ℕ) → is_breach found ≡ false → verdict ≡ fault_text (good + 1) found
-    → mid ≡ other_words found → reasons ≡ mid ++ shown → Explains together allow old new verdict reasons Broken
-other-explains together allow old new verdict reasons good found mid shown other says why more = (
+    (good : ℕ) (found : Fault) → is_breach found ≡ false → is_of_line found ≡ false
+    → verdict ≡ fault_text (good + 1) found → reasons ≡ other_words found
+    → Explains together allow old new verdict reasons Broken
+other-explains together allow old new verdict reasons good found other apart says why = (
   found,
   (λ breach. let no : true ≡ false = sym breach ∙ other in absurd cc),
-  λ _. (good + 1, says, (shown, more ∙ ap (λ (text : List ℕ). text ++ shown) why)),
+  λ _. (good + 1, says, go found apart why),
 )
+  where
+    go : (f : Fault) → is_of_line f ≡ false → reasons ≡ other_words f → AreWords old new (good + 1) f reasons
+    go (Line found) apart why = absurd cc
+    go Header apart why = why
+    go (Rule rule) apart why = why
+    go (MemoryRule rule) apart why = why
+    go (CommitRule rule) apart why = why
+    go Beyond apart why = why
+    go (Event found) apart why = why
+
+-- a line that spells no event is shown
+pub line-explains : (together : Bool) (allow : Liberties) (old new : Option (List ℕ)) (verdict reasons : List ℕ)
+    (good : ℕ) (found : LineFault) (width : Width) (read front : List ℕ) → verdict ≡ fault_text (good + 1) (Line found)
+    → Consumes old new read → front ≡ front_after good read → front ≢ []
+    → event_fault (bytes_of width) front ≡ Some found → Shows front (line_words found) reasons
+    → Explains together allow old new verdict reasons Broken
+line-explains together allow old new verdict reasons good found width read front says consumed is some has shows = (
+  Line found,
+  (λ breach. absurd cc),
+  λ _. (
+    good + 1,
+    says,
+    record {
+      read = read;
+      consumed = consumed;
+      before = take good (lines_of read);
+      line = line_after good read;
+      more = drop (good + 1) (lines_of read);
+      stands = stands-at good (lines_of read) there;
+      number = omega (arith, length-take-le good (lines_of read) (omega (arith, there)));
+      width = width;
+      has_fault = sym (fault-of-front (bytes_of width) (line_after good read)) ∙ rw is at has;
+      shows = shows-front (line_after good read) (line_words found) reasons (rw is at shows);
+    },
+  ),
+)
+  where
+    there : good < length (lines_of read)
+    there = line-there good (lines_of read) (λ none. some (is ∙ ap (take 257) none))

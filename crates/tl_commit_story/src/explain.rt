@@ -14,7 +14,7 @@ ghost use Rattle.tl_commit_story.specs.statement.Explained.{Explains, GivesUpEve
 ghost use Rattle.tl_commit_story.specs.statement.Words.{is_breach};
 
 use crate::examine::{Found, examine};
-use crate::explain_line::{explain_line, explain_open, explain_other};
+use crate::explain_line::{explain_line, explain_other};
 use crate::pending::PendingEvents;
 use crate::places::subject_of_event;
 use crate::replay::{Replay, State};
@@ -22,6 +22,7 @@ use crate::sentences::{is_breach, limits};
 use crate::story::Story;
 use std::alloc::{AllocError, Global};
 use std::io::{Read, Write};
+use tl_beat::fault::LineFault;
 use tl_commit_lines::lines::EventLines;
 use tl_events::event::read_event;
 use tl_explain::told::Spelling;
@@ -254,11 +255,22 @@ fn explain_found<R: Read>(
                 out,
             )
         }
-        (width, Some((Fault::Line(fault), line))) => {
-            explain_line(alloc, found.good, width, *fault, line, verdict, out)
+        (Some(width), Some((Fault::Line(fault), _))) => {
+            explain_line(alloc, reader, found.good, width, *fault, verdict, out)
         }
-        (_, Some((fault, _))) => explain_other(alloc, found.good, *fault, &[], verdict, out),
-        (_, None) => explain_open(alloc, reader, found.good, verdict, out),
+        (Some(width), None) => {
+            explain_line(
+                alloc,
+                reader,
+                found.good,
+                width,
+                LineFault::F1,
+                verdict,
+                out,
+            )
+        }
+        (_, Some((fault, _))) => explain_other(alloc, found.good, *fault, verdict, out),
+        (None, None) => Err(ExplainFault::Changed),
     }
 }
 

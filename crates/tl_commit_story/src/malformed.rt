@@ -1,5 +1,8 @@
 //! Shows a line that spells no event, with carets under the bytes at fault.
 
+ghost use Rattle.std.specs.Prelude.{OnOk};
+ghost use Rattle.tl_explain.specs.statement.Shown.{Grows, Shows};
+
 use std::io;
 use std::io::Write;
 use tl_beat::fault::LineFault;
@@ -106,7 +109,9 @@ fn may_have(fault: LineFault, form: Form) -> bool {
 }
 
 /// Appends a form in words.
-fn append_form(form: Form, out: &mut Vec<u8>) -> io::Result<()> {
+fn append_form(form: Form, out: &mut Vec<u8>) -> io::Result<()>
+    ensures { OnOk result (Grows out.old.items out.new.items) }
+{
     match form {
         Form::Digits(count) => write!(out, "{count} digits of 0 to 9 and a to f"),
         Form::Letter => out.write_all(b"one of A, B, C, D, E, S, L, I"),
@@ -119,7 +124,9 @@ fn append_form(form: Form, out: &mut Vec<u8>) -> io::Result<()> {
 }
 
 /// Appends the number of fields of a line, and how many one with this letter has.
-fn append_count(front: &[u8], letter: u8, out: &mut Vec<u8>) -> io::Result<()> {
+fn append_count(front: &[u8], letter: u8, out: &mut Vec<u8>) -> io::Result<()>
+    ensures { OnOk result (Grows out.old.items out.new.items) }
+{
     let mut count = 0usize;
     for _bytes in front.split(|b| *b == b' ') {
         count = count.saturating_add(1);
@@ -136,7 +143,9 @@ fn append_wanted(
     number: usize,
     field: Field,
     out: &mut Vec<u8>,
-) -> io::Result<()> {
+) -> io::Result<()>
+    ensures { OnOk result (Grows out.old.items out.new.items) }
+{
     if field.form == Form::Surplus {
         return append_count(front, letter, out);
     }
@@ -146,10 +155,16 @@ fn append_wanted(
     out.write_all(b"\n")
 }
 
-/// Appends the line, carets under its first field with this fault, and the form of that. If no field has it, one is
-/// missing at the end.
-fn tell_fields(line: &[u8], fault: LineFault, letter: u8, out: &mut Vec<u8>) -> io::Result<()> {
-    let front = shown(line);
+/// A field at fault, by its number, and its place in the line.
+#[derive(Clone, Copy)]
+struct Misfit {
+    number: usize,
+    field: Field,
+    span: Span,
+}
+
+/// The first field with this fault.
+fn first_misfit(front: &[u8], fault: LineFault, letter: u8) -> Option<Misfit> {
     let mut multiple = 1;
     let mut number = 0usize;
     let mut from = 0usize;
@@ -158,25 +173,53 @@ fn tell_fields(line: &[u8], fault: LineFault, letter: u8, out: &mut Vec<u8>) -> 
         let to = from.saturating_add(bytes.len());
         let field = field_of(letter, number, multiple);
         if may_have(fault, field.form) && !fits(field.form, bytes) {
-            append_line(line, Span { from, to }, out)?;
-            return append_wanted(front, letter, number, field, out);
+            let span = Span { from, to };
+            return Some(Misfit {
+                number,
+                field,
+                span,
+            });
         }
         if field.form == Form::Size {
             multiple = bytes_of(bytes);
         }
         from = to.saturating_add(1);
     }
-    let end = front.len();
-    append_line(line, Span { from: end, to: end }, out)?;
-    append_count(front, letter, out)
+    None
+}
+
+/// Appends the line, carets under its first field with this fault, and the form of that. If no field has it, one is
+/// missing at the end.
+fn tell_fields(line: &[u8], fault: LineFault, letter: u8, out: &mut Vec<u8>) -> io::Result<()>
+    ensures { OnOk result (Shows line.now out.old.items out.new.items) }
+{
+    let front = shown(line);
+    match first_misfit(front, fault, letter) {
+        Some(misfit) => {
+            append_line(line, misfit.span, out)?;
+            append_wanted(front, letter, misfit.number, misfit.field, out)
+        }
+        None => {
+            let end = front.len();
+            append_line(line, Span { from: end, to: end }, out)?;
+            append_count(front, letter, out)
+        }
+    }
+}
+
+/// Whether a line has an LF at its end, and not too many bytes.
+fn is_closed(line: &[u8]) -> bool {
+    line.len() <= 256 && matches!(line, [.., b'\n'])
 }
 
 /// Appends a line that spells no event, carets under the bytes at fault, and one sentence. Beats have `width` bytes.
-pub fn tell(line: &[u8], fault: LineFault, width: usize, out: &mut Vec<u8>) -> io::Result<()> {
+pub fn tell(line: &[u8], fault: LineFault, width: usize, out: &mut Vec<u8>) -> io::Result<()>
+    ensures { OnOk result (Shows line.now out.old.items out.new.items) }
+{
     let letter = letter(after_space(shown(line))).unwrap_or(b'?');
     match (letter, fault) {
         (_, LineFault::F2) => tell_fields(line, fault, letter, out),
-        (b'S' | b'L' | b'I', LineFault::F1 | LineFault::F3) => {
+        (b'S' | b'L' | b'I', LineFault::F1 | LineFault::F3) if is_closed(line) => {
             tell_fields(line, fault, letter, out)
         }
         _ => spelling::tell(line, fault, width, out),

@@ -17,7 +17,7 @@ use tl_lines::fault::Fault;
 use tl_params::width::Width;
 
 /// The number of bytes of a beat.
-fn bytes(width: Width) -> usize
+pub fn bytes(width: Width) -> usize
     ensures { result ≡ bytes_of width }
 {
     match width {

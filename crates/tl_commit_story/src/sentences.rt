@@ -33,6 +33,13 @@ pub fn is_breach(fault: Fault) -> bool
     )
 }
 
+/// Whether the fault is that of a line that spells no event.
+pub fn is_of_line(fault: Fault) -> bool
+    ensures { result ≡ Words.is_of_line fault }
+{
+    matches!(fault, Fault::Line(_))
+}
+
 /// The line of the fault of a line that spells no event.
 fn line_words(fault: LineFault) -> &'static str
     ensures { result.now ≡ Words.line_words fault }

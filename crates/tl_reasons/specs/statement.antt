@@ -1,3 +1,4 @@
 pub mod CommitSentences
 pub mod Explained
+pub mod Fronts
 pub mod Unexplained

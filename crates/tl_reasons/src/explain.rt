@@ -269,14 +269,13 @@ fn explain_found<const W: usize, R: Read>(
         found.now.fault out.new.items status) }
     ensures fault { IfErr result (λ fault. fault ≢ ExplainFault.Tool ToolFault.Write) }
 {
-    let number = number_behind(found.good)?;
     match (status, &found.fault) {
         (Status::Clean, _) => { explain_clean::<W>(coherent, ledger, out) }
         (Status::Broken, None) => {
-            explain_spelling::<W, R>(alloc, reader, number, LineFault::F1, out)
+            explain_spelling::<W, R>(alloc, reader, found.good, LineFault::F1, out)
         }
         (Status::Broken, Some((Fault::Line(fault), _))) => {
-            explain_spelling::<W, R>(alloc, reader, number, *fault, out)
+            explain_spelling::<W, R>(alloc, reader, found.good, *fault, out)
         }
         (Status::Broken, Some((Fault::Rule(rule), line))) => {
             if is_legality(*rule) {

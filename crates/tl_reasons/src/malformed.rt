@@ -5,44 +5,14 @@ ghost use Rattle.tl_beat.specs.statement.Width.{IsWidth};
 
 use crate::explain_fault::ExplainFault;
 use crate::heading;
+use crate::line_front::fetch;
 use std::alloc::Global;
 use std::io::Read;
 use tl_beat::fault::LineFault;
 use tl_beat::read::read_line;
 use tl_explain::spelling;
-use tl_lines::engine::{new_chunk, next_piece};
 use tl_lines::links_header::read_links;
 use tl_lines::status::ToolFault;
-
-/// The number of bytes of a line that are read.
-const LOOKED_AT: usize = 257;
-
-/// The first 257 bytes, at most, of the line of this number, from 1 on, with its LF if it is among them.
-fn fetch<R: Read>(alloc: Global, reader: &mut R, number: u64) -> Result<Vec<u8>, ExplainFault>
-    ensures fault { IfErr result (λ fault. fault ≢ ExplainFault.Tool ToolFault.Write) }
-{
-    let mut chunk = new_chunk(alloc)?;
-    let mut line = Vec::new(alloc);
-    let mut at = 1u64;
-    for _ in 0..u64::MAX {
-        let count = next_piece(reader, &mut chunk)?;
-        if count == 0 {
-            return Ok(line);
-        }
-        for byte in &chunk[..count] {
-            if at == number && line.len() < LOOKED_AT {
-                line.extend_from_slice(&[*byte])?;
-            }
-            if *byte == b'\n' {
-                at = at.saturating_add(1);
-            }
-        }
-        if at > number || line.len() >= LOOKED_AT {
-            return Ok(line);
-        }
-    }
-    Ok(line)
-}
 
 /// Explains a first line that is no header. `Changed` if it is one.
 pub(crate) fn explain_header<R: Read>(
@@ -52,7 +22,7 @@ pub(crate) fn explain_header<R: Read>(
 ) -> Result<(), ExplainFault>
     ensures fault { IfErr result (λ fault. fault ≢ ExplainFault.Tool ToolFault.Write) }
 {
-    let line = fetch(alloc, reader, 1)?;
+    let line = fetch(alloc, reader, 0)?;
     if line.len() <= 256 && read_links(&line).is_some() {
         return Err(ExplainFault::Changed);
     }
@@ -60,18 +30,18 @@ pub(crate) fn explain_header<R: Read>(
     Ok(())
 }
 
-/// Explains a line that spells no beat.
-pub fn explain_spelling<const W: usize, R: Read>(
+/// Explains the line after this many, which spells no beat.
+pub(crate) fn explain_spelling<const W: usize, R: Read>(
     alloc: Global,
     reader: &mut R,
-    number: u64,
+    good: u64,
     fault: LineFault,
     out: &mut Vec<u8>,
 ) -> Result<(), ExplainFault>
     requires { IsWidth W }
     ensures fault { IfErr result (λ fault. fault ≢ ExplainFault.Tool ToolFault.Write) }
 {
-    let line = fetch(alloc, reader, number)?;
+    let line = fetch(alloc, reader, good)?;
     match read_line::<W>(&line) {
         Err(again) if again == fault => {
             spelling::tell(&line, fault, W, out)?;

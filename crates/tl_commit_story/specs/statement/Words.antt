@@ -42,6 +42,11 @@ is_breach (fault.MemoryRule rule) = true
 is_breach (fault.CommitRule rule) = true
 is_breach _ = false
 
+-- the fault is that of a line that spells no event
+abbrev pub is_of_line : Fault → Bool
+is_of_line (fault.Line found) = true
+is_of_line _ = false
+
 -- the line of the fault of a line that spells no event
 abbrev pub line_words : LineFault → List ℕ
 line_words F1 = codes

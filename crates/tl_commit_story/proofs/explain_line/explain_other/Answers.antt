@@ -5,5 +5,4 @@ use Rattle.tl_commit_story.proofs.explain_line.explain_other.Goals as goal
 pub returns-clause-ok : goal.returns-clause-ok
 returns-clause-ok c = λ together allow old new.
     other-explains together allow old new c.args.verdict.now _ c.args.good c.args.fault
-    c.extend_from_slice.new.self.items c.args.shown.now (search rules) (search rules) (search rules)
-    c.in_ok-extend_from_slice-2.ensures.items
+    (search rules) (search rules) (search rules) (search rules)

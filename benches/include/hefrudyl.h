@@ -185,6 +185,11 @@ tl_answer tl_judge_push_line(tl_judge *judge, const uint8_t *line, size_t length
 tl_answer tl_judge_new_commits(tl_judge *judge, const uint8_t *levels, size_t links, const uint8_t *complete,
                                size_t complete_count, uint8_t width, uint8_t liberties);
 
+/* The same, and `zero` is 1 where memory was zero before the first beat (the word `zero` of a trace), else 0: then it may
+   have been anything, as for tl_judge_new_commits. */
+tl_answer tl_judge_new_commits_zero(tl_judge *judge, const uint8_t *levels, size_t links, const uint8_t *complete,
+                                    size_t complete_count, uint8_t zero, uint8_t width, uint8_t liberties);
+
 /* Judges a commit of a link, 0 to 15, after the earlier beats and commits of all links: L1 where the link has no cache,
    M5 where the cache hasn't the copy that was stored to or loaded from, M6 where a load brought a byte that the copy can't
    have. Of one clock edge those commits come first that see the copy as it is before the edge, then the beats, then those
@@ -204,6 +209,10 @@ tl_answer tl_judge_new_wide(tl_judge *judge, const uint8_t *levels, size_t links
    Beats are pushed by tl_judge_push_wide, and commits by tl_judge_commit. */
 tl_answer tl_judge_new_wide_commits(tl_judge *judge, const uint8_t *levels, size_t links, const uint8_t *complete,
                                     size_t complete_count, uint8_t width, uint8_t liberties);
+
+/* The same, and `zero` is that of tl_judge_new_commits_zero. */
+tl_answer tl_judge_new_wide_commits_zero(tl_judge *judge, const uint8_t *levels, size_t links, const uint8_t *complete,
+                                         size_t complete_count, uint8_t zero, uint8_t width, uint8_t liberties);
 
 /* Judges a wide beat of a link, after the earlier beats and commits of all links, as tl_monitor_push_wide does. The names of a
    commit count as those of a beat: one that names more than 2^26 blocks is TL_TOO_MANY. After TL_NO_MEMORY the same beat or

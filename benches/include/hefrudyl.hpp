@@ -169,11 +169,12 @@ private:
 /// A judge of beats and commits of all links of one manager.
 class CommitJudge : public Handle<tl_judge, tl_judge_free> {
 public:
-  /// Of links of these levels that have these liberties; `complete` has 1 for each of which all stores will be judged.
+  /// Of links of these levels that have these liberties; `complete` has 1 for each of which all stores will be judged, and
+  /// `zero` says whether memory was zero before the first beat.
   explicit CommitJudge(const std::vector<std::uint8_t> &levels, const std::vector<std::uint8_t> &complete,
-                       std::uint8_t width = 8, std::uint8_t liberties = 0) {
-    tl_answer answer = tl_judge_new_commits(&handle, levels.data(), levels.size(), complete.data(), complete.size(),
-                                            width, liberties);
+                       std::uint8_t width = 8, std::uint8_t liberties = 0, bool zero = false) {
+    tl_answer answer = tl_judge_new_commits_zero(&handle, levels.data(), levels.size(), complete.data(), complete.size(),
+                                                 zero, width, liberties);
     require_made(answer, "hefrudyl: levels, complete or width");
   }
 
@@ -219,11 +220,11 @@ using WideJudge = Wide<tl_judge, tl_judge_free, tl_judge_new_wide, tl_judge_push
 /// A judge of wide beats and commits of all links of one manager.
 class WideCommitJudge : public Handle<tl_judge, tl_judge_free> {
 public:
-  /// Of links of these levels that have these liberties; `complete` has 1 for each of which all stores will be judged.
+  /// Of links of these levels that have these liberties; `complete` and `zero` are those of CommitJudge.
   explicit WideCommitJudge(const std::vector<std::uint8_t> &levels, const std::vector<std::uint8_t> &complete,
-                           std::uint8_t width, std::uint8_t liberties = 0) {
-    tl_answer answer = tl_judge_new_wide_commits(&handle, levels.data(), levels.size(), complete.data(), complete.size(),
-                                                 width, liberties);
+                           std::uint8_t width, std::uint8_t liberties = 0, bool zero = false) {
+    tl_answer answer = tl_judge_new_wide_commits_zero(&handle, levels.data(), levels.size(), complete.data(),
+                                                      complete.size(), zero, width, liberties);
     require_made(answer, "hefrudyl: levels, complete or width");
   }
 

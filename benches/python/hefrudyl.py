@@ -309,9 +309,9 @@ def _load():
         under = getattr(library, f"tl_{name}_new_under")
         under.restype, under.argtypes = _Answer, getattr(library, f"tl_{name}_new").argtypes
     judge = ctypes.POINTER(_Judge)
-    for name in ("new_commits", "new_wide_commits"):
+    for name in ("new_commits_zero", "new_wide_commits_zero"):
         call = getattr(library, "tl_judge_" + name)
-        call.restype, call.argtypes = _Answer, [judge, *[ctypes.c_char_p, ctypes.c_size_t] * 2, ctypes.c_uint8, ctypes.c_uint8]
+        call.restype, call.argtypes = _Answer, [judge, *[ctypes.c_char_p, ctypes.c_size_t] * 2, *[ctypes.c_uint8] * 3]
     for name in ("commit", "try_commit"):
         call = getattr(library, "tl_judge_" + name)
         call.restype, call.argtypes = _Answer, [judge, ctypes.c_uint8, ctypes.POINTER(_Commit)]
@@ -420,11 +420,12 @@ class _Agent:
     def __init__(self, handle, free, width):
         self._handle, self._free, self._width = handle, free, width
 
-    def _make(self, call, lists, kind, number):
-        """Makes it of lists of a number for each link, and of a number of this kind."""
+    def _make(self, call, lists, kind, number, *flags):
+        """Makes it of lists of a number for each link, of flags, and of a number of this kind."""
         codes = [bytes(_field(number, "a link's number", 256) for number in numbers) for numbers in lists]
         counted = [it for them in codes for it in (them, len(them))]
-        _taken(call(self._handle, *counted, _field(self._width, "width", 256), _field(number, kind, 256)),
+        flags = [_field(flag, "a flag", 256) for flag in flags]
+        _taken(call(self._handle, *counted, *flags, _field(self._width, "width", 256), _field(number, kind, 256)),
                f"levels, width or {kind}")
 
     def _shown(self, call, *place):
@@ -463,14 +464,14 @@ def _allowed(profile, liberties):
 
 
 class _Judging(_Agent):
-    """What judges beats of 1 to 16 links, by the library's calls of a name. It is made of levels, and of other lists of a number
-    for each link."""
+    """What judges beats of 1 to 16 links, by the library's calls of a name. It is made of levels, of other lists of a number
+    for each link, and of flags."""
 
-    def __init__(self, name, handle, lists, width, new, kind, number):
+    def __init__(self, name, handle, lists, width, new, kind, number, *flags):
         super().__init__(handle, getattr(_library, f"tl_{name}_free"), width)
         self._push, self._try_push, self._push_line = (
             getattr(_library, f"tl_{name}_{it}") for it in ("push", "try_push", "push_line"))
-        self._make(getattr(_library, f"tl_{name}_{new}"), lists, kind, number)
+        self._make(getattr(_library, f"tl_{name}_{new}"), lists, kind, number, *flags)
 
     def push(self, link, beat):
         """Judges a beat of a link."""
@@ -508,11 +509,12 @@ class _Committing:
 
 class CommitJudge(_Committing, _Judging):
     """A judge of beats and commits of all links of one manager, of beats of `width` bytes, under these liberties: each after
-    the earlier ones of all links. `complete` says of each link whether all its stores will be judged. Of one clock edge those
-    commits come first that see the copy as it is before the edge, then the beats, then those that use a beat of the edge."""
+    the earlier ones of all links. `complete` says of each link whether all its stores will be judged, and `zero` whether memory
+    was zero before the first beat. Of one clock edge those commits come first that see the copy as it is before the edge, then
+    the beats, then those that use a beat of the edge."""
 
-    def __init__(self, levels, complete, width=8, liberties=0):
-        super().__init__("judge", _Judge(), [levels, complete], width, "new_commits", "liberties", int(liberties))
+    def __init__(self, levels, complete, width=8, liberties=0, zero=False):
+        super().__init__("judge", _Judge(), [levels, complete], width, "new_commits_zero", "liberties", int(liberties), zero)
 
     def try_commit(self, link, commit):
         """The same, but a commit that breaks a rule isn't taken, and the next is judged as if it weren't there."""
@@ -536,12 +538,12 @@ class Monitor(_Judging):
 
 class _WideJudging(_Agent):
     """What judges wide beats, of `width` bytes, of 1 to 16 links that have these liberties, by the library's calls of a name. It
-    is made of levels, and of other lists of a number for each link."""
+    is made of levels, of other lists of a number for each link, and of flags."""
 
-    def __init__(self, name, handle, lists, width, new, liberties):
+    def __init__(self, name, handle, lists, width, new, liberties, *flags):
         super().__init__(handle, getattr(_library, f"tl_{name}_free"), width)
         self._push = getattr(_library, f"tl_{name}_push_wide")
-        self._make(getattr(_library, f"tl_{name}_{new}"), lists, "liberties", int(liberties))
+        self._make(getattr(_library, f"tl_{name}_{new}"), lists, "liberties", int(liberties), *flags)
 
     def push(self, link, beat):
         """Judges a wide beat of a link. Where there is no memory, the same beat may be pushed again."""
@@ -558,10 +560,10 @@ class WideJudge(_WideJudging):
 
 class WideCommitJudge(_Committing, _WideJudging):
     """A judge of wide beats and commits of all links of one manager, of beats of 4, 8, 16, 32 or 64 bytes, under these liberties.
-    `complete` and the order at one clock edge are those of CommitJudge."""
+    `complete`, `zero` and the order at one clock edge are those of CommitJudge."""
 
-    def __init__(self, levels, complete, width, liberties=0):
-        super().__init__("judge", _Judge(), [levels, complete], width, "new_wide_commits", liberties)
+    def __init__(self, levels, complete, width, liberties=0, zero=False):
+        super().__init__("judge", _Judge(), [levels, complete], width, "new_wide_commits_zero", liberties, zero)
 
 
 class WideMonitor(_WideJudging):

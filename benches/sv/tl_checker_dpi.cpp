@@ -136,17 +136,19 @@ extern "C" void *tl_checker_open(int links, int levels, int width, int profile, 
 // A judge of beats and commits of these links, or of wide beats and commits.
 template <typename Made, typename Judging>
 static std::unique_ptr<Checker> commit_checker_of(const std::vector<std::uint8_t> &levels, const std::vector<std::uint8_t> &complete,
-                                                  std::uint8_t width, std::uint8_t liberties) {
-  return std::make_unique<Made>(Judging(levels, complete, width, liberties));
+                                                  std::uint8_t width, std::uint8_t liberties, bool zero) {
+  return std::make_unique<Made>(Judging(levels, complete, width, liberties, zero));
 }
 
-// The same of beats and commits; `complete` has a bit for each link of which all stores are judged.
-extern "C" void *tl_checker_open_commits(int links, int levels, int complete, int width, int profile, int liberties, int wide) {
+// The same of beats and commits; `complete` has a bit for each link of which all stores are judged, and `zero` says whether memory
+// is zero before the first beat.
+extern "C" void *tl_checker_open_commits(int links, int levels, int complete, int zero, int width, int profile, int liberties,
+                                         int wide) {
   return handle_of([=] {
     const auto make = wide ? commit_checker_of<WideCommitChecker, hefrudyl::WideCommitJudge>
                            : commit_checker_of<CommitChecker, hefrudyl::CommitJudge>;
     return make(numbers_of(links, 2, levels), numbers_of(links, 1, complete), static_cast<std::uint8_t>(width),
-                all_liberties(profile, liberties));
+                all_liberties(profile, liberties), zero != 0);
   });
 }
 

@@ -55,18 +55,19 @@ def the_checker_of_commits_that_counts_goes_on():
 
 # ---- one edge and another, by a script
 
-def checked_script(count=0):
+def checked_script(count=0, zero=0, address_bits=32):
     """A script's bench with a recorder and a checker: link 0 has a cache, link 1 has none, and each has two commits at an edge."""
-    parameters = ".SOURCE_BITS(SOURCE_BITS),.COMPLETE(16'b1),.TIMEOUT(20)"
-    return [verilator(f"commits_script{count}", TOP, WATCH + COMMIT_RECORDER + COMMIT_CHECKER + [f"tests/{TOP}.sv"], "-DCOMMITS=2", "-DCHECKER",
-                      "-DN=2", "-DLEVELS=4'b0010", f"-DCOUNT={count}", f"-DPARAMETERS={parameters}", *DPI)]
+    parameters = f".SOURCE_BITS(SOURCE_BITS),.COMPLETE(16'b1),.TIMEOUT(20),.ZERO({zero})"
+    return [verilator(f"commits_script{count}{zero}{address_bits}", TOP, WATCH + COMMIT_RECORDER + COMMIT_CHECKER + [f"tests/{TOP}.sv"],
+                      "-DCOMMITS=2", "-DCHECKER", "-DN=2", "-DLEVELS=4'b0010", f"-DCOUNT={count}", f"-DADDRESS_BITS={address_bits}",
+                      f"-DPARAMETERS={parameters}", *DPI)]
 
 
-def played(script, *words, count=0, status=0):
+def played(script, *words, status=0, **bench):
     """What a run of the script tells; its trace is `checked`."""
     with open(path("checked_script"), "w") as text:
         text.write("\n".join(script) + "\n")
-    return run([*checked_script(count), f"+script={path('checked_script')}", f"+trace={path('checked')}", *words], status=status)
+    return run([*checked_script(**bench), f"+script={path('checked_script')}", f"+trace={path('checked')}", *words], status=status)
 
 
 GRANTED = ["A 0 7 1 6 0 40 edge 1", "D 0 4 0 6 0 0 edge 1", "E 0 0 edge 1"]
@@ -101,6 +102,23 @@ def the_checker_judges_the_commits_of_an_edge_before_its_beats_or_behind_them():
         want(judged(path("checked"), "coherent") == verdict, f"{script}: {judged(path('checked'), 'coherent')}")
         told = played(right)
         want("breaks" not in told and judged(path("checked"), "coherent").startswith("coherent "), f"{right}: {told}")
+
+
+# What is wrong if memory was zero, and only then: bytes ff that a Get brings, and a copy that is granted without its bytes, stored to and
+# given up without data. If 00 is stored it is right.
+READ = ["A 1 4 0 3 5 80 edge 1", "D 1 1 0 3 5 0 edge 1"]
+DROPPED, DROPPED_ZERO = ([*GRANTED, f"M 0 S 0 0 41 {byte} edge 1", "C 0 6 1 6 0 40 edge 1"] for byte in ("5a", "00"))
+
+
+@test
+def the_checker_judges_by_memory_that_was_zero_at_each_reset():
+    for script, number, rule in ((READ, 3, "M3"), (DROPPED, 6, "M7"), ([*DROPPED_ZERO, "reset", *READ], 3, "M3")):
+        for zero, address_bits in ((0, 32), (1, 32), (0, 64), (1, 64)):
+            told = played(script, "+anew", status=-6 * zero, zero=zero, address_bits=address_bits)
+            want(f" breaks {rule}: {number}: " in told if zero else "breaks" not in told, f"{script}, {zero}: {told}")
+            trace = "checked2" if "reset" in script else "checked"
+            wanted = f"line {number} {rule}" if zero else f"coherent {len(beat_lines(trace)) - 1}"
+            want(judged(path(trace), "coherent") == wanted, f"{script}, {zero}: {judged(path(trace), 'coherent')}")
 
 
 @test

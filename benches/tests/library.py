@@ -70,6 +70,17 @@ def stores_and_loads_on_wide_links_from_c_under_the_sanitizers():
 
 
 @test
+def memory_that_was_zero_from_c():
+    c_test("test_zero")
+    want("0 failures" in run([compiled("test_zero_refused", "gcc", "tests/test_zero.c", "-std=c11", *REFUSALS)]), "test_zero.c")
+
+
+@test
+def memory_that_was_zero_from_c_under_the_sanitizers():
+    c_test("test_zero", *SANITIZERS)
+
+
+@test
 def a_cover_from_c():
     c_test("test_cover")
 

@@ -120,11 +120,24 @@ def read_trace(module, name):
     return ([module.Level[level] for level in header[min(version, 3) + 1:]], width, profile, liberties), lines[1:]
 
 
-def traces_of_rules(with_commits):
-    """The example traces of the rules, those with stores and loads or the others. The library can't be told that memory was zero."""
-    folder = os.path.join(ROOT, "crates/tl_examples/data/rules")
-    heads = ((it.path, open(it.path).readline()) for it in sorted(os.scandir(folder), key=lambda it: it.name))
-    return [path for path, head in heads if " zero " not in head and ("C+" in head) == with_commits]
+MARKS = ("zero", "commits")
+
+
+def read_events(module, name):
+    """What the header of a trace with stores and loads names, as a judge of these is made, and the lines of its events."""
+    with open(name) as trace:
+        header, *lines = trace.read().splitlines()
+    _, _, width, liberties, *words = header.split()
+    levels = [word for word in words if word not in MARKS]
+    return dict(levels=[module.Level[level.rstrip("+")] for level in levels], complete=[level.endswith("+") for level in levels],
+                width=int(width), liberties=read_liberties(module, liberties), zero="zero" in words), lines
+
+
+def traces_in(folder, with_commits):
+    """The example traces in a folder, those with stores and loads or with memory that was zero, or the others."""
+    folder = os.path.join(ROOT, "crates/tl_examples/data", folder)
+    heads = ((it.path, open(it.path).readline().split()) for it in sorted(os.scandir(folder), key=lambda it: it.name) if it.is_file())
+    return [path for path, head in heads if any(word in MARKS or word.endswith("+") for word in head) == with_commits]
 
 
 def renamed(beat):
@@ -159,11 +172,22 @@ def told_of(module, kind, name):
     return ""
 
 
+def told_of_lines(module, name):
+    """What the library says of a trace with stores and loads, line by line, in the command's words."""
+    made, lines = read_events(module, name)
+    with module.CommitJudge(**made) as judge:
+        for number, line in enumerate(lines, 2):
+            verdict = judge.push_line(line.encode() + b"\n")
+            if not verdict:
+                return f"line {number} {verdict.rule}"
+    return f"coherent {len(lines)}"
+
+
 @test
 def python_judges_traces_as_the_command_does():
     """Every example trace of the rules and both traces beside them, link by link and all links together."""
     module = python_module()
-    names = traces_of_rules(with_commits=False)
+    names = traces_in("rules", with_commits=False)
     want(len(names) >= 40, f"{len(names)} traces")
     for name in names:
         for kind, command, right in ((module.Monitor, "monitor", "clean"), (module.Judge, "coherent", "coherent")):
@@ -173,23 +197,12 @@ def python_judges_traces_as_the_command_does():
 
 @test
 def python_judges_traces_with_stores_and_loads_as_the_command_does():
-    """Every example trace with stores and loads, line by line."""
+    """Every example trace with stores and loads or with memory that was zero, line by line."""
     module = python_module()
-    names = traces_of_rules(with_commits=True)
-    want(len(names) >= 18, f"{len(names)} traces")
+    names = traces_in("rules", with_commits=True)
+    want(len(names) >= 32, f"{len(names)} traces")
     for name in names:
-        with open(name) as trace:
-            header, *lines = trace.read().splitlines()
-        _, _, width, liberties, *levels = header.split()
-        complete = [level.endswith("+") for level in levels]
-        levels = [module.Level[level.rstrip("+")] for level in levels]
-        told = f"coherent {len(lines)}"
-        with module.CommitJudge(levels, complete, int(width), read_liberties(module, liberties)) as judge:
-            for number, line in enumerate(lines, 2):
-                verdict = judge.push_line(line.encode() + b"\n")
-                if not verdict:
-                    told = f"line {number} {verdict.rule}"
-                    break
+        told = told_of_lines(module, name)
         want(told == judged(name, "coherent"), f"{name}: {told}, and coherent says {judged(name, 'coherent')}")
 
 
@@ -197,11 +210,9 @@ def python_judges_traces_with_stores_and_loads_as_the_command_does():
 def python_judges_wide_beats_as_the_command_does():
     """Every example trace of wide beats alone, and those of the rules with other names: renaming changes nothing."""
     module = python_module()
-    data = os.path.join(ROOT, "crates/tl_examples/data")
-    wide = [it.path for it in sorted(os.scandir(os.path.join(data, "wide")), key=lambda it: it.name) if it.is_file()]
-    names = [(it, lambda beat: beat) for it in wide if not it.endswith("narrow_line.trace") and "C+" not in open(it).readline()]
+    names = [(it, lambda beat: beat) for it in traces_in("wide", with_commits=False) if not it.endswith("narrow_line.trace")]
     want(len(names) >= 4, f"{len(names)} traces")
-    names += [(it, renamed) for it in traces_of_rules(with_commits=False)]
+    names += [(it, renamed) for it in traces_in("rules", with_commits=False)]
     for name, changed in names:
         for kind, command, right in ((module.WideMonitor, "monitor", "clean"), (module.WideJudge, "coherent", "coherent")):
             told, wanted = told_of_wide(module, kind, name, changed), judged(name, command)
@@ -220,30 +231,45 @@ def far(event):
     return renamed(event) if hasattr(event, "channel") else dataclasses.replace(event, address=event.address + 0x1_8000_0000)
 
 
+def told_of_wide_events(module, name, changed):
+    """What the library says of a trace with stores and loads whose events are pushed on wide links, each changed so."""
+    made, lines = read_events(module, name)
+    with module.WideCommitJudge(**made) as judge:
+        for number, line in enumerate(lines, 2):
+            is_commit = line[3] in "SLI"
+            link, event = (commit_of if is_commit else beat_of)(module, line)
+            verdict = (judge.commit if is_commit else judge.push)(link, changed(event))
+            if not verdict:
+                return f"line {number} {verdict.rule}"
+    return f"coherent {len(lines)}"
+
+
 @test
 def python_judges_wide_beats_and_commits_as_the_command_does():
     """Every example of a wide trace with stores and loads, and those of the rules with other names: renaming changes nothing."""
     module = python_module()
-    data = os.path.join(ROOT, "crates/tl_examples/data")
-    wide = [it.path for it in sorted(os.scandir(os.path.join(data, "wide")), key=lambda it: it.name)
-            if it.is_file() and "C+" in open(it.path).readline()]
+    wide = traces_in("wide", with_commits=True)
     want(len(wide) >= 2, f"{len(wide)} traces")
-    for name, changed in [(it, lambda event: event) for it in wide] + [(it, far) for it in traces_of_rules(with_commits=True)]:
-        with open(name) as trace:
-            header, *lines = trace.read().splitlines()
-        _, _, width, liberties, *levels = header.split()
-        complete = [level.endswith("+") for level in levels]
-        told = f"coherent {len(lines)}"
-        with module.WideCommitJudge([module.Level[it.rstrip("+")] for it in levels], complete, int(width),
-                                    read_liberties(module, liberties)) as judge:
-            for number, line in enumerate(lines, 2):
-                is_commit = line[3] in "SLI"
-                link, event = (commit_of if is_commit else beat_of)(module, line)
-                verdict = (judge.commit if is_commit else judge.push)(link, changed(event))
-                if not verdict:
-                    told = f"line {number} {verdict.rule}"
-                    break
+    for name, changed in [(it, lambda event: event) for it in wide] + [(it, far) for it in traces_in("rules", with_commits=True)]:
+        told = told_of_wide_events(module, name, changed)
         want(told == judged(name, "coherent"), f"{name}: {told}, and coherent says {judged(name, 'coherent')}")
+
+
+@test
+def python_judges_random_stores_and_loads_as_the_model_does():
+    """Runs of right and wrong caches by bench/commits_trial.py; in every second one memory was zero. Also with other names."""
+    module = python_module()
+    folder = path("model")
+    os.mkdir(folder)
+    run([sys.executable, os.path.join(ROOT, "bench/commits_trial.py"), "--runs", "20", "--traces", folder])
+    names = sorted(it.path for it in os.scandir(folder) if it.name.endswith(".trace"))
+    heads = [open(it).readline() for it in names]
+    want(sum(" zero " in it for it in heads) >= 20 and sum(" zero " not in it for it in heads) >= 20, f"{len(names)} traces")
+    for name in names:
+        with open(os.path.splitext(name)[0] + ".verdict") as verdict:
+            wanted = verdict.read().strip()
+        for told in told_of_lines(module, name), told_of_wide_events(module, name, far):
+            want(told == wanted, f"{name}: {told}, and the model says {wanted}")
 
 
 @test
@@ -325,10 +351,10 @@ def python_judges_stores_and_loads():
                 want(judge.commit(0, commit(kind.LOAD, 0, 0)).code is module.Code.CLOSED, "a closed judge")
             want(judge.try_commit(0, commit(kind.LOAD, 1, 1)).code is module.Code.BAD_ARGUMENT, "an address that isn't aligned")
     for judge in (module.CommitJudge, module.WideCommitJudge):
-        for levels, complete, width in (([module.Level.C], [], 8), ([module.Level.C], [2], 8), ([module.Level.C], [1], 9), ([3], [1], 8)):
+        for made in (([2], [], 8), ([2], [2], 8), ([2], [1], 9), ([3], [1], 8), *(([2], [1], 8, 0, zero) for zero in (2, 255, 256, -1))):
             try:
-                judge(levels, complete, width)
-                want(False, f"{levels} {complete} {width} made a judge")
+                judge(*made)
+                want(False, f"{made} made a judge")
             except ValueError:
                 pass
     with module.WideCommitJudge([module.Level.C], [1], 64) as judge:

@@ -59,6 +59,22 @@ int main() {
     right = false;
   } catch (const std::invalid_argument &) {
   }
+  for (bool zero : {false, true}) {
+    hefrudyl::CommitJudge narrow({TL_C}, {0}, 16, TL_NO_LIBERTIES, zero);
+    right = right && narrow.push_line("00 A 6 0 6 00 00000000 ffff - 0\n").code == TL_OK;
+    answer = narrow.push_line("00 D 5 1 6 00 00 0 00000000000000000000000000000007 0\n");
+    right = right && (zero ? answer.code == TL_BROKEN && answer.rule == TL_M2 : answer.code == TL_OK);
+    hefrudyl::WideCommitJudge wide({TL_UL}, {0}, 32, TL_NO_LIBERTIES, zero);
+    tl_wide_beat get = {}, brought = {};
+    get.opcode = TL_A_Get;
+    get.mask = 1;
+    brought.channel = TL_CHANNEL_D;
+    brought.opcode = TL_D_AccessAckData;
+    brought.lanes[0] = 7;
+    right = right && wide.push(0, get).code == TL_OK;
+    answer = wide.push(0, brought);
+    right = right && (zero ? answer.code == TL_BROKEN && answer.rule == TL_M3 : answer.code == TL_OK);
+  }
   hefrudyl::Client made(TL_C, 4);
   hefrudyl::Client client(std::move(made));
   tl_operation acquire = {};

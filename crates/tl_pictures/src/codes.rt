@@ -1,7 +1,7 @@
 //! The numbers of levels, flags, profiles, widths, channels and links in C.
 
 ghost use Rattle.std.specs.Prelude.{◌≡◌};
-ghost use Rattle.tl_pictures.specs.statement.Codes.{level_at, are_levels, flag_at, are_flags, liberties_at};
+ghost use Rattle.tl_pictures.specs.statement.Codes.{level_at, are_levels, flag_at, is_flag, are_flags, liberties_at};
 ghost use Rattle.tl_pictures.specs.statement.Codes.{profile_at, is_profile, is_width, is_wide_width, channel_at, link_at};
 
 use tl_beat::beat::Link;
@@ -37,11 +37,18 @@ pub fn flag_of(code: u8) -> bool
     code == 1
 }
 
-/// Whether each code is that of a flag: 0 or 1.
+/// Whether it is the code of a flag: 0 or 1.
+pub fn is_flag(code: u8) -> bool
+    ensures { result ≡ is_flag code }
+{
+    code < 2
+}
+
+/// Whether each code is that of a flag.
 pub fn are_flags(codes: &[u8]) -> bool
     ensures { result ≡ are_flags codes.now }
 {
-    codes.iter().all(|code| *code < 2)
+    codes.iter().all(|code| is_flag(*code))
 }
 
 /// The profile with a code: 1 for the first, any other for the second.

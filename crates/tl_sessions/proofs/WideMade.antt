@@ -1,12 +1,12 @@
 -- Monitors and judges of wide beats, and of these and commits, that were made.
 use Rattle.std.proofs.Common.{◌≡◌, ℕ, List, [], subst, sym, inl}
 use Rattle.std.specs.Prelude.{map, Result, Ok, Err}
-use Rattle.tl_commits.specs.statement.Completeness.{with_stores}
+use Rattle.tl_commits.specs.statement.Completeness.{Completeness}
 use Rattle.tl_commits.specs.statement.Events.{beats_of}
 use Rattle.tl_monitor.specs.declared.monitor.Monitor.{Monitor}
 use Rattle.tl_params.specs.declared.liberties.Liberties.{Liberties}
 use Rattle.tl_pictures.specs.declared.answer.Answer.{Answer}
-use Rattle.tl_pictures.specs.statement.Codes.{flag_at, level_at, liberties_at}
+use Rattle.tl_pictures.specs.statement.Codes.{level_at, liberties_at}
 use Rattle.tl_together.specs.declared.judge.Judge.{Judge}
 use Rattle.tl_sessions.specs.code.WideJudging.{IsEmpty, MakesWide}
 use Rattle.tl_sessions.specs.declared.event_judge.EventJudge.{EventJudge}
@@ -46,9 +46,9 @@ made_together codes liberties l j result is fresh empty =
     made_of Together codes liberties (OfAll j) result (rw is at fresh) empty
 
 -- one that judges them with the commits of their cores
-pub made_with_commits : {p : ℕ} (codes complete : List ℕ) (liberties : ℕ) (j : EventJudge p)
+pub made_with_commits : {p : ℕ} (codes : List ℕ) (complete : Completeness) (liberties : ℕ) (j : EventJudge p)
     (result : Result (WideJudge p) Answer)
     → IsFreshEvents codes complete liberties j → IsEmpty (OfEvents j.judge) result
-    → MakesWide (WithCommits (with_stores (map flag_at complete))) codes liberties result
+    → MakesWide (WithCommits complete) codes liberties result
 made_with_commits codes complete liberties j result fresh empty =
-    made_of (WithCommits (with_stores (map flag_at complete))) codes liberties (OfEvents j.judge) result fresh.1 empty
+    made_of (WithCommits complete) codes liberties (OfEvents j.judge) result fresh.1 empty

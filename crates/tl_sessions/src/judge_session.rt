@@ -70,23 +70,24 @@ pub fn open_under(alloc: Global, codes: &[u8], width: u8, liberties: u8) -> Resu
 }
 
 /// A new judge of beats and commits of all links of a manager with these liberties, of this width. `complete` says which
-/// links have all their stores in the trace.
+/// links have all their stores in the trace, and `zero` whether memory was zero before it.
 pub fn open_events(
     alloc: Global,
     codes: &[u8],
     complete: &[u8],
+    zero: u8,
     width: u8,
     liberties: u8,
 ) -> Result<Session, Answer>
-    ensures told { OpensEvents codes.now complete.now width liberties (ok_of result) (answer_in result) }
+    ensures told { OpensEvents codes.now complete.now zero width liberties (ok_of result) (answer_in result) }
 {
-    if !may_open_events(codes, complete, width) {
+    if !may_open_events(codes, complete, zero, width) {
         return Err(Answer::BAD);
     }
     let judge = match width {
-        4 => AnyEventJudge::Four(make_events(alloc, codes, complete, liberties)?),
-        8 => AnyEventJudge::Eight(make_events(alloc, codes, complete, liberties)?),
-        16 => AnyEventJudge::Sixteen(make_events(alloc, codes, complete, liberties)?),
+        4 => AnyEventJudge::Four(make_events(alloc, codes, complete, zero, liberties)?),
+        8 => AnyEventJudge::Eight(make_events(alloc, codes, complete, zero, liberties)?),
+        16 => AnyEventJudge::Sixteen(make_events(alloc, codes, complete, zero, liberties)?),
         _ => return Err(Answer::BAD),
     };
     Ok(Session::Events(judge))

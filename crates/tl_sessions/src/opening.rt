@@ -8,7 +8,7 @@ ghost use Rattle.tl_sessions.specs.statement.Covering.{MakesCovering};
 ghost use Rattle.tl_sessions.specs.statement.ClientOpened.{may_open_client, MakesClient};
 ghost use Rattle.tl_sessions.specs.statement.ManagerOpened.{may_open_manager, profile_code, MakesManager};
 ghost use Rattle.tl_sessions.specs.statement.TogetherOpened.{MakesJudge};
-ghost use Rattle.tl_sessions.specs.statement.EventsOpened.{may_open_events, MakesEvents};
+ghost use Rattle.tl_sessions.specs.statement.EventsOpened.{completeness_at, may_open_events, MakesEvents};
 ghost use Rattle.tl_sessions.specs.statement.WideOpened.{may_open_wide, may_open_wide_events};
 
 use crate::event_judge::EventJudge;
@@ -20,8 +20,8 @@ use tl_monitor::monitor::Monitor;
 use tl_partner::terms::Terms;
 use tl_pictures::answer::Answer;
 use tl_pictures::codes::{
-    are_flags, are_levels, flag_of, is_profile, is_wide_width, is_width, level_of, liberties_of,
-    profile_of,
+    are_flags, are_levels, flag_of, is_flag, is_profile, is_wide_width, is_width, level_of,
+    liberties_of, profile_of,
 };
 use tl_pictures::config::{LinkConfig, config_of, links_fit};
 use tl_ports::client::ClientPort;
@@ -125,11 +125,15 @@ pub fn make_judge<const W: usize>(
     }
 }
 
-/// Whether the arguments fit: 1 to 16 levels, 0 to 2 each, a flag of 0 or 1 for each, and a width of 4, 8 or 16.
-pub fn may_open_events(codes: &[u8], complete: &[u8], width: u8) -> bool
-    ensures { result ≡ may_open_events codes.now complete.now width }
+/// Whether the arguments fit: 1 to 16 levels, 0 to 2 each, a flag of 0 or 1 for each and for memory, and a width of 4, 8
+/// or 16.
+pub fn may_open_events(codes: &[u8], complete: &[u8], zero: u8, width: u8) -> bool
+    ensures { result ≡ may_open_events codes.now complete.now zero width }
 {
-    may_open_under(codes, width) && complete.len() == codes.len() && are_flags(complete)
+    may_open_under(codes, width)
+        && complete.len() == codes.len()
+        && are_flags(complete)
+        && is_flag(zero)
 }
 
 fn flags_of(alloc: Global, codes: &[u8]) -> Result<Vec<bool>, AllocError>
@@ -143,15 +147,16 @@ fn flags_of(alloc: Global, codes: &[u8]) -> Result<Vec<bool>, AllocError>
 }
 
 /// A judge of beats and commits of all links with these liberties that has judged no event. `complete` says which links
-/// have all their stores in the trace.
+/// have all their stores in the trace, and `zero` whether memory was zero before it.
 pub fn make_events<const W: usize>(
     alloc: Global,
     codes: &[u8],
     complete: &[u8],
+    zero: u8,
     liberties: u8,
 ) -> Result<EventJudge<W>, Answer>
     requires width { IsWidth W }
-    ensures { MakesEvents codes.now complete.now liberties result }
+    ensures { MakesEvents codes.now (completeness_at complete.now zero) liberties result }
 {
     let Ok(levels) = levels_of(alloc, codes) else {
         return Err(Answer::NO_MEMORY);
@@ -161,7 +166,7 @@ pub fn make_events<const W: usize>(
     };
     let liberties = liberties_of(liberties);
     let (levels, flags) = (levels.as_slice(), flags.as_slice());
-    match CommitJudge::with_liberties(alloc, levels, flags, false, liberties) {
+    match CommitJudge::with_liberties(alloc, levels, flags, flag_of(zero), liberties) {
         Ok(judge) => Ok(EventJudge {
             judge,
             closed: false,
@@ -178,11 +183,14 @@ pub fn may_open_wide(codes: &[u8], width: u8) -> bool
     1 <= codes.len() && codes.len() <= MOST_CLIENTS && are_levels(codes) && is_wide_width(width)
 }
 
-/// Whether the arguments fit: those of `may_open_wide`, and a flag of 0 or 1 for each level.
-pub fn may_open_wide_events(codes: &[u8], complete: &[u8], width: u8) -> bool
-    ensures { result ≡ may_open_wide_events codes.now complete.now width }
+/// Whether the arguments fit: those of `may_open_wide`, and a flag of 0 or 1 for each level and for memory.
+pub fn may_open_wide_events(codes: &[u8], complete: &[u8], zero: u8, width: u8) -> bool
+    ensures { result ≡ may_open_wide_events codes.now complete.now zero width }
 {
-    may_open_wide(codes, width) && complete.len() == codes.len() && are_flags(complete)
+    may_open_wide(codes, width)
+        && complete.len() == codes.len()
+        && are_flags(complete)
+        && is_flag(zero)
 }
 
 /// The answer to a client or a manager that can't be made for this reason.

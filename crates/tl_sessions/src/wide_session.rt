@@ -1,15 +1,13 @@
 //! The calls on a session with a monitor or a judge of wide beats, or a judge of these and commits. A session without one is
 //! bad input.
 
-ghost use Rattle.std.specs.Prelude.{map};
-ghost use Rattle.tl_commits.specs.statement.Completeness.{with_stores};
 ghost use Rattle.tl_sessions.specs.code.WideJudging.{MakesWide};
+ghost use Rattle.tl_sessions.specs.statement.EventsOpened.{completeness_at};
 ghost use Rattle.tl_sessions.specs.statement.Opened.{ok_of, answer_in};
 ghost use Rattle.tl_sessions.specs.statement.Wide.{Alone, Together, WithCommits};
 ghost use Rattle.tl_sessions.specs.statement.WideOpened.{CommitsWide, JudgesWide, MonitorsWide, ToldAny};
 ghost use Rattle.tl_sessions.specs.statement.WideOpened.{WideEventsOpen, WideJudgeOpens, WideMonitorOpens};
 ghost use Rattle.tl_beat.specs.statement.Width.{IsWidth};
-ghost use Rattle.tl_pictures.specs.statement.Codes.{flag_at};
 
 use crate::event_judge::EventJudge;
 use crate::opening::{make_events, make_judge, make_under, may_open_wide, may_open_wide_events};
@@ -67,18 +65,19 @@ fn make_wide_judge<const P: usize>(
 }
 
 /// A judge of all links with these liberties and of the commits of their cores, whose parts have `P` bytes, that has judged
-/// nothing. `complete` says which links have all their stores judged.
+/// nothing. `complete` says which links have all their stores judged, and `zero` whether memory was zero at first.
 #[tactic(auto, using(crate::proofs::WideMade::made_with_commits))]
 fn make_wide_events<const P: usize>(
     alloc: Global,
     codes: &[u8],
     complete: &[u8],
+    zero: u8,
     liberties: u8,
 ) -> Result<WideJudge<P>, Answer>
     requires width { IsWidth P }
-    ensures { MakesWide (WithCommits (with_stores (map flag_at complete.now))) codes.now liberties result }
+    ensures { MakesWide (WithCommits (completeness_at complete.now zero)) codes.now liberties result }
 {
-    let EventJudge { judge, .. } = make_events(alloc, codes, complete, liberties)?;
+    let EventJudge { judge, .. } = make_events(alloc, codes, complete, zero, liberties)?;
     WideJudge::of(alloc, PartJudge::OfEvents(judge))
 }
 
@@ -112,21 +111,25 @@ pub fn open_judge(alloc: Global, codes: &[u8], width: u8, liberties: u8) -> Resu
 }
 
 /// A new judge of wide beats and commits of all links with these liberties, of this width. `complete` says which links have
-/// all their stores judged.
+/// all their stores judged, and `zero` whether memory was zero at first.
 #[tactic(auto, unfolding(tl_wide_events::specs::statement::Narrowed::narrowed))]
 pub fn open_events(
     alloc: Global,
     codes: &[u8],
     complete: &[u8],
+    zero: u8,
     width: u8,
     liberties: u8,
 ) -> Result<Session, Answer>
-    ensures told { WideEventsOpen codes.now complete.now width liberties (ok_of result) (answer_in result) }
+    ensures told { WideEventsOpen codes.now complete.now zero width liberties (ok_of result) (answer_in result) }
 {
-    if !may_open_wide_events(codes, complete, width) {
+    if !may_open_wide_events(codes, complete, zero, width) {
         return Err(Answer::BAD);
     }
-    let judge = of_width!(width, make_wide_events(alloc, codes, complete, liberties));
+    let judge = of_width!(
+        width,
+        make_wide_events(alloc, codes, complete, zero, liberties)
+    );
     Ok(Session::WideEvents(judge))
 }
 

@@ -45,10 +45,15 @@ JudgeOpenUnderTold old new levels width liberties answer =
     OpensHandle (Sessions.JudgeOpensUnder levels width liberties) old new answer
 
 -- C opens a judge of beats and commits of all links with liberties, and says which links have all their stores in the
--- trace
+-- trace, and whether memory was zero before it
+abbrev pub JudgeOpenZeroTold : Option Session → Option Session → List ℕ → List ℕ → ℕ → ℕ → ℕ → Answer → Type 0
+JudgeOpenZeroTold old new levels complete memory width liberties answer =
+    OpensHandle (OpensEvents levels complete memory width liberties) old new answer
+
+-- the same, and memory may have been anything
 abbrev pub JudgeOpenCommitsTold : Option Session → Option Session → List ℕ → List ℕ → ℕ → ℕ → Answer → Type 0
 JudgeOpenCommitsTold old new levels complete width liberties answer =
-    OpensHandle (OpensEvents levels complete width liberties) old new answer
+    JudgeOpenZeroTold old new levels complete 0 width liberties answer
 
 -- C opens a monitor of wide beats of links with liberties
 abbrev pub WideMonitorOpenTold : Option Session → Option Session → List ℕ → ℕ → ℕ → Answer → Type 0
@@ -60,10 +65,16 @@ abbrev pub WideJudgeOpenTold : Option Session → Option Session → List ℕ �
 WideJudgeOpenTold old new levels width liberties answer =
     OpensHandle (WideJudgeOpens levels width liberties) old new answer
 
--- C opens a judge of wide beats and commits of all links with liberties, and says which links have all their stores judged
+-- C opens a judge of wide beats and commits of all links with liberties, and says which links have all their stores
+-- judged, and whether memory was zero at first
+abbrev pub WideOpenZeroTold : Option Session → Option Session → List ℕ → List ℕ → ℕ → ℕ → ℕ → Answer → Type 0
+WideOpenZeroTold old new levels complete memory width liberties answer =
+    OpensHandle (WideEventsOpen levels complete memory width liberties) old new answer
+
+-- the same, and memory may have been anything
 abbrev pub WideEventsOpenTold : Option Session → Option Session → List ℕ → List ℕ → ℕ → ℕ → Answer → Type 0
 WideEventsOpenTold old new levels complete width liberties answer =
-    OpensHandle (WideEventsOpen levels complete width liberties) old new answer
+    WideOpenZeroTold old new levels complete 0 width liberties answer
 
 -- C opens a covering of links with liberties
 abbrev pub CoverOpenTold : Option Session → Option Session → List ℕ → ℕ → ℕ → Answer → Type 0

@@ -2,6 +2,7 @@
 
 ghost use Rattle.std.specs.Prelude.{◌≡◌, None};
 ghost use Rattle.hefrudyl.specs.statement.Handled.{JudgeOpenTold, JudgeOpenUnderTold, JudgeOpenCommitsTold};
+ghost use Rattle.hefrudyl.specs.statement.Handled.{JudgeOpenZeroTold};
 ghost use Rattle.hefrudyl.specs.statement.Handled.{JudgeTold, JudgeTryTold, JudgeLineTold, CommitTold, TryCommitTold};
 
 use crate::handle::Handle;
@@ -60,7 +61,27 @@ pub extern "C" fn tl_judge_new_commits(
 {
     judge.take(
         alloc,
-        judge_session::open_events(alloc, levels, complete, width, liberties),
+        judge_session::open_events(alloc, levels, complete, 0, width, liberties),
+    )
+}
+
+/// The same, and `zero` is 1 if memory was zero before the first beat, otherwise 0.
+#[unsafe(no_mangle)]
+pub extern "C" fn tl_judge_new_commits_zero(
+    alloc: Global,
+    judge: &mut Handle,
+    levels: &[u8],
+    complete: &[u8],
+    zero: u8,
+    width: u8,
+    liberties: u8,
+) -> Answer
+    ensures { JudgeOpenZeroTold judge.old.place.value judge.new.place.value levels.now complete.now zero width liberties
+        result }
+{
+    judge.take(
+        alloc,
+        judge_session::open_events(alloc, levels, complete, zero, width, liberties),
     )
 }
 

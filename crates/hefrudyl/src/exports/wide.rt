@@ -1,7 +1,7 @@
 //! The calls of C on a monitor and a judge of wide beats, and on a judge of these and commits.
 
 ghost use Rattle.hefrudyl.specs.statement.Handled.{WideEventsOpenTold, WideJudgeOpenTold, WideJudgeTold};
-ghost use Rattle.hefrudyl.specs.statement.Handled.{WideMonitorOpenTold, WidePushTold};
+ghost use Rattle.hefrudyl.specs.statement.Handled.{WideMonitorOpenTold, WideOpenZeroTold, WidePushTold};
 
 use crate::handle::Handle;
 use std::alloc::Global;
@@ -60,7 +60,27 @@ pub extern "C" fn tl_judge_new_wide_commits(
 {
     judge.take(
         alloc,
-        wide_session::open_events(alloc, levels, complete, width, liberties),
+        wide_session::open_events(alloc, levels, complete, 0, width, liberties),
+    )
+}
+
+/// The same, and `zero` is 1 if memory was zero before the first beat, otherwise 0.
+#[unsafe(no_mangle)]
+pub extern "C" fn tl_judge_new_wide_commits_zero(
+    alloc: Global,
+    judge: &mut Handle,
+    levels: &[u8],
+    complete: &[u8],
+    zero: u8,
+    width: u8,
+    liberties: u8,
+) -> Answer
+    ensures { WideOpenZeroTold judge.old.place.value judge.new.place.value levels.now complete.now zero width liberties
+        result }
+{
+    judge.take(
+        alloc,
+        wide_session::open_events(alloc, levels, complete, zero, width, liberties),
     )
 }
 

@@ -24,10 +24,14 @@ are_levels (code ∷ codes) = nat_lt code 3 && are_levels codes
 abbrev pub flag_at : ℕ → Bool
 flag_at code = code == 1
 
--- each code is that of a flag: 0 or 1
+-- the code is that of a flag: 0 or 1
+abbrev pub is_flag : ℕ → Bool
+is_flag code = nat_lt code 2
+
+-- each code is that of a flag
 abbrev pub are_flags : List ℕ → Bool
 are_flags [] = true
-are_flags (code ∷ codes) = nat_lt code 2 && are_flags codes
+are_flags (code ∷ codes) = is_flag code && are_flags codes
 
 -- the profile with a code: 1 for the first, any other for the second
 abbrev pub profile_at : ℕ → Profile

@@ -1,12 +1,11 @@
 -- The arguments from which C makes a monitor or a judge of wide beats, or a judge of these and commits, and sessions with
 -- one.
 use Rattle.std.specs.Prelude.{ℕ, Bool, true, false, ◌&&◌, ◌==◌, ◌≡◌, List, [], length, map, nat_le, Option, Some, None}
-use Rattle.tl_commits.specs.statement.Completeness.{with_stores}
 use Rattle.tl_pictures.specs.declared.answer.Answer.{Answer}
 use Rattle.tl_pictures.specs.declared.commit.CommitPicture.{CommitPicture}
 use Rattle.tl_pictures.specs.declared.wide.WidePicture.{WidePicture}
 use Rattle.tl_pictures.specs.statement.Answer.{bad, ok}
-use Rattle.tl_pictures.specs.statement.Codes.{are_flags, are_levels, flag_at, is_wide_width, level_at, liberties_at}
+use Rattle.tl_pictures.specs.statement.Codes.{are_flags, are_levels, is_flag, is_wide_width, level_at, liberties_at}
 use Rattle.tl_wide.specs.statement.Width.{part_width}
 use Rattle.tl_sessions.specs.declared.session.Session.{Session}
 use Rattle.tl_sessions.specs.declared.session.Session.TheVariants as session
@@ -15,6 +14,7 @@ use Rattle.tl_sessions.specs.declared.shown.Shown.TheVariants as fields
 use Rattle.tl_sessions.specs.declared.wide.AnyWide.{AnyWide}
 use Rattle.tl_sessions.specs.declared.wide.AnyWide.TheVariants as wide
 use Rattle.tl_sessions.specs.declared.wide.WideJudge.{WideJudge}
+use Rattle.tl_sessions.specs.statement.EventsOpened.{completeness_at}
 use Rattle.tl_sessions.specs.statement.Opened.{refusal}
 use Rattle.tl_sessions.specs.statement.Sessions.{CommitsSession}
 use Rattle.tl_sessions.specs.statement.Wide.{Judging, Alone, Together, WithCommits, KnowsWide, ToldWide}
@@ -24,10 +24,10 @@ abbrev pub may_open_wide : List ℕ → ℕ → Bool
 may_open_wide codes width =
     nat_le 1 (length codes) && nat_le (length codes) 16 && are_levels codes && is_wide_width width
 
--- the same, and there is a flag for each level
-abbrev pub may_open_wide_events : List ℕ → List ℕ → ℕ → Bool
-may_open_wide_events codes complete width =
-    may_open_wide codes width && length complete == length codes && are_flags complete
+-- the same, and there is a flag for each level, and one for memory
+abbrev pub may_open_wide_events : List ℕ → List ℕ → ℕ → ℕ → Bool
+may_open_wide_events codes complete memory width =
+    may_open_wide codes width && length complete == length codes && are_flags complete && is_flag memory
 
 -- one that has these levels and liberties, and no events
 abbrev pub IsFreshWide : (w : ℕ) → Judging → List ℕ → ℕ → WideJudge (part_width w) → Type 0
@@ -65,9 +65,10 @@ abbrev pub WideJudgeOpens : List ℕ → ℕ → ℕ → Option Session → Answ
 WideJudgeOpens codes width = OpensWide (may_open_wide codes width) Together codes width
 
 -- the result of a call that opens a judge of beats and commits with an empty handle
-abbrev pub WideEventsOpen : List ℕ → List ℕ → ℕ → ℕ → Option Session → Answer → Type 0
-WideEventsOpen codes complete width =
-    OpensWide (may_open_wide_events codes complete width) (WithCommits (with_stores (map flag_at complete))) codes width
+abbrev pub WideEventsOpen : List ℕ → List ℕ → ℕ → ℕ → ℕ → Option Session → Answer → Type 0
+WideEventsOpen codes complete memory width =
+    OpensWide (may_open_wide_events codes complete memory width) (WithCommits (completeness_at complete memory)) codes
+    width
 
 -- ---- sessions
 

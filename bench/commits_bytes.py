@@ -1,7 +1,8 @@
-"""The lines of `tltool explain --coherent` about the bytes of a load, a report or a lost store (M6, M7), by the model of
-commits_model.py: what a byte is, all that it may be, and the line that set each value last."""
+"""The lines of `tltool explain --coherent` about the bytes of a response, a load, a report or a lost store (M2, M3, M6, M7), by the
+model of commits_model.py: what a byte is, all that it may be, and the line that set each value last."""
 import commits_model
 from commits_model import number
+from early_trial import Beat, could_be
 
 MOST = 8
 
@@ -74,6 +75,19 @@ class Bytes:
             known = [u for u, _ in self.copy.now[place]]
             yield self.first + place, number(f[7]) >> 8 * k & 0xFF, [v for v in range(256) if any(u in (None, v) for u in known)]
 
+    def brought(self, f):
+        """The bytes of a beat of a response, each with what its message may bring in the lane."""
+        for at, lane in enumerate(self.trace.lanes):
+            m = lane.bursts.get((self.link, "D")) or lane.message(self.link, "D", f)
+            b = Beat(m, lane.value(m, "D", f))
+            lane.judge.breach(b)
+            grants = m.op == "GrantData"
+            if grants or lane.is_asked(m):
+                i = b.index if grants else m.request.at + b.index
+                known = m.grant_may[i] if grants else getattr(m, "may_bring", {}).get(i, ())
+                values = [v for v in range(256) if any(could_be(v, u) for u in known)]
+                yield self.first + i * self.width + at, number(f[8]) >> 8 * at & 0xFF, values
+
     def strays(self, bytes_of):
         return [f"  byte {address:08x} is {v:02x}{self.copy.text(address % 64, values)}" for address, v, values in bytes_of if v not in values]
 
@@ -86,10 +100,18 @@ class Bytes:
                        f"; that of memory wasn't{self.memory.text(place, memory)}")
 
 
-def bytes_told(lines):
-    """The lines about the bytes of the last of these lines, which breaks M6 or M7. The header is the first."""
+def address_of(lines):
+    """An address of the block that the last of these lines is about."""
     f = lines[-1].split()
-    kept = Bytes(lines, number(f[0]), number(f[3] if f[1] in "SLI" else f[6]))
+    if f[1] == "D":
+        f = next(g for g in map(str.split, reversed(lines[1:])) if g[:2] == [f[0], "A"] and g[5] == f[5])
+    return number(f[3] if f[1] in "SLI" else f[6])
+
+
+def bytes_told(lines):
+    """The lines about the bytes of the last of these lines, which breaks M2, M3, M6 or M7. The header is the first."""
+    f = lines[-1].split()
+    kept = Bytes(lines, number(f[0]), address_of(lines))
     came = 0
     for n, line in enumerate(lines[1:-1], 2):
         kept.take(line, n)
@@ -99,6 +121,8 @@ def bytes_told(lines):
             came = (came + 1) % beats
     if f[1] == "L":
         told = kept.strays(kept.loaded(f))
+    elif f[1] == "D":
+        told = kept.strays(kept.brought(f))
     elif f[1] == "C" and f[7] != "-":
         told = kept.strays(kept.given(f, came))
     else:

@@ -2,10 +2,11 @@
 """commits.py TOOL [RUNS]: stores and loads in traces.
 
 Random traces of caches whose cores store and load, by the model bench/commits_trial.py: RUNS runs of right caches (60 if none
-is said), and a tenth as many of each wrong one. `TOOL coherent` must have the model's verdict on each, and `TOOL monitor` must
+is said), and a tenth as many of each wrong one; of each run of right caches two with a byte of a GrantData or an AccessAckData
+changed, if the model says M2 or M3 of them. `TOOL coherent` must have the model's verdict on each, and `TOOL monitor` must
 find no fault in those of right caches. Of each run at fault `TOOL explain --coherent` must have the rule's sentence and the event
-in words, and for M5 to M7 the last store to each byte, as they are found here in the lines before it. For M6 and M7 it must end with
-the lines of bench/commits_bytes.py: what a byte is, all that it may be, and the line that set each value. For M1 and M4 the line
+in words, and for M5 to M7 the last store to each byte, as they are found here in the lines before it. For M2, M3, M6 and M7 it must
+end with the lines of bench/commits_bytes.py: what a byte is, all that it may be, and the line that set each value. For M1 and M4 the line
 of each link that it says to hold what conflicts must be one of that link. Each line that it cites
 must be the one of its number. `TOOL chart` of each must draw the rows of the chart of its beats, and its stores and loads between
 them.
@@ -29,7 +30,7 @@ import tempfile
 
 sys.path.insert(0, str(pathlib.Path(__file__).resolve().parent.parent / "bench"))
 from commits_bytes import bytes_told  # noqa: E402
-from commits_model import Beyond  # noqa: E402
+from commits_model import Beyond, judged  # noqa: E402
 
 # Traces with more lines aren't explained: each load that begins and never ends is followed to the end of a trace.
 LONG = 1000
@@ -97,6 +98,33 @@ def stores_told(lines, words, width):
     return ["  the last stores to these bytes:", *(f"  {i + 2}: {words[i]}" for i in told)] if told else ["  no store before it reached these bytes"]
 
 
+def altered(text, opcode, rng):
+    """A trace with a byte of a response with this opcode changed, and the model's verdict on it. None if that isn't M2 or M3."""
+    lines = text.splitlines()
+    fields = [it.split() for it in lines]
+    places = [i for i, f in enumerate(fields[1:], 1) if f[1] == "D" and f[2] == opcode and f[8] != "-"]
+    if not places:
+        return None
+    i = rng.choice(places)
+    digits = fields[i][8]
+    at = 2 * rng.randrange(len(digits) // 2)
+    fields[i][8] = f"{digits[:at]}{int(digits[at:at + 2], 16) ^ rng.randrange(1, 256):02x}{digits[at + 2:]}"
+    lines[i] = " ".join(fields[i])
+    found = judged(lines)
+    return ("".join(it + "\n" for it in lines), f"line {found[0]} {found[1]}\n") if found and found[1] in ("M2", "M3") else None
+
+
+def write_altered(trace, folder):
+    """Writes traces with a byte of a GrantData or an AccessAckData changed, each with its verdict."""
+    rng = random.Random(trace.name)
+    for opcode in "51":
+        made = altered(trace.read_text(), opcode, rng)
+        if made:
+            name = folder / f"altered_{opcode}_{trace.name}"
+            name.write_text(made[0])
+            name.with_suffix(".verdict").write_text(made[1])
+
+
 def held_slips(told, words):
     """What is wrong with the links that are told to hold what conflicts with the last of these events, and with its request."""
     for line in told or ["nothing"]:
@@ -127,7 +155,7 @@ def story_slips(tool, trace, fault):
         yield from (f"{trace.name}: {it}" for it in held_slips(told[3:], words))
         return
     wanted = stores_told(lines, words, int(width)) if rule in ("M5", "M6", "M7") else []
-    if rule in ("M6", "M7"):
+    if rule in ("M2", "M3", "M6", "M7"):
         try:
             wanted += bytes_told([header, *lines])
         except Beyond:
@@ -330,6 +358,10 @@ def main():
         subprocess.run([sys.executable, MODEL, "--runs", runs, "--traces", folder], check=True, stdout=subprocess.DEVNULL)
         # where the header says neither that a link's stores are all there nor that memory was zero the command reads no commits
         traces = [it for it in sorted(pathlib.Path(folder).glob("*.trace")) if re.search(r"C\+| zero ", it.open().readline())]
+        for it in traces:
+            if it.name.startswith("right_"):
+                write_altered(it, pathlib.Path(folder))
+        traces += sorted(pathlib.Path(folder).glob("altered_*.trace"))
         found = list(pool.map(lambda it: list(slips(tool, it)), traces))
         schedules = [(it.name, it.read_text()) for it in sorted(SCHEDULES.glob("*.schedule"))]
         schedules += [(f"random {' '.join(it)}", of(tool, "random", *it)[0]) for it in WORLDS]

@@ -594,6 +594,13 @@ ROWS = [
     ("sed -e '1s/.*/tltrace 4 8 none C+ C+/' -e '1a01 I 0 00000040' -e '2a01 I 0 00000080' rules/M1.trace >held.trace; tltool explain --coherent held.trace | sed '1p;$!d'", 0, "line 7 M1\n  link 00 holds Trunk of block 00000000 since line 5\n", ""),
     ("sed -e '1s/.*/tltrace 4 8 none C+ C+/' -e '2a01 I 0 00000040' -e '4a01 I 0 00000080' rules/M1_begun.trace >begun.trace; tltool explain --coherent begun.trace | sed '1p;$!d'", 0, "line 7 M1\n  link 00 is being granted Trunk of block 00000000 since line 5\n", ""),
     ("sed -e '1s/.*/tltrace 4 8 none C+ UL/' -e '1a00 I 0 00000040' -e '3a00 S 0 00000000 05' -e '4a00 L 0 00000000 05' rules/M4.trace >asked.trace; tltool explain --coherent asked.trace | sed '1p;/^  [il]/!d'", 0, "line 8 M4\n  its request was complete in line 6\n  link 00 holds Trunk of block 00000000 since line 4\n", ""),
+    # which bytes a response can't have, and what each may be: by a store, by memory that was zero, by a Get's window and a store after it
+    ("tltool explain --coherent rules/M2_stored.trace | sed '1p;/^  byte/!d'", 0, "line 9 M2\n  byte 00000000 is 07, and may be 05, set in line 5\n", ""),
+    ("tltool explain --coherent rules/M3_stored.trace | sed '1p;/^  byte/!d'", 0, "line 9 M3\n  byte 00000000 is 00, and may be 05, set in line 5\n", ""),
+    ("tltool explain --coherent rules/M2_zero.trace | sed '1p;4,$!d'", 0, "line 3 M2\n  byte 00000000 is 07, and may be 00\n", ""),
+    ("tltool explain --coherent rules/M3_zero.trace | sed '1p;4,$!d'", 0, "line 3 M3\n  byte 00000000 is 07, and may be 00\n", ""),
+    ("sed -e '6a00 S 0 00000000 06' -e '8a00 S 0 00000000 08' -e '9s/00 0$/05 0/' rules/M3_stored.trace >read.trace; tltool explain --coherent read.trace | sed '1p;4,$!d'", 0, "line 11 M3\n  byte 00000000 is 05, and may be 06, set in line 7\n", ""),
+    ("sed '3s/0*7 0$/07070707070707070707070707070707 0/' rules/M2_zero.trace >more.trace; tltool explain --coherent more.trace | tail -2", 0, "  byte 00000007 is 07, and may be 00\n  and 8 more\n", ""),
     ("sed '3s/4 0/4 1/' rules/M6.trace >branch.trace; tltool explain branch.trace", 1, "line 3 H6\n  H6 (..", ""),
     # the situations of the beats, with the lines of the trace
     *((f"tltool cover rules/{name}.trace | sed -n 1p", 0, f"clean {lines}\n", "") for name, lines, _ in COMMITS),

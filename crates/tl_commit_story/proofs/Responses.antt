@@ -1,19 +1,22 @@
 -- What is told of a response that breaks a rule of memory.
-use Rattle.std.proofs.Common.{◌≡◌, ℕ, true, false, List, [], length, refl, sym, append-nil}
+use Rattle.std.proofs.Common.{◌≡◌, ℕ, true, false, List, length, refl}
 use Rattle.tl_beat.specs.declared.beat.Beat.TheVariants as beat
 use Rattle.tl_beat.specs.declared.beat.BeatD.{BeatD}
 use Rattle.tl_beat.specs.declared.beat.Link.{Link}
-use Rattle.tl_commit_lines.specs.statement.MarkedHeader.{levels_of}
+use Rattle.tl_commit_lines.specs.statement.MarkedHeader.{complete_of, levels_of}
+use Rattle.tl_commits.specs.statement.Completeness.{Completeness}
 use Rattle.tl_commits.specs.statement.Events.{Events, beats_of}
 use Rattle.tl_lines.specs.declared.fault.Fault.TheVariants.{MemoryRule as BreaksTogether}
 use Rattle.tl_events.specs.declared.commit.Event.TheVariants as event
+use Rattle.tl_evidence.specs.declared.copy_record.CopyRecord.{CopyRecord}
+use Rattle.tl_evidence.specs.statement.ResponseLines.{response_lines}
 use Rattle.tl_params.specs.declared.memory_rule.MemoryRule.{MemoryRule}
 use Rattle.tl_params.specs.declared.memory_rule.MemoryRule.TheVariants.{M1, M2, M3, M4}
 use Rattle.tl_witness.specs.statement.Grounds.{grounds_text}
-use Rattle.tl_commit_story.specs.code.Followers.{TellsGrounds}
+use Rattle.tl_commit_story.specs.code.Followers.{TellsBytes, TellsGrounds}
 use Rattle.tl_commit_story.specs.code.Placing.{TellsLinks, is_of_links}
 use Rattle.tl_commit_story.specs.declared.follower.Follower.{Follower}
-use Rattle.tl_commit_story.specs.declared.follower.Follower.TheVariants.{OfLinks}
+use Rattle.tl_commit_story.specs.declared.follower.Follower.TheVariants.{OfBytes, OfLinks}
 use Rattle.tl_commit_story.specs.declared.links_record.LinksRecord.{LinksRecord}
 use Rattle.tl_commit_story.specs.statement.BeatLines.{event_names}
 use Rattle.tl_commit_story.specs.statement.Grounds.{response_grounds}
@@ -25,25 +28,29 @@ pub links-grounds : {w : ℕ} (f : Follower w) (r : LinksRecord w) (rule : Memor
 links-grounds {w} f r rule link y was is kept tells = λ together may links e k. (
   grounds_text (event_names e) rule (length (levels_of links)) link.0 y (beats_of e),
   tells.says may (levels_of links) e (rw kept at k),
-  same rule tells.of_links (length (levels_of links)) e,
+  same (complete_of links) rule tells.of_links (length (levels_of links)) e,
 )
   where
-    same : (rule : MemoryRule) → is_of_links rule ≡ true → (n : ℕ) (e : Events w)
-        → grounds_text (event_names e) rule n link.0 y (beats_of e) ≡ response_grounds rule n link y e
-    same M1 of n e = refl
-    same M4 of n e = refl
-    same M2 of n e = absurd cc
-    same M3 of n e = absurd cc
+    same : (complete : Completeness) (rule : MemoryRule) → is_of_links rule ≡ true → (n : ℕ) (e : Events w)
+        → grounds_text (event_names e) rule n link.0 y (beats_of e) ≡ response_grounds rule complete n link y e
+    same complete M1 of n e = refl
+    same complete M4 of n e = refl
+    same complete M2 of n e = absurd cc
+    same complete M3 of n e = absurd cc
 
--- of M2 and M3 nothing is told
-pub bytes-grounds : {w : ℕ} (f : Follower w) (rule : MemoryRule) (link : Link) (y : BeatD w) (was : List ℕ)
-    → is_of_links rule ≡ false → TellsGrounds f (BreaksTogether rule) link (event.Beat (beat.D y)) was was
-bytes-grounds {w} f rule link y was other = λ together may links e k.
-    ([], sym (append-nil was), none rule other (length (levels_of links)) e)
+-- M2 and M3
+pub bytes-grounds : {w : ℕ} (f : Follower w) (r : CopyRecord w) (rule : MemoryRule) (link : Link) (y : BeatD w)
+    (was is : List ℕ) → f ≡ OfBytes r → TellsBytes r rule link y was is
+    → TellsGrounds f (BreaksTogether rule) link (event.Beat (beat.D y)) was is
+bytes-grounds {w} f r rule link y was is kept tells = λ together may links e k. (
+  response_lines (complete_of links) (length (levels_of links)) link.0 y e,
+  tells.says may (levels_of links) (complete_of links) e (rw kept at k),
+  same rule tells.of_bytes (complete_of links) (length (levels_of links)) e,
+)
   where
-    none : (rule : MemoryRule) → is_of_links rule ≡ false → (n : ℕ) (e : Events w)
-        → [] ≡ response_grounds rule n link y e
-    none M1 of n e = absurd cc
-    none M4 of n e = absurd cc
-    none M2 of n e = refl
-    none M3 of n e = refl
+    same : (rule : MemoryRule) → is_of_links rule ≡ false → (complete : Completeness) (n : ℕ) (e : Events w)
+        → response_lines complete n link.0 y e ≡ response_grounds rule complete n link y e
+    same M1 of complete n e = absurd cc
+    same M4 of complete n e = absurd cc
+    same M2 of complete n e = refl
+    same M3 of complete n e = refl

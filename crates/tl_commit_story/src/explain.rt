@@ -357,7 +357,8 @@ fn reasons<R: Read>(
 /// permission that the link of the event holds of the block, with the event at which it last changed; the first beat of a
 /// GrantData, ProbeAckData or ReleaseData of the block that isn't complete; and the last store to each byte that the event
 /// is about. For M1 and M4 they are the links that hold, or are being granted, a conflicting permission, each with its
-/// line. For a line that spells no event the reasons are the sentence of its fault, and the line with carets under the
+/// line. For M2 and M3 they are the bytes that the response can't have, with all that each may be, each value with the line
+/// that set it. For a line that spells no event the reasons are the sentence of its fault, and the line with carets under the
 /// bytes at fault. After a trace without a fault come its pending messages and the limits of the verdict.
 ///
 /// Nothing is written before both readings have reached their ends. After that the only fault is `Write`: the writer

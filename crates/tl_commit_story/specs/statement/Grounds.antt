@@ -10,6 +10,7 @@ use Rattle.tl_beat.specs.declared.beat.Link.{Link}
 use Rattle.tl_beat.specs.declared.channel.Channel.TheVariants as channel
 use Rattle.tl_beat.specs.statement.Digits.{digits}
 use Rattle.tl_commit_lines.specs.statement.MarkedHeader.{MarkedLinks, complete_of, levels_of}
+use Rattle.tl_commits.specs.statement.Completeness.{Completeness}
 use Rattle.tl_commits.specs.statement.Events.{Events, beats_of}
 use Rattle.tl_lines.specs.declared.fault.Fault.{Fault}
 use Rattle.tl_lines.specs.declared.fault.Fault.TheVariants.{Rule as Breaks, MemoryRule as BreaksTogether, CommitRule}
@@ -18,6 +19,7 @@ use Rattle.tl_events.specs.declared.commit.Event.{Event}
 use Rattle.tl_events.specs.declared.commit.Event.TheVariants as event
 use Rattle.tl_evidence.specs.statement.Convicted.{IsConvicted}
 use Rattle.tl_evidence.specs.statement.CopyLines.{copy_lines}
+use Rattle.tl_evidence.specs.statement.ResponseLines.{response_lines}
 use Rattle.tl_explain.specs.statement.Sentences.{perm_name}
 use Rattle.tl_links.specs.statement.Allowed.{allowed_line}
 use Rattle.tl_params.specs.declared.level.Level.{Level}
@@ -127,17 +129,17 @@ AreLinkGrounds together rule may levels link (event.Commit x) e grounds =
 
 -- ---- rules of memory
 
--- The lines for a response that breaks M1 or M4: those for the beats alone, with the lines of this trace. For M2 and M3
--- there are none.
-abbrev pub response_grounds : {w : ℕ} → MemoryRule → ℕ → Link → BeatD w → Events w → List ℕ
-response_grounds M1 n link x e = grounds_text (event_names e) M1 n link.0 x (beats_of e)
-response_grounds M4 n link x e = grounds_text (event_names e) M4 n link.0 x (beats_of e)
-response_grounds _ n link x e = []
+-- The lines for a response that breaks M1 or M4: those for the beats alone, with the lines of this trace. For M2 and M3 the
+-- bytes that it can't have, with all that each may be and the line that set each value.
+abbrev pub response_grounds : {w : ℕ} → MemoryRule → Completeness → ℕ → Link → BeatD w → Events w → List ℕ
+response_grounds M1 complete n link x e = grounds_text (event_names e) M1 n link.0 x (beats_of e)
+response_grounds M4 complete n link x e = grounds_text (event_names e) M4 n link.0 x (beats_of e)
+response_grounds _ complete n link x e = response_lines complete n link.0 x e
 
 -- no other event breaks such a rule
-abbrev pub memory_grounds : {w : ℕ} → MemoryRule → ℕ → Link → Event w → Events w → List ℕ
-memory_grounds rule n link (event.Beat (beat.D x)) e = response_grounds rule n link x e
-memory_grounds rule n link _ e = []
+abbrev pub memory_grounds : {w : ℕ} → MemoryRule → Completeness → ℕ → Link → Event w → Events w → List ℕ
+memory_grounds rule complete n link (event.Beat (beat.D x)) e = response_grounds rule complete n link x e
+memory_grounds rule complete n link _ e = []
 
 -- ---- all rules
 
@@ -150,7 +152,7 @@ AreGrounds together (CommitRule rule) may links link x e grounds =
     grounds ≡ copy_grounds may (levels_of links) link x e
     ++ copy_lines rule (complete_of links) (length (levels_of links)) link.0 x e
 AreGrounds together (BreaksTogether rule) may links link x e grounds =
-    grounds ≡ memory_grounds rule (length (levels_of links)) link x e
+    grounds ≡ memory_grounds rule (complete_of links) (length (levels_of links)) link x e
 AreGrounds together _ may links link x e grounds = grounds ≡ []
 
 -- The reasons begin with the sentence of the rule that the event breaks, and the event.

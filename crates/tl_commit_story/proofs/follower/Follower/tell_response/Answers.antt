@@ -1,4 +1,3 @@
-use Rattle.std.proofs.Common.{rules}
 use Rattle.std.proofs.lemmas.Result.{IfOk-weaker}
 use Rattle.tl_commit_story.proofs.Responses.{bytes-grounds, links-grounds}
 use Rattle.tl_commit_story.proofs.follower.Follower.tell_response.Goals as goal
@@ -8,6 +7,7 @@ returns-in-OfLinks g c = IfOk-weaker c.tell.result _ _
     (λ told tells. λ yes. links-grounds c.args.self.now c.in-OfLinks.kept c.args.rule c.args.link c.args.x.now
     c.args.out.now.items c.tell.new.out.items c.in-OfLinks.is (tells yes)) c.tell.ensures
 
-pub returns-in-OfNothing : goal.returns-in-OfNothing
-returns-in-OfNothing g c = λ yes. bytes-grounds c.args.self.now c.args.rule c.args.link c.args.x.now
-    c.args.out.now.items (search rules)
+pub returns-in-OfBytes : goal.returns-in-OfBytes
+returns-in-OfBytes g c = IfOk-weaker c.tell_bytes.result _ _
+    (λ told tells. λ yes. bytes-grounds c.args.self.now c.in-OfBytes.kept c.args.rule c.args.link c.args.x.now
+    c.args.out.now.items c.tell_bytes.new.out.items c.in-OfBytes.is (tells yes)) c.tell_bytes.ensures

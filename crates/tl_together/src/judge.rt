@@ -294,7 +294,7 @@ impl<const W: usize> Judge<W> {
 
     /// Judges a beat of a link by all rules but those that are left, and takes it if it breaks none. After a refusal the
     /// judge is as before, and goes on. The error is `Closed` if `push` refused an earlier beat for a broken rule. It is
-    /// made once, so that the compiler puts into it what it alone calls.
+    /// made once, so that the compiler can put the functions into it that nothing else calls.
     #[inline(never)]
     fn push_but(&mut self, left: Unjudged, link: Link, beat: &Beat<W>) -> Result<(), JudgeFault>
         requires { IsWidth W }

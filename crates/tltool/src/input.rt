@@ -1,4 +1,4 @@
-//! What a command reads.
+//! The input of a command.
 
 ghost use Rattle.std.specs.Prelude.{◌≡◌, Err, IfErr};
 ghost use Rattle.tl_lines.specs.declared.status.ToolFault.{ToolFault};

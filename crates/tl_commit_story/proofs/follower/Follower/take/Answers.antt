@@ -1,6 +1,4 @@
-use Rattle.std.proofs.Common.{rules}
 use Rattle.std.proofs.lemmas.Result.{IfOk-weaker}
-use Rattle.tl_commit_lines.proofs.Pushed.{event-valid}
 use Rattle.tl_commit_lines.specs.statement.MarkedHeader.{complete_of, levels_of}
 use Rattle.tl_commit_story.proofs.follower.Follower.take.Goals as goal
 
@@ -8,10 +6,6 @@ pub returns-in-OfLinks : goal.returns-in-OfLinks
 returns-in-OfLinks g c = IfOk-weaker c.take-in-OfLinks.result _ _
     (λ on follows. λ yes together may links e at k.
     follows yes may (levels_of links) e (rw c.in-OfLinks.is at k)) c.take-in-OfLinks.ensures
-
-pub take-in-OfBytes-requires-2 : goal.take-in-OfBytes-requires-2
-take-in-OfBytes-requires-2 g c =
-    search (rules, event-valid c.args.line.now c.args.link c.args.event.now c.requires.spelled)
 
 pub returns-in-OfBytes : goal.returns-in-OfBytes
 returns-in-OfBytes g c = IfOk-weaker c.take-in-OfBytes.result _ _

@@ -9,8 +9,7 @@ use std::fs::File;
 use std::io::{Read, StdinLock};
 use std::{fs, io};
 
-/// Standard input or a file. Both have one type, so that the compiler makes the loop over the lines of a command once,
-/// and puts the reader of a line into it.
+/// Standard input or a file. Both have one type, so that the compiler makes the loop over the lines of a command once.
 #[derive(Drop)]
 pub(crate) enum Input {
     Standard(StdinLock<'static>),

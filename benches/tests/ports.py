@@ -46,6 +46,16 @@ def a_second_reset_is_another_trace_or_refused():
 
 
 @test
+def the_header_says_that_memory_was_zero():
+    for name, command, _ in simulations("zero", "-DPARAMETERS=.SOURCE_BITS(SOURCE_BITS),.ZERO(1)"):
+        played(command, filled(HELD))
+        want(beat_lines("ports")[0] == "tltrace 4 8 none zero C", f"{name}: {beat_lines('ports')}")
+        # a first read brings bytes ff
+        played(command, ["A 0 4 0 3 5 40 edge 1", "D 0 1 0 3 5 0 edge 1"])
+        want(judged(path("ports"), "coherent") == "line 3 M3", f"{name}: {judged(path('ports'), 'coherent')}")
+
+
+@test
 def each_line_has_its_time():
     for name, command, _ in simulations("plain"):
         played(command, ["A 0 7 1 6 0 0 edge 3", "D 0 4 0 6 0 0 E 0 0 edge 1"], f"+times={path('times')}")

@@ -1,6 +1,7 @@
 //! The bytes that a response may bring when it begins.
 
-ghost use Rattle.std.specs.Prelude.{ℕ, ◌≡◌, IfOk, Some};
+ghost use Rattle.std.specs.Box.{box_value};
+ghost use Rattle.std.specs.Prelude.{ℕ, ◌≡◌, IfOk, Some, option_map};
 ghost use Rattle.tl_beat.specs.declared.channel.Channel.TheVariants as channel;
 ghost use Rattle.tl_burst.specs.statement.Messages.{unfinished};
 ghost use Rattle.tl_rules.specs.statement.Conformance.{Trace, on_link};
@@ -26,17 +27,21 @@ pub fn begun<const W: usize>(
     link: Link,
     y: &BeatD<W>,
     block: u32,
-) -> Result<Option<Expected>, AllocError>
+) -> Result<Option<Box<Expected>>, AllocError>
     ensures { IfOk result (λ expected. (n : ℕ) (t : Trace W) → KnowsState state.now n block t →
         AnswersTo link.0 y.now block t → AreAddressed t →
-        ExpectsResponse expected n link.0 y.now.opcode y.now.source t t) }
+        ExpectsResponse (option_map box_value expected) n link.0 y.now.opcode y.now.source t t) }
 {
     match y.opcode {
-        OpD::GrantData => Ok(Some(Expected {
-            address: block.saturating_mul(64),
-            size: 6,
-            bytes: state.granted(alloc)?,
-        })),
+        OpD::GrantData => {
+            let bytes = state.granted(alloc)?;
+            let expected = Expected {
+                address: block.saturating_mul(64),
+                size: 6,
+                bytes,
+            };
+            Ok(Some(Box::new(alloc, expected)?))
+        }
         OpD::AccessAckData => {
             let read = state.read(alloc, link, y.source)?;
             Ok(read)
@@ -52,10 +57,10 @@ pub fn along<const W: usize>(
     state: &BlockState<W>,
     link: Link,
     y: &BeatD<W>,
-) -> Result<Option<Expected>, AllocError>
+) -> Result<Option<Box<Expected>>, AllocError>
     ensures { IfOk result (λ expected. (n block : ℕ) (t : Trace W) → KnowsState state.now n block t →
         AnswersTo link.0 y.now block t →
-        ExpectsLater expected n link.0 y.now.opcode y.now.source t) }
+        ExpectsLater (option_map box_value expected) n link.0 y.now.opcode y.now.source t) }
 {
     match y.opcode {
         OpD::AccessAckData => {
@@ -75,11 +80,12 @@ pub fn begun_with<const W: usize>(
     x: &Beat<W>,
     brought: &CarriedMessage,
     block: u32,
-) -> Result<Option<Expected>, AllocError>
+) -> Result<Option<Box<Expected>>, AllocError>
     ensures { IfOk result (λ expected. (n : ℕ) (t : Trace W) → KnowsState state.now n block t →
         KnowsMessage brought.now (unfinished channel.D (on_link link.0 t)) → IsLegalBeat link.0 x.now t →
         block_borne x.now (on_link link.0 t) ≡ Some block → AreAddressed t →
-        ExpectsBegun expected n (link, x.now) t × ExpectsAlong expected n (link, x.now) t) }
+        ExpectsBegun (option_map box_value expected) n (link, x.now) t
+        × ExpectsAlong (option_map box_value expected) n (link, x.now) t) }
 {
     match x {
         Beat::D(y) => {

@@ -1,7 +1,8 @@
 //! The state of a block.
 
 ghost use Rattle.std.specs.Prelude.{ℕ, suc, true, false, not, None, [], ◌∷◌, ◌≡◌, ◌&&◌, ◌-◌, length, find, IfOk};
-ghost use Rattle.std.specs.Prelude.{if◌then◌else◌, filter, unwrap_or};
+ghost use Rattle.std.specs.Box.{box_value};
+ghost use Rattle.std.specs.Prelude.{if◌then◌else◌, filter, option_map, unwrap_or};
 ghost use Rattle.tl_beat.specs.declared.beat.Beat.{Beat};
 ghost use Rattle.tl_beat.specs.declared.beat.Beat.TheVariants as beat;
 ghost use Rattle.tl_beat.specs.declared.beat.BeatD.{BeatD};
@@ -20,7 +21,7 @@ ghost use Rattle.tl_bytes.specs.statement.Known.{tellings_of};
 ghost use Rattle.tl_bytes.specs.statement.Lines.{told_moment};
 
 use crate::accesses::{append_renewed, find, has_reader, watch};
-use crate::boxed::{BoxedList, boxed};
+use crate::boxed::BoxedList;
 use crate::early::OutrunAccess;
 use crate::expected::Expected;
 use crate::free::Freedom;
@@ -132,11 +133,11 @@ impl<const W: usize> BlockState<W> {
         alloc: Global,
         link: Link,
         source: u8,
-    ) -> Result<Option<Expected>, AllocError>
+    ) -> Result<Option<Box<Expected>>, AllocError>
         ensures { IfOk result (λ expected. (n block : ℕ) (t : Trace W) → KnowsState self.now n block t →
             AnyIsTo block (find (is_of link.0 source) (pending_accesses t)) →
             IsNoPut (find (is_of link.0 source) (pending_accesses t)) →
-            Expects expected n block (find (is_of link.0 source) (pending_accesses t)) t) }
+            Expects (option_map box_value expected) n block (find (is_of link.0 source) (pending_accesses t)) t) }
     {
         let accesses = self.accesses.as_slice();
         let Some(access) = find(accesses, link, source) else {
@@ -149,11 +150,12 @@ impl<const W: usize> BlockState<W> {
             accesses,
             self.outrun.as_slice(),
         )?;
-        Ok(Some(Expected {
+        let expected = Expected {
             address: access.writer.asked.request.address,
             size: access.writer.asked.request.size,
             bytes,
-        }))
+        };
+        Ok(Some(Box::new(alloc, expected)?))
     }
 
     /// The same if the access is a Get, and none if it isn't. The error means that there is no memory left.
@@ -162,10 +164,10 @@ impl<const W: usize> BlockState<W> {
         alloc: Global,
         link: Link,
         source: u8,
-    ) -> Result<Option<Expected>, AllocError>
+    ) -> Result<Option<Box<Expected>>, AllocError>
         ensures { IfOk result (λ expected. (n block : ℕ) (t : Trace W) → KnowsState self.now n block t →
             AnyIsTo block (find (is_of link.0 source) (pending_accesses t)) →
-            ExpectsAgain expected n (find (is_of link.0 source) (pending_accesses t)) t) }
+            ExpectsAgain (option_map box_value expected) n (find (is_of link.0 source) (pending_accesses t)) t) }
     {
         let Some(access) = find(self.accesses.as_slice(), link, source) else {
             return Ok(None);
@@ -222,12 +224,13 @@ impl<const W: usize> BlockState<W> {
     pub(crate) fn with_bytes(
         &self,
         alloc: Global,
-        bytes: Option<BlockBytes>,
+        bytes: Option<Box<BlockBytes>>,
         outrun: Option<BoxedList<OutrunAccess>>,
         gone: Option<(Link, u8)>,
     ) -> Result<NextState<W>, AllocError>
         ensures { IfOk result (λ next. (n block : ℕ) (x : Link × Beat W) (t : Trace W) →
-            KnowsState self.now n block t → KnowsBlock (unwrap_or bytes self.now.bytes) n block (x ∷ t) →
+            KnowsState self.now n block t →
+            KnowsBlock (unwrap_or (option_map box_value bytes) self.now.bytes) n block (x ∷ t) →
             filter (is_to block) (pending_accesses (x ∷ t))
             ≡ filter (keeps gone) (filter (is_to block) (pending_accesses t)) →
             AllWriteInside (pending_accesses (x ∷ t)) →
@@ -235,7 +238,6 @@ impl<const W: usize> BlockState<W> {
             KnowsUnseen (with_next self.now next) n block x t) }
     {
         let accesses = self.next_accesses(alloc, gone)?;
-        let bytes = boxed(alloc, bytes)?;
         Ok(NextState {
             bytes,
             accesses,
@@ -266,7 +268,8 @@ impl<const W: usize> BlockState<W> {
             pending_accesses (x ∷ t) ≡ pending_accesses t → LeavesOutrun block x t → moment ≡ length t → AreCarried values.now x t →
             KnowsUnseen (with_next self.now next) n block x t) }
     {
-        let bytes = BlockBytes::told(alloc, values, moment)?;
+        let told = BlockBytes::told(alloc, values, moment)?;
+        let bytes = Box::new(alloc, told)?;
         self.with_bytes(alloc, Some(bytes), None, None)
     }
 
@@ -279,7 +282,7 @@ impl<const W: usize> BlockState<W> {
         y: &BeatD<W>,
         brought: &CarriedMessage,
         moment: u64,
-    ) -> Result<Option<BlockBytes>, AllocError>
+    ) -> Result<Option<Box<BlockBytes>>, AllocError>
         requires { IsWidth W }
         ensures { IfOk result (λ bytes. (n block : ℕ) (t : Trace W) →
             KnowsState self.now n block t → tells block (beat.D y.now) (on_link link.0 t) ≡ false →
@@ -288,7 +291,7 @@ impl<const W: usize> BlockState<W> {
             NoneSettled block (link, beat.D y.now) t →
             KnowsMessage brought.now (unfinished channel.D (on_link link.0 t)) →
             HasRoom (beat.D y.now) (unfinished channel.D (on_link link.0 t)) → moment ≡ length t →
-            KnowsBlock (unwrap_or bytes self.now.bytes) n block ((link, beat.D y.now) ∷ t)) }
+            KnowsBlock (unwrap_or (option_map box_value bytes) self.now.bytes) n block ((link, beat.D y.now) ∷ t)) }
     {
         let Some(access) = find(self.accesses.as_slice(), link, y.source) else {
             return Ok(None);
@@ -298,8 +301,8 @@ impl<const W: usize> BlockState<W> {
         }
         let standing = self.bytes.standing(&access.windows, y.denied);
         let write = written(&access.writer, &brought.with(&Beat::D(*y)));
-        let bytes = self.bytes.with(alloc, &write, standing, moment)?;
-        Ok(Some(bytes))
+        let after = self.bytes.with(alloc, &write, standing, moment)?;
+        Ok(Some(Box::new(alloc, after)?))
     }
 
     /// The change by a beat that completes the answer to an access on a link, if one is pending. `moment` is the number

@@ -1,7 +1,7 @@
 //! Values on the heap.
 
 ghost use Rattle.std.specs.Box.{box_value};
-ghost use Rattle.std.specs.Prelude.{[], IfOk, List, option_map, ◌≡◌};
+ghost use Rattle.std.specs.Prelude.{[], IfOk, List, option_copied, option_map, ◌≡◌};
 ghost use Rattle.tl_memory.specs.code.Boxed.{listed};
 
 use std::alloc::{AllocError, Global};
@@ -18,14 +18,14 @@ pub fn boxed<T: Drop>(alloc: Global, value: Option<T>) -> Result<Option<Box<T>>,
     }
 }
 
-/// The value, if there is one.
+/// The value on the heap, if there is one.
 #[inline(always)]
-pub fn unboxed<T: Drop>(kept: Option<Box<T>>) -> Option<T>
-    ensures { result ≡ option_map box_value kept }
+pub fn value_of<T>(kept: &Option<Box<T>>) -> Option<&T>
+    ensures { option_copied result ≡ option_map box_value kept.now }
 {
     match kept {
         None => None,
-        Some(kept) => Some(Box::into_inner(kept)),
+        Some(kept) => Some(kept),
     }
 }
 

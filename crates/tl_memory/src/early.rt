@@ -2,6 +2,7 @@
 //! outran their requests.
 
 ghost use Rattle.std.specs.Prelude.{ℕ, true, false, ◌+◌, ◌*◌, ◌%◌, ◌<◌, ◌≤◌, ◌≡◌, ◌==◌, ◌++◌, None, Some, OnOk};
+ghost use Rattle.std.specs.Prelude.{option_copied};
 ghost use Rattle.tl_bytes.specs.code.Tellings.{is_written, value_at};
 ghost use Rattle.tl_burst.specs.statement.Burst.{reaches};
 ghost use Rattle.tl_memory.specs.code.Early as code;
@@ -113,12 +114,12 @@ impl OutrunAccess {
 }
 
 /// The access with this source on a link, if it is one of these.
-pub fn find_outrun(accesses: &[OutrunAccess], link: Link, source: u8) -> Option<OutrunAccess>
-    ensures { result ≡ code.outrun_in link.0 source accesses.now }
+pub fn find_outrun(accesses: &[OutrunAccess], link: Link, source: u8) -> Option<&OutrunAccess>
+    ensures { option_copied result ≡ code.outrun_in link.0 source accesses.now }
 {
     for access in accesses {
         if access.is_of(link, source) {
-            return Some(*access);
+            return Some(access);
         }
     }
     None

@@ -1,6 +1,7 @@
 //! The state of a link.
 
-ghost use Rattle.std.specs.Prelude.{ℕ, true, false, if◌then◌else◌, ◌&&◌, [], ◌∷◌, ◌≡◌, ◌≤◌, List, None, length, option_copied};
+ghost use Rattle.std.specs.Box.{box_value};
+ghost use Rattle.std.specs.Prelude.{ℕ, true, false, if◌then◌else◌, ◌&&◌, [], ◌∷◌, ◌≡◌, ◌≤◌, List, None, length, option_copied, option_map};
 ghost use Rattle.tl_beat.specs.declared.beat.Beat.TheVariants as beat;
 ghost use Rattle.tl_beat.specs.declared.beat.{Beat.Beat, BeatD.BeatD, Link.Link};
 ghost use Rattle.tl_beat.specs.declared.channel.Channel.TheVariants as channel;
@@ -16,6 +17,7 @@ ghost use Rattle.tl_memory.specs.code.Allowed as allowed;
 ghost use Rattle.tl_memory.specs.code.Early as early;
 ghost use Rattle.tl_memory.specs.code.Elsewhere.{IsConcerned};
 
+use crate::boxed::value_of;
 use crate::early::{Asking, Doubt, Granting, Releasing};
 use crate::expected::Expected;
 use crate::message::{CarriedMessage, is_small};
@@ -310,10 +312,11 @@ fn is_allowed<const W: usize>(expected: Option<&Expected>, beats: usize, x: &Bea
 }
 
 /// The state of a link: the unfinished messages, and the bytes that the unfinished response on channel D may bring.
+/// These are on the heap, and stay where they were made.
 #[derive(Drop)]
 pub struct LinkState {
     pub messages: LinkMessages,
-    expected: Option<Expected>,
+    expected: Option<Box<Expected>>,
 }
 
 impl LinkState {
@@ -347,7 +350,7 @@ impl LinkState {
         }
         match now {
             Some(known) => Some(known),
-            None => self.expected.as_ref(),
+            None => value_of(&self.expected),
         }
     }
 
@@ -377,12 +380,17 @@ impl LinkState {
 
     /// Takes a beat, which concerns this block, if it concerns one. `begun` are the bytes that the response may bring that
     /// begins with it.
-    pub fn take<const W: usize>(&mut self, begun: Option<Expected>, block: Option<u32>, x: &Beat<W>)
+    pub fn take<const W: usize>(
+        &mut self,
+        begun: Option<Box<Expected>>,
+        block: Option<u32>,
+        x: &Beat<W>,
+    )
         requires { IsWidth W }
         ensures { (levels : List Level) (n : ℕ) (link : Link) (t : Trace W) →
             KnowsLink self.old n link.0 t → AreLegal levels t → IsLegal levels (link, x.now) t →
             IsConcerned block x.now (on_link link.0 t) → ((y : BeatD W) → x.now ≡ beat.D y → begins (beat.D y) (on_link link.0 t) ≡ true →
-            ExpectsResponse begun n link.0 y.opcode y.source t t) →
+            ExpectsResponse (option_map box_value begun) n link.0 y.opcode y.source t t) →
             KnowsLink self.new n link.0 ((link, x.now) ∷ t) }
     {
         let first = self.messages.d.bytes.count() == 0;

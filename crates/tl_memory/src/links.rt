@@ -1,6 +1,7 @@
 //! The states of all links of a manager.
 
-ghost use Rattle.std.specs.Prelude.{ℕ, [], ◌∷◌, ◌≡◌, List, length, None, IfOk, IsTrue, option_copied, slice_get};
+ghost use Rattle.std.specs.Box.{box_value};
+ghost use Rattle.std.specs.Prelude.{ℕ, [], ◌∷◌, ◌≡◌, List, length, None, IfOk, IsTrue, option_copied, option_map, slice_get};
 ghost use Rattle.tl_beat.specs.declared.beat.Link.{Link};
 ghost use Rattle.tl_beat.specs.statement.Width.{IsWidth};
 ghost use Rattle.tl_burst.specs.statement.Part;
@@ -62,7 +63,7 @@ impl Links {
     /// begins with it.
     pub fn take<const W: usize>(
         &mut self,
-        begun: Option<Expected>,
+        begun: Option<Box<Expected>>,
         block: Option<u32>,
         link: Link,
         x: &Beat<W>,
@@ -70,7 +71,7 @@ impl Links {
         requires { IsWidth W }
         ensures { (levels : List Level) (t : Trace W) → KnowsLinks self.old (length levels) t →
             AreLegal levels t → IsLegal levels (link, x.now) t → IsConcerned block x.now (on_link link.0 t) →
-            ExpectsBegun begun (length levels) (link, x.now) t →
+            ExpectsBegun (option_map box_value begun) (length levels) (link, x.now) t →
             KnowsLinks self.new (length levels) ((link, x.now) ∷ t) }
     {
         if let Some(state) = self.states.get_mut(usize::from(link.0)) {

@@ -23,7 +23,7 @@ ghost use Rattle.tl_rules.specs.code.Open.{open_request};
 use crate::begun::begun_with;
 use crate::block::BlockState;
 use crate::blocks::Blocks;
-use crate::boxed::{boxed, unboxed};
+use crate::boxed::value_of;
 use crate::byte_change::{ByteChange, byte_change};
 use crate::expected::Expected;
 use crate::free::Freedom;
@@ -154,10 +154,7 @@ impl<const W: usize> Change<W> {
     fn begun(&self) -> Option<&Expected>
         ensures { option_copied result ≡ expected_by self.now }
     {
-        match &self.expected {
-            None => None,
-            Some(expected) => Some(expected),
-        }
+        value_of(&self.expected)
     }
 
     /// Whether this block is known to be free for this permission. It isn't if the beat doesn't concern it.
@@ -234,8 +231,7 @@ impl<const W: usize> Memory<W> {
         };
         let free = state.freedom();
         let next = after_beat(self.alloc, state, link, x, asked, &known.messages, moment)?;
-        let begun = begun_with(self.alloc, state, link, x, &known.messages.d, block)?;
-        let expected = boxed(self.alloc, begun)?;
+        let expected = begun_with(self.alloc, state, link, x, &known.messages.d, block)?;
         Ok(Change {
             block: Some(block),
             held: held_of(block, changes_held(x, &known.messages)),
@@ -314,8 +310,7 @@ impl<const W: usize> Memory<W> {
             KnowsMemory self.new (length levels) ((link, x.now) ∷ t) }
     {
         prove_typed(x);
-        self.links
-            .take(unboxed(change.expected), change.block, link, x);
+        self.links.take(change.expected, change.block, link, x);
         if change.block.is_some() {
             self.blocks.take(change.place, change.next, free, moment);
         }

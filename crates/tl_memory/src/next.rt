@@ -65,7 +65,7 @@ pub fn after_request<const W: usize>(
         return after_outrun_request(
             alloc,
             state,
-            &access,
+            access,
             brought.completes(&Beat::A(*y)),
             moment,
         );
@@ -170,7 +170,7 @@ fn after_answer<const W: usize>(
         KnowsUnseen (with_next state.now next) n block (link, beat.D y.now) t) }
 {
     match state.outrun_of(link, y.source) {
-        Some(access) => state.settled(alloc, &access, moment),
+        Some(access) => state.settled(alloc, access, moment),
         None => state.answered(alloc, link, y, brought, moment),
     }
 }

@@ -1,6 +1,6 @@
 //! The accesses to a block whose answers began before their requests were complete.
 
-ghost use Rattle.std.specs.Prelude.{ℕ, true, Some, ◌∷◌, ◌≡◌, length, IfOk};
+ghost use Rattle.std.specs.Prelude.{ℕ, true, Some, ◌∷◌, ◌≡◌, length, IfOk, option_copied};
 ghost use Rattle.tl_beat.specs.declared.beat.Beat.{Beat};
 ghost use Rattle.tl_beat.specs.declared.beat.Beat.TheVariants as beat;
 ghost use Rattle.tl_beat.specs.declared.beat.BeatD.{BeatD};
@@ -25,8 +25,8 @@ use tl_bytes::standing::Standing;
 
 impl<const W: usize> BlockState<W> {
     /// The access with this source on a link whose answer outran its request, if there is one.
-    pub fn outrun_of(&self, link: Link, source: u8) -> Option<OutrunAccess>
-        ensures { result ≡ early.outrun_in link.0 source self.now.outrun }
+    pub fn outrun_of(&self, link: Link, source: u8) -> Option<&OutrunAccess>
+        ensures { option_copied result ≡ early.outrun_in link.0 source self.now.outrun }
     {
         find_outrun(self.outrun.as_slice(), link, source)
     }
@@ -66,7 +66,8 @@ impl<const W: usize> BlockState<W> {
             KnowsUnseen (with_next self.now next) n block x t) }
     {
         let write = &access.write;
-        let bytes = self.bytes.with(alloc, write, Standing::Anywhere, moment)?;
+        let after = self.bytes.with(alloc, write, Standing::Anywhere, moment)?;
+        let bytes = Box::new(alloc, after)?;
         let mut outrun = Vec::new(alloc);
         append_outrun_but(
             &mut outrun,

@@ -1,6 +1,8 @@
 //! The accesses to a block that are asked for.
 
+ghost use Rattle.std.specs.Box.{box_value};
 ghost use Rattle.std.specs.Prelude.{ℕ, suc, true, false, None, ◌∷◌, ◌≡◌, ◌≤◌, find, is_some, length, IfOk, IfSome};
+ghost use Rattle.std.specs.Prelude.{option_map};
 ghost use Rattle.tl_beat.specs.declared.beat.Beat.TheVariants as beat;
 ghost use Rattle.tl_beat.specs.declared.channel.Channel.TheVariants as channel;
 ghost use Rattle.tl_beat.specs.statement.Width.{IsWidth};
@@ -63,28 +65,35 @@ impl<const W: usize> BlockState<W> {
     }
 
     /// The writer of the only pending access with one more beat of its request, if this is one and the access a Put.
-    /// `brought` are the bytes of the request's beats.
-    fn grown_writer(&self, link: Link, y: &BeatA<W>, brought: &CarriedMessage) -> Option<Writer<W>>
+    /// `brought` are the bytes of the request's beats. The error means that there is no memory left.
+    fn grown_writer(
+        &self,
+        alloc: Global,
+        link: Link,
+        y: &BeatA<W>,
+        brought: &CarriedMessage,
+    ) -> Result<Option<Box<Writer<W>>>, AllocError>
         requires width { IsWidth W }
         requires small { y.now.size ≤ 6 }
-        ensures { IfSome result (λ writer. (n block : ℕ) (t : Trace W) → KnowsState self.now n block t →
+        ensures { IfOk result (λ kept. IfSome (option_map box_value kept) (λ writer. (n block : ℕ) (t : Trace W) → KnowsState self.now n block t →
             KnowsMessage brought.now (beat.A y.now ∷ unfinished channel.A (on_link link.0 t)) →
             IsRequested link.0 y.now t → asks y.now (on_link link.0 t) ≡ true →
             is_some (find (is_outrun_of link.0 y.now.source) (outrun_accesses t)) ≡ false → block_at y.now.address ≡ block →
             (next : NextState W) → next.bytes ≡ None → next.outrun ≡ None →
             next_accesses self.now.accesses next.accesses ≡ grown_in writer self.now.accesses self.now.accesses.items →
-            KnowsState (with_next self.now next) n block ((link, beat.A y.now) ∷ t)) }
+            KnowsState (with_next self.now next) n block ((link, beat.A y.now) ∷ t))) }
     {
         let accesses = self.accesses.as_slice();
         if accesses.len() != 1 {
-            return None;
+            return Ok(None);
         }
         let only = &accesses[0];
         let asked = &only.writer.asked;
         if !asked.is_of(link, y.source) || !is_put(asked.request.opcode) {
-            return None;
+            return Ok(None);
         }
-        Some(Writer::new(link, y, brought, asked.moment))
+        let writer = Writer::new(link, y, brought, asked.moment);
+        Ok(Some(Box::new(alloc, writer)?))
     }
 
     /// The change by a beat of the request of an access to the block, at this moment. `brought` are the bytes of the
@@ -106,10 +115,10 @@ impl<const W: usize> BlockState<W> {
             moment ≡ suc (length t) →
             KnowsState (with_next self.now next) n block ((link, beat.A y.now) ∷ t)) }
     {
-        if let Some(writer) = self.grown_writer(link, y, brought) {
+        if let Some(writer) = self.grown_writer(alloc, link, y, brought)? {
             return Ok(NextState {
                 bytes: None,
-                accesses: NextAccesses::Grown(Box::new(alloc, writer)?),
+                accesses: NextAccesses::Grown(writer),
                 outrun: None,
             });
         }

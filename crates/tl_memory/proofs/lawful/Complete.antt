@@ -1,10 +1,10 @@
 -- What is known of an access that is asked for, where no beat of its link broke a rule.
 use Rattle.tl_memory.proofs.Imports.{Beat, BeatA, OpA, a_carries_data, IsWidth, MessageA, bit, data_beats}
 use Rattle.tl_memory.proofs.Imports.{reaches, History, burst_length, unfinished, Level, base_of}
-use Rattle.tl_memory.proofs.Imports.{AreTyped, all_liberties, broken_after_under, is_legal_under, block_at, ends, a_has_param, a_has_size}
+use Rattle.tl_memory.proofs.Imports.{AreTyped, all_liberties, broken_after_under, is_legal_under, block_at, ends, a_has_size}
 use Rattle.tl_memory.proofs.Imports.{a_of_level, base_in_memory, asked_by, is_access, writes, AreWide, WritesInside}
 use Rattle.tl_bytes.specs.statement.Bytes.{asks, is_put}
-use Rattle.std.proofs.Common.{◌≡◌, ℕ, zero, suc, Bool, true, false, not, ◌||◌, ◌+◌, ◌*◌, ◌/◌, ◌%◌, ◌^◌, ◌<◌, ◌≤◌, List, ◌∷◌}
+use Rattle.std.proofs.Common.{◌≡◌, ℕ, zero, suc, Bool, true, false, ◌||◌, ◌+◌, ◌*◌, ◌/◌, ◌%◌, ◌^◌, ◌<◌, ◌≤◌, List, ◌∷◌}
 use Rattle.std.proofs.Common.{length, None, refl, ap, ◌∙◌, arith, inl, inr}
 use Rattle.std.specs.Prelude.{min, if◌then◌else◌, nat_le, nat_lt}
 use Rattle.std.proofs.lemmas.Bool.{eqb-true, le-leb, ltb-true, and_parts, leb-true}

@@ -4,6 +4,8 @@ use Rattle.tl_memory.proofs.Imports.{on_link, begins, block_at, Access, KnowsGra
 use Rattle.tl_memory.proofs.Imports.{ExpectsResponse, Expects, is_to, AreLegal, KnowsLink}
 use Rattle.std.proofs.Common.{◌≡◌, ℕ, Bool, true, false, ◌+◌, ◌*◌, ◌≤◌, List, [], ◌∷◌, length, Option, Some, None, refl}
 use Rattle.std.proofs.Common.{sym, subst}
+use Rattle.std.specs.Box.{box_value}
+use Rattle.std.specs.Prelude.{option_map}
 use Rattle.std.proofs.lemmas.Bool.{eq-eqb}
 use Rattle.tl_beat.specs.declared.channel.Channel.{Channel}
 use Rattle.tl_bytes.specs.statement.Bytes.{grants_truly, reads_truly}
@@ -55,14 +57,15 @@ pub link-elsewhere : {w : ℕ} (levels : List Level) (is : IsWidth w) (s : LinkS
     → KnowsLink s n c (x ∷ t)
 link-elsewhere levels is s n c x t legal fine other k = record {
   messages_are = subst (λ h. KnowsMessages s.messages h) (sym (other-link c x t other)) k.messages_are;
-  expected_is = expected-off levels is c n x t legal fine s.expected k.expected_is (λ own. absurd (other own));
+  expected_is = expected-off levels is c n x t legal fine (option_map box_value s.expected) k.expected_is
+      (λ own. absurd (other own));
 }
 
 module _ {w : ℕ} (levels : List Level) (width : IsWidth w) (old new : LinkState) (n : ℕ) (link : Link) (x : Beat w)
     (t : Trace w)
     (k : KnowsLink old n link.0 t) (legal : AreLegal levels t) (fine : IsLegal levels (link, x) t)
     (messages : KnowsMessages new.messages (x ∷ on_link link.0 t)) where
-  known : KnowsExpected new.expected n link.0 ((link, x) ∷ t) → KnowsLink new n link.0 ((link, x) ∷ t)
+  known : KnowsExpected (option_map box_value new.expected) n link.0 ((link, x) ∷ t) → KnowsLink new n link.0 ((link, x) ∷ t)
   known e = record {
     messages_are = subst (λ h. KnowsMessages new.messages h) (sym (own-link link.0 (link, x) t refl)) messages;
     expected_is = e;
@@ -71,20 +74,20 @@ module _ {w : ℕ} (levels : List Level) (width : IsWidth w) (old new : LinkStat
   -- of another channel
   pub link-other : ((y : BeatD w) → x ≡ Beat.D y → ⊥) → new.expected ≡ old.expected
       → KnowsLink new n link.0 ((link, x) ∷ t)
-  link-other other same = known (subst (λ e. KnowsExpected e n link.0 ((link, x) ∷ t)) (sym same)
-      (expected-off levels width link.0 n (link, x) t legal fine old.expected k.expected_is (λ own. off x other)))
+  link-other other same = known (subst (λ e. KnowsExpected (option_map box_value e) n link.0 ((link, x) ∷ t)) (sym same)
+      (expected-off levels width link.0 n (link, x) t legal fine (option_map box_value old.expected) k.expected_is (λ own. off x other)))
     where
       off : (b : Beat w) → ((y : BeatD w) → b ≡ Beat.D y → ⊥) → on Channel.D b ≡ false
       off (Beat.D y) other = absurd (other y refl)
       off v other = refl
 
   -- the first of a response
-  pub link-begins : (y : BeatD w) (begun : Option Expected) → x ≡ Beat.D y → new.expected ≡ begun
+  pub link-begins : (y : BeatD w) (begun : Option Expected) → x ≡ Beat.D y → option_map box_value new.expected ≡ begun
       → length (unfinished Channel.D (on_link link.0 t)) ≡ 0
       → (begins (Beat.D y) (on_link link.0 t) ≡ true → ExpectsResponse begun n link.0 y.opcode y.source t t)
       → KnowsLink new n link.0 ((link, x) ∷ t)
   link-begins y begun is same none first = known
-      (subst (λ v. KnowsExpected new.expected n link.0 ((link, v) ∷ t)) (sym is)
+      (subst (λ v. KnowsExpected (option_map box_value new.expected) n link.0 ((link, v) ∷ t)) (sym is)
       (subst (λ e. KnowsExpected e n link.0 ((link, Beat.D y) ∷ t)) (sym same)
       (expected-on levels link n y t legal fine_d width begun
       (expects-begun levels link n y t legal fine_d begun first none))))
@@ -96,10 +99,10 @@ module _ {w : ℕ} (levels : List Level) (width : IsWidth w) (old new : LinkStat
   pub link-goes_on : (y : BeatD w) → x ≡ Beat.D y → new.expected ≡ old.expected
       → (length (unfinished Channel.D (on_link link.0 t)) ≡ 0 → ⊥) → KnowsLink new n link.0 ((link, x) ∷ t)
   link-goes_on y is same some = known
-      (subst (λ v. KnowsExpected new.expected n link.0 ((link, v) ∷ t)) (sym is)
-      (subst (λ e. KnowsExpected e n link.0 ((link, Beat.D y) ∷ t)) (sym same)
-      (expected-on levels link n y t legal fine_d width old.expected
-      (expects-later levels link n y t legal fine_d old.expected k.expected_is some))))
+      (subst (λ v. KnowsExpected (option_map box_value new.expected) n link.0 ((link, v) ∷ t)) (sym is)
+      (subst (λ e. KnowsExpected (option_map box_value e) n link.0 ((link, Beat.D y) ∷ t)) (sym same)
+      (expected-on levels link n y t legal fine_d width (option_map box_value old.expected)
+      (expects-later levels link n y t legal fine_d (option_map box_value old.expected) k.expected_is some))))
     where
       fine_d : IsLegal levels (link, Beat.D y) t
       fine_d = subst (λ v. IsLegal levels (link, v) t) is fine

@@ -1,8 +1,7 @@
 -- Sets of values, with those that more and more accesses may leave.
-use Rattle.std.proofs.Common.{◌≡◌, ℕ, Bool, true, false, ◌||◌, ◌+◌, ◌<◌, ◌≤◌, List, [], ◌∷◌, ◌++◌, take, get_or, length}
+use Rattle.std.proofs.Common.{◌≡◌, ℕ, Bool, true, false, ◌||◌, ◌+◌, ◌<◌, List, [], ◌∷◌, take, get_or, length}
 use Rattle.std.proofs.Common.{refl, sym, ap, ◌∙◌}
-use Rattle.std.proofs.lemmas.List.{take_all}
-use Rattle.std.specs.Prelude.{if◌then◌else◌, find, is_some, Some, None}
+use Rattle.std.specs.Prelude.{if◌then◌else◌, is_some, Some, None}
 use Rattle.tl_bytes.specs.code.Tellings.{leaves, left_as}
 use Rattle.tl_bytes.specs.declared.write.Write.{Write}
 use Rattle.tl_memory.specs.code.Writers.{picked}

@@ -1,5 +1,7 @@
 -- The state of links, if no beat broke a rule of its link.
+use Rattle.std.specs.Box.{box_value}
 use Rattle.std.specs.Prelude.{ℕ, true, false, not, [], ◌∷◌, ◌≡◌, ◌==◌, ◌&&◌, if◌then◌else◌, List, length, slice_get, Option, Some, None, ⊤}
+use Rattle.std.specs.Prelude.{option_map}
 use Rattle.tl_beat.specs.declared.beat.Beat.{Beat}
 use Rattle.tl_beat.specs.declared.beat.Beat.TheVariants as beat
 use Rattle.tl_beat.specs.declared.beat.BeatA.{BeatA}
@@ -100,7 +102,7 @@ pub record KnowsMessages {w : ℕ} (m : LinkMessages) (t : History w) : Type 0 w
 -- the state of a link
 pub record KnowsLink {w : ℕ} (s : LinkState) (n link : ℕ) (t : Trace w) : Type 0 where
   pub messages_are : KnowsMessages s.messages (on_link link t)
-  pub expected_is : KnowsExpected s.expected n link t
+  pub expected_is : KnowsExpected (option_map box_value s.expected) n link t
 
 -- the states of the first n links, and there are no others
 pub record KnowsLinks {w : ℕ} (l : Links) (n : ℕ) (t : Trace w) : Type 0 where

@@ -1,4 +1,5 @@
 use Rattle.std.proofs.Common.{ap}
+use Rattle.std.specs.{Box.box_value, Prelude.option_map}
 use Rattle.tl_rules.specs.statement.History.{is_release_ack}
 use Rattle.tl_bytes.specs.statement.Bytes.{pending_accesses}
 use Rattle.tl_memory.proofs.{messages.Beginning.none-again, messages.Beginning.read-again}
@@ -10,7 +11,7 @@ returns-in_ok-read-in-AccessAckData g c = λ n block t k answers.
     let y = c.args.y.now in
     let one = answers (ap is_release_ack c.in-AccessAckData.is) in
     let to = answered-there c.args.link.0 y.source block one.0 (pending_accesses t) one.1.are_asked one.2 in
-    read-again c.in_ok-read-in-AccessAckData.read y.opcode n c.args.link.0 y.source t c.in-AccessAckData.is
+    read-again (option_map box_value c.in_ok-read-in-AccessAckData.read) y.opcode n c.args.link.0 y.source t c.in-AccessAckData.is
     (c.in_ok-read-in-AccessAckData.ensures n block t k to)
 
 pub returns-in_default : goal.returns-in_default

@@ -1,4 +1,5 @@
 use Rattle.std.proofs.Common.{sym, ◌∙◌, ◌≡◌, true, false}
+use Rattle.std.specs.{Box.box_value, Prelude.option_map}
 use Rattle.std.proofs.lemmas.Bool.{eq-eqb, ne_eqb}
 use Rattle.std.proofs.lemmas.Result.{IfOk-weaker}
 use Rattle.tl_beat.{specs.declared.beat.Beat.Beat, specs.declared.channel.Channel.Channel}
@@ -18,7 +19,7 @@ returns-then-count-eq0 g c = IfOk-weaker c.begun.result _ _ (λ expected h n t k
     let first : begins (Beat.D y) (on_link link.0 t) ≡ true =
     sym (none-before c.count.result (unfinished Channel.D (on_link link.0 t)) (c.count.ensures g.row.W _
     message.bytes_are)) ∙ eq-eqb c.count.result 0 c.if-count-eq0.true in
-    begun-by expected n link c.args.x.now y t is first (h n t k answers all))
+    begun-by (option_map box_value expected) n link c.args.x.now y t is first (h n t k answers all))
     c.begun.ensures
 
 pub returns-else-count-eq0 : goal.returns-else-count-eq0
@@ -30,7 +31,7 @@ returns-else-count-eq0 g c = IfOk-weaker c.along.result _ _ (λ expected h n t k
     let later : begins (Beat.D y) (on_link link.0 t) ≡ false =
     sym (none-before c.count.result (unfinished Channel.D (on_link link.0 t)) (c.count.ensures g.row.W _
     message.bytes_are)) ∙ ne_eqb c.count.result 0 c.if-count-eq0.false in
-    along-by expected n link c.args.x.now y t is later (h n c.args.block t k answers))
+    along-by (option_map box_value expected) n link c.args.x.now y t is later (h n c.args.block t k answers))
     c.along.ensures
 
 pub returns-in_default : goal.returns-in_default

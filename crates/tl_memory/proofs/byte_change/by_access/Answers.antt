@@ -1,4 +1,3 @@
-use Rattle.std.proofs.Common.{sym, ◌∙◌}
 use Rattle.tl_beat.specs.declared.beat.Beat.{Beat}
 use Rattle.tl_bytes.specs.statement.Bytes.{pending_accesses}
 use Rattle.tl_bytes.specs.statement.Early.{outrun_accesses}
@@ -13,10 +12,10 @@ pub returns-in-Some : goal.returns-in-Some
 returns-in-Some g c = λ n block asked t k is access here late over message.
     let y = c.args.y.now in
     let link = c.args.link in
-    let there = kept-found link.0 y.source block c.in-Some.access c.args.state.now.outrun (outrun_accesses t)
-    k.outrun_are (rw here at is.outran) (sym c.in-Some.is ∙ c.outrun_of.ensures) in
-    settled-change n block c.in-Some.access (link, Beat.D y) t
-    (settles-answer link y asked c.in-Some.access there.0 block t is access late
+    let there = kept-found link.0 y.source block c.in-Some.access.now c.args.state.now.outrun (outrun_accesses t)
+    k.outrun_are (rw here at is.outran) c.in-Some.ensures in
+    settled-change n block c.in-Some.access.now (link, Beat.D y) t
+    (settles-answer link y asked c.in-Some.access.now there.0 block t is access late
     (answer-over link y asked t is late over) there.1 there.2)
 
 pub returns-in-None : goal.returns-in-None
@@ -24,7 +23,7 @@ returns-in-None g c = λ n block asked t k is access here late over message.
     let y = c.args.y.now in
     let link = c.args.link in
     let none = none-kept link.0 y.source block c.args.state.now.outrun (outrun_accesses t) k.outrun_are
-    (rw here at is.outran) (sym c.in-None.is ∙ c.outrun_of.ensures) in
+    (rw here at is.outran) c.in-None.ensures in
     c.by_answer.ensures n block t k (access-untold block y asked (on_link link.0 t) is.answers_it access
     (answer-ends y.opcode asked.opcode is.answers_it)) (answer-over link y asked t is late over)
     (answered-there link.0 y.source block asked (pending_accesses t) is.are_asked here)

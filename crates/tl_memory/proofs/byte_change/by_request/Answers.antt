@@ -27,8 +27,8 @@ returns-then-not-both g c = λ n block t k message is here.
     let link = c.args.link in
     let burst = unfinished Channel.A (on_link link.0 t) in
     let short = few g.row.W (length burst) c.requires.width is.room.0 in
-    let there = kept-found link.0 y.source block c.in-Some.access c.args.state.now.outrun (outrun_accesses t)
-    k.outrun_are (rw here at is.outran) (sym c.in-Some.is ∙ c.outrun_of.ensures) in
+    let there = kept-found link.0 y.source block c.in-Some.access.now c.args.state.now.outrun (outrun_accesses t)
+    k.outrun_are (rw here at is.outran) c.in-Some.ensures in
     let off : c.both.result ≡ false = search rules in
     let more : (ends (Beat.A y) (on_link link.0 t) && there.0.answered) ≡ false =
     ap₂ (λ a b. a && b) (sym (c.completes.ensures burst message (omega (arith, short)))) (sym there.2.answered_is)
@@ -41,11 +41,11 @@ returns g c = λ n block t k message is here.
     let link = c.args.link in
     let burst = unfinished Channel.A (on_link link.0 t) in
     let short = few g.row.W (length burst) c.requires.width is.room.0 in
-    let there = kept-found link.0 y.source block c.in-Some.access c.args.state.now.outrun (outrun_accesses t)
-    k.outrun_are (rw here at is.outran) (sym c.in-Some.is ∙ c.outrun_of.ensures) in
+    let there = kept-found link.0 y.source block c.in-Some.access.now c.args.state.now.outrun (outrun_accesses t)
+    k.outrun_are (rw here at is.outran) c.in-Some.ensures in
     let on : c.both.result ≡ true = search rules in
-    let both = and_parts (ends (Beat.A y) (on_link link.0 t)) c.in-Some.access.answered
+    let both = and_parts (ends (Beat.A y) (on_link link.0 t)) c.in-Some.access.now.answered
     (ap₂ (λ a b. a && b) (sym (c.completes.ensures burst message (omega (arith, short)))) refl
     ∙ sym c.both.ensures ∙ on) in
-    settled-change n block c.in-Some.access (link, Beat.A y) t
-    (settles-request link y c.in-Some.access there.0 block t there.1 there.2 both.1 both.0)
+    settled-change n block c.in-Some.access.now (link, Beat.A y) t
+    (settles-request link y c.in-Some.access.now there.0 block t there.1 there.2 both.1 both.0)

@@ -30,7 +30,7 @@ returns-in-Some g c = IfOk-weaker c.after_outrun_request.result _ _ (λ next h n
     sym (c.asks.ensures (on_link link.0 t) message (omega (arith, short))) ∙ yes in
     unseen-asked next c.args.state.now n block link y t (asks-calm link y t asked)
     (h n block link y t k is here asked (c.completes.ensures burst message (omega (arith, short)))
-    (sym c.in-Some.is ∙ c.outrun_of.ensures) now))
+    c.in-Some.ensures now))
     c.after_outrun_request.ensures
 
 pub returns : goal.returns

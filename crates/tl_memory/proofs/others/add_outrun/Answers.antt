@@ -1,5 +1,4 @@
 use Rattle.std.proofs.Common.{refl, true}
-use Rattle.std.specs.Prelude.{slice_index_or}
 use Rattle.tl_memory.specs.code.ByteSet.{has_at}
 use Rattle.tl_memory.proofs.values.Added.{added-none, added-one}
 use Rattle.tl_memory.proofs.others.add_outrun.Goals as goal

@@ -1,4 +1,4 @@
-use Rattle.std.proofs.Common.{◌≡◌, ◌<◌, ◌+◌, ◌||◌, ℕ, take}
+use Rattle.std.proofs.Common.{◌≡◌, ◌<◌, ◌||◌, ℕ, take}
 use Rattle.tl_bytes.specs.code.Tellings.{left_as}
 use Rattle.tl_memory.specs.code.ByteSet.{has_at}
 use Rattle.tl_memory.specs.code.Writers.{writes_outrun}

@@ -1,4 +1,4 @@
-use Rattle.std.proofs.Common.{◌+◌, ap, sym, ◌∙◌, ◌||◌}
+use Rattle.std.proofs.Common.{ap, sym, ◌∙◌, ◌||◌}
 use Rattle.tl_bytes.specs.code.Tellings.{leaves, left_as}
 use Rattle.tl_memory.specs.code.ByteSet.{has_at}
 use Rattle.tl_memory.specs.code.Writers.{writes_but, writes_outrun}

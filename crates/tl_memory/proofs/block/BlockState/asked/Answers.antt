@@ -1,9 +1,8 @@
-use Rattle.std.proofs.Common.{rules, ap, refl, ◌≡◌, ◌∷◌, ◌+◌, ◌*◌, ◌/◌}
+use Rattle.std.proofs.Common.{rules, refl, ◌≡◌, ◌∷◌, ◌+◌, ◌*◌, ◌/◌}
 use Rattle.std.specs.Prelude.{None, Some}
 use Rattle.std.proofs.lemmas.Bool.{eq-eqb}
 use Rattle.tl_beat.specs.declared.{beat.Beat.Beat, beat.Link.Link}
 use Rattle.tl_memory.specs.code.Taking.{asked_now}
-use Rattle.tl_memory.specs.code.Writers.{grown_in}
 use Rattle.tl_memory.specs.declared.next_state.{NextAccesses.NextAccesses, NextState.NextState}
 use Rattle.tl_memory.proofs.{states.Asked.asked-state, states.Asked.leaves-asked, states.Asked.unsettled-asked}
 use Rattle.tl_memory.proofs.{states.Bearing.asks-bare, states.Bearing.pending-asked, states.Bearing.request-leaves}
@@ -31,8 +30,6 @@ returns g c = λ n block t k brought is asked fresh here now.
 
 pub returns-in-Some : goal.returns-in-Some
 returns-in-Some g c = λ n block t k brought is asked fresh here now.
-    let accesses = c.args.self.now.accesses in
     let next : NextState g.row.W =
-    record { bytes = None; accesses = NextAccesses.Grown c.in_ok-new.field-0; outrun = None } in
-    c.in-Some.ensures n block t k brought is asked fresh here next refl refl
-    (ap (λ writer. grown_in writer accesses accesses.items) c.in_ok-new.ensures.ok)
+    record { bytes = None; accesses = NextAccesses.Grown c.in-Some.writer; outrun = None } in
+    (rw c.in-Some.is at c.in_ok-writer.ensures) n block t k brought is asked fresh here next refl refl refl

@@ -42,9 +42,9 @@ returns g c = λ n block t k quiet over to unsettled message room now.
     let found = finds c.args.link.0 y.source (open_for c.args.self.now.free) n block t c.args.self.now.accesses.items
     k.accesses_are to in
     let one = is-found c.in-Some.access.now _ (open_for c.args.self.now.free) n block _ t there found to in
-    c.in_ok-bytes.ensures.answered g.row.W n block c.args.link y one.0 t k.bytes_are quiet over
+    rw c.in_ok-new.ensures.ok (c.in_ok-after.ensures.answered g.row.W n block c.args.link y one.0 t k.bytes_are quiet over
     one.1 unsettled (c.standing-standing.ensures g.row.W n block one.0 t k.bytes_are one.2.windows_are) now
     (at-block c.written-write.result (one.0.request.address / 64) block one.0 (Beat.D y ∷ burst) one.3
     (c.written-write.ensures one.0 (Beat.D y ∷ burst) one.2.asked_is
     (subst (λ b. IsPendingWrite c.in-Some.access.now.writer.write b one.0) one.3 one.2.write_is)
-    (c.with.ensures burst message room) one.2.lawful))
+    (c.with.ensures burst message room) one.2.lawful)))

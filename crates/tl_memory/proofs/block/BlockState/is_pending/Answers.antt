@@ -1,4 +1,4 @@
-use Rattle.std.proofs.Common.{◌≡◌, ◌∙◌, ap, rules}
+use Rattle.std.proofs.Common.{◌≡◌, ◌∙◌, rules}
 use Rattle.std.specs.Prelude.{find, is_some}
 use Rattle.tl_memory.specs.code.Writers.{is_named}
 use Rattle.tl_memory.specs.statement.Known.{open_for}

@@ -28,8 +28,8 @@ returns g c = λ n block t k to other.
     let reads = rw (c.as_slice-accesses.ensures.value, c.as_slice.ensures.value) at c.in_ok-bytes.ensures in
     let kept = kept-one n block s.free s.bytes s.accesses.items s.outrun t k.bytes_are k.accesses_are k.outrun_are
     c.in-Some.access.now read one.0 (record { writer_is = refl; windows_are = refl; read_is = reads }) one.2 in
-    expects-some (record {
+    rw c.in_ok-new.ensures.ok (expects-some (record {
       address = c.in-Some.access.now.writer.asked.request.address;
       size = c.in-Some.access.now.writer.asked.request.size;
       bytes = c.in_ok-bytes.bytes;
-    }) read n block one.0 _ t one.1 kept refl refl refl other
+    }) read n block one.0 _ t one.1 kept refl refl refl other)

@@ -1,5 +1,6 @@
 use Rattle.std.proofs.Common.{rules, refl, true, ◌≡◌, find}
 use Rattle.tl_bytes.specs.statement.Bytes.{is_get}
+use Rattle.std.specs.{Box.box_value, Prelude.option_map}
 use Rattle.std.specs.Prelude.{None, Some}
 use Rattle.std.proofs.lemmas.Result.{IfOk-weaker}
 use Rattle.tl_memory.{specs.code.Writers.is_named, specs.statement.Known.open_for, proofs.states.Keeping.finds}
@@ -30,5 +31,5 @@ returns g c = IfOk-weaker c.read.result _ _ (λ expected h n block t k to.
     ≡ find (is_named c.args.link.0 c.args.source) s.accesses.items = search rules in
     let one = is-found c.in-Some.access.now _ (open_for s.free) n block _ t there found to in
     let get : is_get one.0.request.opcode ≡ true = search rules in
-    again-get expected n block one.0 _ t one.1 one.3 get (h n block t k to (get-no_put one.0 _ one.1 get)))
+    again-get (option_map box_value expected) n block one.0 _ t one.1 one.3 get (h n block t k to (get-no_put one.0 _ one.1 get)))
     c.read.ensures

@@ -1,5 +1,6 @@
 use Rattle.std.proofs.Common.{arith, sym, ◌∙◌, ◌≡◌, length, true, false}
 use Rattle.std.{proofs.lemmas.Bool.eq-eqb, proofs.lemmas.Bool.ne_eqb, specs.Prelude.option_copied}
+use Rattle.std.specs.{Box.box_value, Prelude.option_map}
 use Rattle.tl_beat.{specs.declared.beat.Beat.Beat, specs.declared.channel.Channel.Channel}
 use Rattle.tl_burst.specs.statement.Messages.{unfinished}
 use Rattle.tl_rules.{specs.statement.Conformance.on_link, specs.statement.History.begins}
@@ -26,12 +27,13 @@ returns-in-Some c = λ w n levels link x t k legal fine first later.
 
 pub returns-in-None : goal.returns-in-None
 returns-in-None c = λ w n levels link x t k legal fine first later.
+    let kept = option_map box_value c.args.self.now.expected in
     let burst = unfinished Channel.D (on_link link.0 t) in
     let count : c.count-beats.result ≡ length burst = c.count-beats.ensures w burst k.messages_are.d_is.bytes_are in
     let goes_on : begins (Beat.D x) (on_link link.0 t) ≡ false =
     sym (none-before c.count-beats.result burst count) ∙ ne_eqb c.count-beats.result 0 c.if-beats-eq0.false in
-    rw c.as_ref.ensures.value
-    (beat-kept c.args.self.now.expected n link.0 x.opcode x.source (length burst) t
+    rw c.value_of.ensures
+    (beat-kept kept n link.0 x.opcode x.source (length burst) t
     (rw c.in-None.is at (later goes_on))
-    (expects-later levels link n x t legal fine c.args.self.now.expected k.expected_is
+    (expects-later levels link n x t legal fine kept k.expected_is
     (λ none. c.if-beats-eq0.false (count ∙ none))))

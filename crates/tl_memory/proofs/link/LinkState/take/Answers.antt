@@ -1,4 +1,5 @@
 use Rattle.std.proofs.Common.{rules, refl, sym, ◌∙◌, ◌≡◌}
+use Rattle.std.specs.{Box.box_value, Prelude.option_map}
 use Rattle.tl_beat.specs.declared.channel.Channel.{Channel}
 use Rattle.tl_burst.specs.statement.Messages.{unfinished}
 use Rattle.tl_rules.specs.statement.Conformance.{on_link}
@@ -16,7 +17,7 @@ returns-then-first g c = λ levels n link t k legal fine concerned first.
     let zero : c.count-first.result ≡ 0 = search rules in
     let count = c.count-first.ensures g.row.W (unfinished Channel.D past) k.messages_are.d_is.bytes_are in
     link-begins levels c.requires c.args.self.now (record { messages = c.take.new.self; expected = c.args.begun }) n link x t k
-    legal fine messages c.in-D.field-0 c.args.begun c.in-D.is refl (sym count ∙ zero) (first c.in-D.field-0 c.in-D.is)
+    legal fine messages c.in-D.field-0 (option_map box_value c.args.begun) c.in-D.is refl (sym count ∙ zero) (first c.in-D.field-0 c.in-D.is)
 
 pub returns-else-first : goal.returns-else-first
 returns-else-first g c = λ levels n link t k legal fine concerned first.

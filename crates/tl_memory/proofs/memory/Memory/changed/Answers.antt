@@ -27,8 +27,8 @@ returns-clause-change g c = λ levels t k legal fine asked now borne there.
           let same = same-block block other e in
           let own = same_Some c.in-Some.state.now s (c.in-Some.ensures ∙ found) in
           rw (← same, ← own) (c.in_ok-next.ensures n block free t state messages its asked borne now (rw same seen));
-      expected_is = rw c.in_ok-expected.ensures (c.in_ok-begun.ensures n t state messages.d_is its borne k.addressed).0;
-      along_is = rw c.in_ok-expected.ensures (c.in_ok-begun.ensures n t state messages.d_is its borne k.addressed).1;
+      expected_is = (c.in_ok-expected.ensures n t state messages.d_is its borne k.addressed).0;
+      along_is = (c.in_ok-expected.ensures n t state messages.d_is its borne k.addressed).1;
       concerned = is-concerned link x (Some block) t its borne;
     }
 

@@ -19,7 +19,7 @@ returns-then-is_some g c = λ levels t k legal fine now is seen.
     let own = there-is c.args.change.block (sym c.is_some.ensures ∙ c.if-is_some.true) in
     let block = own.0 in
     record {
-      links_are = c.take.ensures levels t k.links_are legal fine is.concerned (rw c.unboxed.ensures is.expected_is);
+      links_are = c.take.ensures levels t k.links_are legal fine is.concerned is.expected_is;
       blocks_are = c.take-then-is_some.ensures (length levels) block x t k.blocks_are (is.kept block own.1) now
           (λ s found. is.next_is block c.args.free s own.1 found
           (held-seen c.args.change c.args.self.now (length levels) x t c.args.free block is seen own.1))
@@ -32,7 +32,7 @@ returns-else-is_some g c = λ levels t k legal fine now is seen.
     let x : Link × Beat g.row.W = (c.args.link, c.args.x.now) in
     let none = there-isnt c.args.change.block (sym c.is_some.ensures ∙ c.if-is_some.false) in
     record {
-      links_are = c.take.ensures levels t k.links_are legal fine is.concerned (rw c.unboxed.ensures is.expected_is);
+      links_are = c.take.ensures levels t k.links_are legal fine is.concerned is.expected_is;
       blocks_are = blocks-passed _ (length levels) x t
           (λ block. all-passed c.args.change.block block x t is.block_is none) k.blocks_are;
       addressed = (c.prove_typed.ensures.addressed, k.addressed);

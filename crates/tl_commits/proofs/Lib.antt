@@ -23,6 +23,8 @@ pub mod LoadsNext
 pub mod Reaching
 pub mod ReadAnswers
 pub mod PendingReads
+pub mod AskedAnew
+pub mod AnswerBeats
 pub mod ReadSteps
 pub mod BeatsJudged
 pub mod CommitsJudged

@@ -27,7 +27,8 @@ use Rattle.tl_rules.specs.statement.Conformance.{Trace, answers, on_link}
 use Rattle.tl_rules.specs.statement.History.{block_at, is_release_ack}
 use Rattle.std.proofs.lemmas.Bool.{eq-eqb}
 use Rattle.tl_commits.specs.code.Reached.{is_reached}
-use Rattle.tl_commits.specs.code.Reading.{AllowsAs, IsReading, allows, IsReadingOf, KnowsReadings, come, found_by, is_of}
+use Rattle.tl_commits.specs.code.Reading.{AllowsAs, IsReading, allows, IsReadingOf, KnowsReadings, come, found_by}
+use Rattle.tl_commits.specs.code.Reading.{is_of}
 use Rattle.tl_commits.specs.declared.reading.Reading.{Reading}
 use Rattle.tl_commits.specs.statement.Completeness.{Completeness}
 use Rattle.tl_commits.specs.statement.Copies.{link_beats}
@@ -36,7 +37,7 @@ use Rattle.tl_commits.specs.declared.responding.ResponseBytes.{ResponseBytes}
 use Rattle.tl_commits.specs.code.Responding.{AreAnswered}
 use Rattle.tl_commits.specs.statement.True.{found_after_seen, is_true_seen, may_answer_seen}
 use Rattle.tl_commits.proofs.PendingReads.{HasNames, names-of}
-use Rattle.tl_commits.proofs.ReadSteps.{own-beats}
+use Rattle.tl_commits.proofs.AnswerBeats.{own-beats}
 
 module _ {w : ℕ} (levels : List Level) (width : IsWidth w) (link : Link) (z : BeatD w) (e : Events w)
     (legal : AreLegal levels (beats_of e)) (fine : IsLegal levels (link, Beat.D z) (beats_of e))

@@ -5,17 +5,30 @@ use Rattle.tl_beat.specs.declared.beat.Beat.{Beat}
 use Rattle.tl_beat.specs.declared.beat.Beat.TheVariants as beat
 use Rattle.tl_beat.specs.declared.beat.Link.{Link}
 use Rattle.tl_beat.specs.declared.opcode.OpB.TheVariants as b
-use Rattle.tl_bytes.proofs.WorkedBeats.{acquire, acquire_unread, four, given_up}
-use Rattle.tl_bytes.proofs.WorkedBeats.{grant_ack, grant_beat, grant_unread, wide}
+use Rattle.tl_bytes.proofs.WorkedBeats.{acquire, acquire_unread, four, given_up, grant_ack, grant_beat, grant_unread}
+use Rattle.tl_bytes.proofs.WorkedBeats.{wide}
 use Rattle.tl_params.specs.declared.level.Level.{Level}
 use Rattle.tl_params.specs.declared.level.Level.TheVariants as level
-use Rattle.tl_rules.specs.statement.Conformance.{Trace}
+use Rattle.tl_rules.specs.statement.Conformance.{Trace, on_link}
 use Rattle.tl_events.specs.declared.commit.Commit.TheVariants as commit
 use Rattle.tl_events.specs.declared.commit.Event.{Event}
 use Rattle.tl_events.specs.declared.commit.Event.TheVariants as event
 use Rattle.tl_events.specs.declared.commit.Piece.{Piece}
 use Rattle.tl_commits.specs.statement.Completeness.{Completeness, with_stores}
-use Rattle.tl_commits.specs.statement.Events.{Events}
+use Rattle.tl_commits.specs.statement.Events.{Events, beats_of, is_loading, since_begun}
+use Rattle.tl_burst.specs.statement.Messages.{unfinished}
+use Rattle.tl_bytes.specs.statement.Bytes.{carried_byte, each_from, last_told, last_window, pending_accesses}
+use Rattle.tl_bytes.specs.statement.Bytes.{window_began, windows_since}
+use Rattle.tl_bytes.specs.statement.Early.{outrun_accesses, reported_since}
+use Rattle.tl_bytes.specs.statement.Free.{all_liberties, is_free}
+use Rattle.tl_bytes.specs.statement.Shown.{had_window}
+use Rattle.tl_rules.specs.statement.History.{grant_sink, pending, probe_of, release_of, request_of}
+use Rattle.tl_rules.specs.statement.Legality.{each_below}
+use Rattle.tl_rules.specs.statement.Liberties.{broken_after_under, broken_order_under, held_under, illegal_under}
+use Rattle.tl_together.specs.statement.Coherence.{is_grantable}
+use Rattle.tl_commits.specs.statement.Breaches.{commit_breach_from}
+use Rattle.tl_commits.specs.statement.Seen.{memory_may, seen}
+use Rattle.tl_commits.specs.statement.True.{before_last_seen, may_read_seen}
 
 abbrev pub two_caches : List Level
 two_caches = level.C ∷ level.C ∷ []
@@ -92,3 +105,11 @@ unread rest = beats (acquire_unread 0 0 65535 ∷ grant_unread 0 0 0 ∷ grant_a
 -- link 0 gives all up, probed so, and sends no data
 abbrev pub gives_up : Link × Beat 16 → Events 16
 gives_up probe = beats (probe ∷ given_up 0 ∷ [])
+
+-- All that a trace is judged with. A proof that unfolds this unfolds that.
+unfoldable pub judging : Unit {0}
+unfolding commit_breach_from seen memory_may beats_of is_loading since_begun may_read_seen before_last_seen is_free
+    is_grantable had_window on_link unfinished request_of release_of probe_of grant_sink pending held_under
+    all_liberties outrun_accesses reported_since illegal_under each_below broken_order_under broken_after_under
+    pending_accesses each_from carried_byte windows_since window_began last_window last_told
+judging = tt

@@ -7,30 +7,17 @@ use Rattle.tl_beat.specs.declared.beat.Beat.TheVariants as beat
 use Rattle.tl_beat.specs.declared.beat.Link.{Link}
 use Rattle.tl_beat.specs.declared.opcode.OpB.TheVariants as b
 use Rattle.tl_beat.specs.declared.opcode.OpC.TheVariants as c
-use Rattle.tl_burst.specs.statement.Messages.{unfinished}
 use Rattle.tl_bytes.proofs.WorkedBeats.{acquire, found, get, grant_beat, wide}
-use Rattle.tl_bytes.specs.statement.Bytes.{carried_byte, each_from, last_told, last_window, pending_accesses}
-use Rattle.tl_bytes.specs.statement.Bytes.{window_began, windows_since}
-use Rattle.tl_bytes.specs.statement.Early.{outrun_accesses, reported_since}
-use Rattle.tl_bytes.specs.statement.Free.{all_liberties, is_free}
-use Rattle.tl_bytes.specs.statement.Shown.{had_window}
 use Rattle.tl_params.specs.declared.memory_rule.MemoryRule.TheVariants.{M2, M3}
 use Rattle.tl_params.specs.statement.Liberties.{no_liberties}
-use Rattle.tl_rules.specs.statement.Conformance.{on_link}
-use Rattle.tl_rules.specs.statement.History.{grant_sink, pending, probe_of, release_of, request_of}
-use Rattle.tl_rules.specs.statement.Legality.{each_below}
-use Rattle.tl_rules.specs.statement.Liberties.{broken_after_under, broken_order_under, held_under, illegal_under}
 use Rattle.tl_together.specs.declared.breach.Breach.TheVariants.{OfMemory}
-use Rattle.tl_together.specs.statement.Coherence.{is_grantable}
 use Rattle.tl_commits.specs.declared.rule.CommitBreach.TheVariants.{OfBeats, OfCommits}
 use Rattle.tl_events.specs.declared.rule.CommitRule.TheVariants.{M6, M7}
-use Rattle.tl_commits.specs.statement.Breaches.{commit_breach_from, first_commit_breach}
+use Rattle.tl_commits.specs.statement.Breaches.{first_commit_breach}
 use Rattle.tl_commits.specs.statement.Completeness.{Completeness}
-use Rattle.tl_commits.specs.statement.Events.{Events, beats_of, is_loading, since_begun}
-use Rattle.tl_commits.specs.statement.Seen.{memory_may, seen}
-use Rattle.tl_commits.specs.statement.True.{before_last_seen, may_read_seen}
-use Rattle.tl_commits.proofs.WorkedEvents.{all_told, beats, gives_up, loads}
-use Rattle.tl_commits.proofs.WorkedEvents.{probe_block, stores, two_caches, unread}
+use Rattle.tl_commits.specs.statement.Events.{Events}
+use Rattle.tl_commits.proofs.WorkedEvents.{all_told, beats, gives_up, loads, judging, probe_block, stores, two_caches}
+use Rattle.tl_commits.proofs.WorkedEvents.{unread}
 
 -- all stores of both links are in the trace, and memory was zero before it
 abbrev from_zero : Completeness
@@ -77,31 +64,19 @@ lost_store rest = unread (stores 0 0 3 9 ∷ beats (probe_to_branch ∷ kept_bra
 -- brings zeros
 granted_zeros : first_commit_breach {w = 16} two_caches from_zero no_liberties
     (beats (acquire 0 1 0 65535 ∷ grant_beat 0 0 0 0 (wide 0) ∷ [])) ≡ None
-unfolding commit_breach_from seen memory_may beats_of is_loading since_begun may_read_seen before_last_seen is_free
-    is_grantable
-    had_window on_link unfinished request_of release_of probe_of grant_sink pending held_under all_liberties
-    outrun_accesses reported_since illegal_under each_below broken_order_under broken_after_under pending_accesses
-    each_from carried_byte windows_since window_began last_window last_told
+unfolding judging
 granted_zeros = refl
 
 -- or others
 granted_others : first_commit_breach {w = 16} two_caches from_zero no_liberties
     (beats (acquire 0 1 0 65535 ∷ grant_beat 0 0 0 0 (wide 5) ∷ [])) ≡ Some (1, OfBeats (OfMemory M2))
-unfolding commit_breach_from seen memory_may beats_of is_loading since_begun may_read_seen before_last_seen is_free
-    is_grantable
-    had_window on_link unfinished request_of release_of probe_of grant_sink pending held_under all_liberties
-    outrun_accesses reported_since illegal_under each_below broken_order_under broken_after_under pending_accesses
-    each_from carried_byte windows_since window_began last_window last_told
+unfolding judging
 granted_others = refl
 
 -- which it may if memory was anything
 granted_any : first_commit_breach {w = 16} two_caches all_told no_liberties
     (beats (acquire 0 1 0 65535 ∷ grant_beat 0 0 0 0 (wide 5) ∷ [])) ≡ None
-unfolding commit_breach_from seen memory_may beats_of is_loading since_begun may_read_seen before_last_seen is_free
-    is_grantable
-    had_window on_link unfinished request_of release_of probe_of grant_sink pending held_under all_liberties
-    outrun_accesses reported_since illegal_under each_below broken_order_under broken_after_under pending_accesses
-    each_from carried_byte windows_since window_began last_window last_told
+unfolding judging
 granted_any = refl
 
 -- ---- the first read
@@ -109,31 +84,19 @@ granted_any = refl
 -- finds zeros
 read_zeros : first_commit_breach {w = 16} two_caches from_zero no_liberties
     (beats (get 0 0 4 65535 ∷ found 0 0 4 (wide 0) ∷ [])) ≡ None
-unfolding commit_breach_from seen memory_may beats_of is_loading since_begun may_read_seen before_last_seen is_free
-    is_grantable
-    had_window on_link unfinished request_of release_of probe_of grant_sink pending held_under all_liberties
-    outrun_accesses reported_since illegal_under each_below broken_order_under broken_after_under pending_accesses
-    each_from carried_byte windows_since window_began last_window last_told
+unfolding judging
 read_zeros = refl
 
 -- or others
 read_others : first_commit_breach {w = 16} two_caches from_zero no_liberties
     (beats (get 0 0 4 65535 ∷ found 0 0 4 (wide 5) ∷ [])) ≡ Some (1, OfBeats (OfMemory M3))
-unfolding commit_breach_from seen memory_may beats_of is_loading since_begun may_read_seen before_last_seen is_free
-    is_grantable
-    had_window on_link unfinished request_of release_of probe_of grant_sink pending held_under all_liberties
-    outrun_accesses reported_since illegal_under each_below broken_order_under broken_after_under pending_accesses
-    each_from carried_byte windows_since window_began last_window last_told
+unfolding judging
 read_others = refl
 
 -- which it may if memory was anything
 read_any : first_commit_breach {w = 16} two_caches all_told no_liberties
     (beats (get 0 0 4 65535 ∷ found 0 0 4 (wide 5) ∷ [])) ≡ None
-unfolding commit_breach_from seen memory_may beats_of is_loading since_begun may_read_seen before_last_seen is_free
-    is_grantable
-    had_window on_link unfinished request_of release_of probe_of grant_sink pending held_under all_liberties
-    outrun_accesses reported_since illegal_under each_below broken_order_under broken_after_under pending_accesses
-    each_from carried_byte windows_since window_began last_window last_told
+unfolding judging
 read_any = refl
 
 -- ---- a store to a copy that was never read, which is given up without data
@@ -141,21 +104,13 @@ read_any = refl
 -- is lost
 lost_other : first_commit_breach {w = 16} two_caches from_zero no_liberties
     (unread (stores 0 0 3 9 ∷ gives_up probe_block)) ≡ Some (5, OfCommits M7)
-unfolding commit_breach_from seen memory_may beats_of is_loading since_begun may_read_seen before_last_seen is_free
-    is_grantable
-    had_window on_link unfinished request_of release_of probe_of grant_sink pending held_under all_liberties
-    outrun_accesses reported_since illegal_under each_below broken_order_under broken_after_under pending_accesses
-    each_from carried_byte windows_since window_began last_window last_told
+unfolding judging
 lost_other = refl
 
 -- unless it wrote what memory has
 lost_zero : first_commit_breach {w = 16} two_caches from_zero no_liberties
     (unread (stores 0 0 3 0 ∷ gives_up probe_block)) ≡ None
-unfolding commit_breach_from seen memory_may beats_of is_loading since_begun may_read_seen before_last_seen is_free
-    is_grantable
-    had_window on_link unfinished request_of release_of probe_of grant_sink pending held_under all_liberties
-    outrun_accesses reported_since illegal_under each_below broken_order_under broken_after_under pending_accesses
-    each_from carried_byte windows_since window_began last_window last_told
+unfolding judging
 lost_zero = refl
 
 -- ---- a load of a byte whose store is lost, as the manager wants it
@@ -163,29 +118,17 @@ lost_zero = refl
 -- finds what memory has
 loaded_zero : first_commit_breach {w = 16} two_caches from_zero no_liberties
     (lost_store (loads 0 0 3 0 ∷ [])) ≡ None
-unfolding commit_breach_from seen memory_may beats_of is_loading since_begun may_read_seen before_last_seen is_free
-    is_grantable
-    had_window on_link unfinished request_of release_of probe_of grant_sink pending held_under all_liberties
-    outrun_accesses reported_since illegal_under each_below broken_order_under broken_after_under pending_accesses
-    each_from carried_byte windows_since window_began last_window last_told
+unfolding judging
 loaded_zero = refl
 
 -- which isn't what was stored
 loaded_other : first_commit_breach {w = 16} two_caches from_zero no_liberties
     (lost_store (loads 0 0 3 9 ∷ [])) ≡ Some (6, OfCommits M6)
-unfolding commit_breach_from seen memory_may beats_of is_loading since_begun may_read_seen before_last_seen is_free
-    is_grantable
-    had_window on_link unfinished request_of release_of probe_of grant_sink pending held_under all_liberties
-    outrun_accesses reported_since illegal_under each_below broken_order_under broken_after_under pending_accesses
-    each_from carried_byte windows_since window_began last_window last_told
+unfolding judging
 loaded_other = refl
 
 -- which it may be if memory was anything
 loaded_any : first_commit_breach {w = 16} two_caches all_told no_liberties
     (lost_store (loads 0 0 3 9 ∷ [])) ≡ None
-unfolding commit_breach_from seen memory_may beats_of is_loading since_begun may_read_seen before_last_seen is_free
-    is_grantable
-    had_window on_link unfinished request_of release_of probe_of grant_sink pending held_under all_liberties
-    outrun_accesses reported_since illegal_under each_below broken_order_under broken_after_under pending_accesses
-    each_from carried_byte windows_since window_began last_window last_told
+unfolding judging
 loaded_any = refl

@@ -13,7 +13,6 @@ ghost use Rattle.tl_commits.specs.code.BlockValues.{says_piece};
 ghost use Rattle.tl_commits.specs.code.Judging as code;
 ghost use Rattle.tl_commits.specs.code.ValueTable.{KnowsTable};
 ghost use Rattle.tl_events.specs.declared.commit.Event.{Event};
-ghost use Rattle.tl_events.specs.declared.rule.CommitRule.TheVariants.{M6, M7};
 ghost use Rattle.tl_commits.specs.code.Granting.{AreMet};
 ghost use Rattle.tl_commits.specs.code.Reading.{IsMet};
 ghost use Rattle.tl_commits.specs.statement.Completeness.{Completeness};
@@ -81,18 +80,11 @@ fn has_cache(levels: &Vec<Level>, link: Link) -> bool
     }
 }
 
-/// M7, unless a beat keeps it.
-fn unless_kept(keeps: bool) -> Option<CommitRule>
-    ensures { result ≡ (if keeps then None else Some M7) }
+/// This rule, unless an event keeps it.
+fn unless_kept(keeps: bool, rule: CommitRule) -> Option<CommitRule>
+    ensures { result ≡ (if keeps then None else Some rule) }
 {
-    if keeps { None } else { Some(CommitRule::M7) }
-}
-
-/// M6, unless a load keeps it.
-fn unless_brought(keeps: bool) -> Option<CommitRule>
-    ensures { result ≡ (if keeps then None else Some M6) }
-{
-    if keeps { None } else { Some(CommitRule::M6) }
+    if keeps { None } else { Some(rule) }
 }
 
 impl<const W: usize> CommitJudge<W> {
@@ -151,9 +143,15 @@ impl<const W: usize> CommitJudge<W> {
     {
         let complete = is_complete(&self.complete, link);
         if let Some(x) = carrier(beat) {
-            return unless_kept(gives_truly(&self.judge, &self.values, complete, link, x));
+            return unless_kept(
+                gives_truly(&self.judge, &self.values, complete, link, x),
+                CommitRule::M7,
+            );
         }
-        unless_kept(keeps_stores(&self.judge, &self.values, complete, link, beat))
+        unless_kept(
+            keeps_stores(&self.judge, &self.values, complete, link, beat),
+            CommitRule::M7,
+        )
     }
 
     /// The fault of a beat by the rule of beats alone that it breaks, or by this one if it breaks none. All that is known
@@ -296,7 +294,7 @@ impl<const W: usize> CommitJudge<W> {
         if !load.loadable {
             return Some(CommitRule::M5);
         }
-        unless_brought(load.brings(value))
+        unless_kept(load.brings(value), CommitRule::M6)
     }
 
     /// Judges a load, and takes it if it breaks no rule.

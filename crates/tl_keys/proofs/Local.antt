@@ -17,9 +17,11 @@ use Rattle.tl_rules.specs.statement.History.{held, is_grant, is_probe_ack, is_re
 use Rattle.tl_keys.{specs.statement.OneKey.AreAlike, specs.statement.OneKey.OneKey, proofs.Kept.same-begins}
 use Rattle.tl_keys.{proofs.Kept.whole-or-none, proofs.Lawful.AreInOrder, proofs.Lawful.in-order, proofs.Named.are-named}
 use Rattle.tl_keys.specs.statement.Rules.{block_of, first_of, tests}
-use Rattle.tl_keys.proofs.Keys.{acquire-pending, grant-ack-pending, held-alike, passed, probe-alike, probe-pending}
-use Rattle.tl_keys.proofs.Keys.{release-alike, release-of-pending, release-pending, request-alike, request-of-block}
-use Rattle.tl_keys.proofs.Keys.{request-pending, sink-pending}
+use Rattle.tl_keys.proofs.Keys.{passed, probe-alike}
+use Rattle.tl_keys.proofs.PendingKeys.{acquire-pending, grant-ack-pending, held-alike, probe-pending}
+use Rattle.tl_keys.proofs.Keys.{release-alike, request-alike, request-of-block}
+use Rattle.tl_keys.proofs.PendingKeys.{release-of-pending, release-pending}
+use Rattle.tl_keys.proofs.PendingKeys.{request-pending, sink-pending}
 
 -- where no request with a source began, none of the kept ones did
 none-asked : {w : ℕ} (n : Name) (s : ℕ) (t : History w) → request_of s t ≡ None → request_of s (restricted n t) ≡ None

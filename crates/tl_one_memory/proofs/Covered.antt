@@ -2,8 +2,8 @@
 use Rattle.tl_one_memory.proofs.Imports.{Beat, BeatD, Link, unfinished, Trace, on_link, block_at, is_free, Access}
 use Rattle.tl_one_memory.proofs.Imports.{access_writes, carried_byte, could_be, is_of, may_be, pending_accesses}
 use Rattle.tl_one_memory.proofs.Imports.{pending_value, windows_since, among-filter, same-some, IsPending, asked-by_now}
-use Rattle.std.proofs.Common.{◌≡◌, ℕ, suc, Bool, true, false, not, ◌&&◌, ◌<◌, ◌≤◌, ◌%◌, List, [], ◌∷◌, ◌⊎◌, inl, inr, length}
-use Rattle.std.proofs.Common.{refl, sym, ap, ◌∙◌, subst, arith}
+use Rattle.std.proofs.Common.{◌≡◌, ℕ, suc, Bool, true, false, not, ◌&&◌, ◌<◌, ◌≤◌, ◌%◌, List, [], ◌∷◌, ◌⊎◌, inl, inr}
+use Rattle.std.proofs.Common.{length, refl, sym, ap, ◌∙◌, subst, arith}
 use Rattle.std.specs.Prelude.{if◌then◌else◌, find, filter, Option, Some, None, ◌==◌, nat_le, nat_lt}
 use Rattle.std.proofs.lemmas.Bool.{le-leb, eqb-true, not-false, not-true, ltb-true, or_right}
 use Rattle.tl_beat.specs.declared.channel.Channel.{Channel}
@@ -11,8 +11,8 @@ use Rattle.tl_burst.specs.statement.Messages.{History}
 use Rattle.tl_params.specs.declared.perm.Perm.{Perm}
 use Rattle.tl_bytes.specs.declared.telling.Telling.{Telling}
 use Rattle.tl_bytes.specs.statement.Bytes.{after_answer, after_beat, after_settling, after_write, is_settled}
-unfoldable use Rattle.tl_bytes.specs.statement.Bytes.{last_told, last_window}
 use Rattle.tl_bytes.specs.statement.Bytes.{same_value, tells, told_too, value_left, window_began}
+unfoldable use Rattle.tl_bytes.specs.statement.Bytes.{last_told, last_window}
 use Rattle.tl_bytes.specs.statement.Early.{ends_request, telling_beats}
 use Rattle.tl_bytes.proofs.Finding.{Among, among-map, among-or}
 use Rattle.tl_bytes.proofs.Pending.{AsksNot, IsAnsweredNow, IsAskedNow, pending-after, pending-before}
@@ -371,42 +371,3 @@ module _ {w : ℕ} (n address v : ℕ) (done : ℕ → ℕ → Type 0) (Answers 
                 ]
           ]
         ]
-
--- ---- other accesses that are performed
-
--- it is so too with other accesses performed, and other answers, that are the same of those that are pending
-module _ {w : ℕ} (n address v : ℕ) (done done' : ℕ → ℕ → Type 0)
-    (Answers Answers' : ℕ → ℕ → Access w → List (Beat w) → Type 0) (t : Trace w)
-    (back : (c s : ℕ) (p : Access w) → IsPending c s p t → access_writes address p ≡ true → done' c s → done c s)
-  where
-    late-as : (moment : ℕ) → IsLate n address done t moment → IsLate n address done' t moment
-    late-as moment late c s p performed pending writes =
-        late c s p (back c s p pending writes performed) pending writes
-
-    pub windowed-as : AreWindowed n address done t → AreWindowed n address done' t
-    windowed-as windowed c s p performed pending writes =
-        windowed c s p (back c s p pending writes performed) pending writes
-
-    pub covered-as : ((c s : ℕ) (p : Access w) → IsPending c s p t → access_writes address p ≡ true → done c s
-        → done' c s × ((burst : List (Beat w)) → Answers' c s p burst → Answers c s p burst))
-        → IsCovered n address v done Answers t → IsCovered n address v done' Answers' t
-    covered-as forth is = elim is [
-      | inl told ↦ inl (among-map (IsToldLate n address v done t) (IsToldLate n address v done' t) (may_be n address t)
-          (λ e each. (each.0, late-as e.moment each.1)) told)
-      | inr other ↦ elim other [
-        | inr left ↦ inr (inr left)
-        | inl now ↦
-            let more = forth now.link now.source now.access now.pending now.writes now.performed in
-            inr (inl (record {
-              link = now.link;
-              source = now.source;
-              access = now.access;
-              performed = more.0;
-              pending = now.pending;
-              writes = now.writes;
-              value_is = λ burst answers. now.value_is burst (more.1 burst answers);
-              pending_is = now.pending_is;
-              untold = now.untold;
-            }))
-      ]
-    ]

@@ -1,13 +1,11 @@
 -- After each run of one memory a byte may be what memory has, if no client has stored to its copy since it was told.
-use Rattle.tl_one_memory.proofs.Imports.{Beat, BeatD, Link, Trace, on_link, Memory}
-use Rattle.tl_one_memory.proofs.Imports.{effect, block_at, is_release_ack, is_free}
+use Rattle.tl_one_memory.proofs.Imports.{Beat, Link, Trace, on_link, Memory, effect, block_at, is_release_ack, is_free}
 use Rattle.tl_one_memory.proofs.Imports.{Access, access_writes, carried_byte, could_be, may_be, pending_accesses}
-use Rattle.tl_one_memory.proofs.Imports.{pending_value, reaches}
-use Rattle.tl_one_memory.proofs.Imports.{same-some, unfinished, IsPending, asked-by_now, IsPerformed, IsRun, IsTaken}
-use Rattle.tl_one_memory.proofs.Imports.{Leaves, Performs, Run, Stores, Takes, found_in, memory_in, trace_in}
-use Rattle.std.proofs.Common.{◌⊎◌, ◌/◌, length, ◌≡◌, ℕ, Bool, true, false, not}
-use Rattle.std.proofs.Common.{◌&&◌, List, [], ◌∷◌, inl, inr, refl, sym, ap, ◌∙◌}
-use Rattle.std.specs.Prelude.{if◌then◌else◌, find, is_some, None, Option, Some, ◌==◌, ◌||◌}
+use Rattle.tl_one_memory.proofs.Imports.{pending_value, reaches, same-some, unfinished, IsPending, asked-by_now}
+use Rattle.tl_one_memory.proofs.Imports.{IsPerformed, IsRun, IsTaken, Leaves, Performs, Run, Stores, Takes, found_in}
+use Rattle.tl_one_memory.proofs.Imports.{memory_in, trace_in}
+use Rattle.std.proofs.Common.{◌≡◌, ℕ, Bool, true, false, not, ◌&&◌, List, [], ◌∷◌, inl, inr, refl, sym, ap, ◌∙◌}
+use Rattle.std.specs.Prelude.{if◌then◌else◌, find, is_some, None, Option, Some, ◌==◌}
 use Rattle.std.proofs.lemmas.Bool.{and_parts, eqb-true, not-true}
 use Rattle.tl_beat.{specs.declared.channel.Channel.Channel, specs.declared.opcode.OpA.OpA}
 use Rattle.tl_burst.specs.declared.message.MessageA.{MessageA}
@@ -18,13 +16,14 @@ use Rattle.tl_bytes.specs.statement.Bytes.{tells, value_left, writes}
 use Rattle.tl_bytes.specs.statement.Early.{Outrun, is_outrun_of, outrun_accesses, outruns}
 use Rattle.tl_bytes.proofs.Finding.{none-some}
 use Rattle.tl_memory.specs.statement.Known.{is_atomic}
-use Rattle.tl_one_memory.proofs.Covered.{AreWindowed, IsCovered, IsOrderly, covered-after, covered-as}
-use Rattle.tl_one_memory.proofs.Covered.{untold-free, windowed-after, windowed-as}
+use Rattle.tl_one_memory.proofs.Covered.{AreWindowed, IsCovered, IsOrderly, covered-after, untold-free, windowed-after}
+use Rattle.tl_one_memory.proofs.CoveredAlike.{covered-as, windowed-as}
 use Rattle.tl_one_memory.proofs.Performed.{asked-again, found-here, found-other, found-performed, found-still}
 use Rattle.tl_one_memory.proofs.Performed.{found-taken, performed-once, some-value, unanswered}
 use Rattle.tl_one_memory.proofs.Spans.{windowed-free}
 use Rattle.tl_one_memory.proofs.Values.{after-unwritten, spoilt-left, spoilt-pending, value-left, value-pending}
-use Rattle.tl_one_memory.specs.statement.Run.{IsClean, TellsTrue, left_by, place_in, returns, spoiled_at, with_reached}
+use Rattle.tl_one_memory.specs.statement.Run.{IsClean, TellsTrue, left_by, place_in, returns, with_reached}
+use Rattle.tl_one_memory.proofs.SoundAnswers.{sound-granted, sound-carried}
 
 -- the access with this source was performed at an address, and isn't answered whole
 abbrev pub IsDone : {w : ℕ} → Memory → Run w → ℕ → ℕ → ℕ → Type 0
@@ -49,35 +48,6 @@ writes-atomic OpA.ArithmeticData m address back e = (refl, e)
 writes-atomic OpA.LogicalData m address back e = (refl, e)
 writes-atomic OpA.Get m address back e = absurd cc
 writes-atomic v m address back e = absurd cc
-
--- an answer without a corrupt or denied beat isn't denied
-sound-granted : {w : ℕ} (z : BeatD w) (older : List (Beat w)) → is_some (find is_spoiled (Beat.D z ∷ older)) ≡ false
-    → z.denied ≡ false
-sound-granted {w} z older e = go z.corrupt z.denied e
-  where
-    go : (a b : Bool) → is_some (if a || b then Some (Beat.D z) else find is_spoiled older) ≡ false → b ≡ false
-    go true b e = absurd cc
-    go false true e = absurd cc
-    go false false e = refl
-
--- no place of it is that of such a beat
-sound-at : {w : ℕ} (burst : List (Beat w)) (p : ℕ) → is_some (find is_spoiled burst) ≡ false
-    → spoiled_at burst p ≡ false
-sound-at [] p e = refl
-sound-at {w} (x ∷ older) p e = go (is_spoiled x) refl e (p / w == length older) (sound-at older p)
-  where
-    go : (a : Bool) → is_spoiled x ≡ a → is_some (if a then Some x else find is_spoiled older) ≡ false → (b : Bool)
-        → (is_some (find is_spoiled older) ≡ false → spoiled_at older p ≡ false)
-        → (if b then is_spoiled x else spoiled_at older p) ≡ false
-    go true f e b rest = absurd cc
-    go false f e true rest = f
-    go false f e false rest = rest e
-
--- what it brings at a place is what was found
-sound-carried : {w : ℕ} (burst : List (Beat w)) (p v : ℕ) → is_some (find is_spoiled burst) ≡ false
-    → (spoiled_at burst p ≡ true) ⊎ (carried_byte burst p ≡ Some v) → carried_byte burst p ≡ Some v
-sound-carried burst p v sound (inr is) = is
-sound-carried burst p v sound (inl spoilt) = absurd (let no : true ≡ false = sym spoilt ∙ sound-at burst p sound in cc)
 
 module _ {w : ℕ} (n : ℕ) (first : Memory) (address : ℕ) where
   -- of a beat that is taken rightly

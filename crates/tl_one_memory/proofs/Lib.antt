@@ -1,11 +1,14 @@
 pub mod Beatwise
 pub mod Brought
 pub mod Covered
+pub mod CoveredAlike
 pub mod Granted
 pub mod Growing
+pub mod SoundAnswers
 pub mod Known
 pub mod Outrun
 pub mod OpenPending
+pub mod WholeRequests
 pub mod OpenWindows
 pub mod Performed
 pub mod Read

@@ -1,8 +1,8 @@
 -- Where no beat breaks a rule of its link, an access with an open request is pending, or its answer outran the request.
-use Rattle.tl_one_memory.proofs.Imports.{Beat, BeatD, Link, Trace, on_link, unfinished}
-use Rattle.tl_one_memory.proofs.Imports.{Access, is_of, pending_accesses, same-some, IsPending}
-use Rattle.std.proofs.Common.{◌≡◌, ℕ, suc, Bool, true, false, not, ◌&&◌, ◌⊎◌, List, [], ◌∷◌, length}
-use Rattle.std.proofs.Common.{inl, inr, refl, sym, ap, ◌∙◌, subst}
+use Rattle.tl_one_memory.proofs.Imports.{Beat, BeatD, Link, Trace, on_link, unfinished, Access, is_of, pending_accesses}
+use Rattle.tl_one_memory.proofs.Imports.{same-some, IsPending}
+use Rattle.std.proofs.Common.{◌≡◌, ℕ, suc, Bool, true, false, not, ◌&&◌, ◌⊎◌, List, [], ◌∷◌, length, inl, inr, refl}
+use Rattle.std.proofs.Common.{sym, ap, ◌∙◌, subst}
 use Rattle.std.specs.Prelude.{if◌then◌else◌, find, None, Option, Some, ◌==◌}
 use Rattle.std.proofs.lemmas.Bool.{and_parts, cases_eq, eq-eqb, eqb-true, not-false, or_right}
 use Rattle.tl_beat.{specs.declared.beat.BeatA.BeatA, specs.declared.channel.Channel.Channel}
@@ -20,6 +20,7 @@ use Rattle.tl_params.specs.declared.key.Key.TheVariants.{RequestSource}
 use Rattle.tl_beat.specs.statement.Width.{IsWidth}
 use Rattle.tl_burst.specs.statement.Part.{is_empty}
 use Rattle.tl_rules.specs.statement.Liberties.{broken_after_under, is_legal_under}
+use Rattle.tl_bytes.proofs.Finding.{none-some}
 use Rattle.tl_bytes.specs.statement.Bytes.{asked_by, asked_since, asks, asks_new, is_access, is_put}
 use Rattle.tl_bytes.specs.statement.Early.{Outrun, is_outrun_of, outruns}
 unfoldable use Rattle.tl_bytes.specs.statement.Early.{outrun_accesses}
@@ -31,11 +32,8 @@ use Rattle.tl_memory.proofs.lawful.Open.{IsOpen, completes_answer}
 use Rattle.tl_memory.proofs.lawful.OpenAccesses.{IsFine, found-still, is-fine, legal-on, other-link, own-link}
 use Rattle.tl_memory.proofs.lawful.Outrunning.{IsOut, kept-pending, out-before, out-still, outrun-from}
 
-no : true ≡ false → ⊥
+pub no : true ≡ false → ⊥
 no e = cc
-
-none-is : {A : Type 0} (a : A) → None ≡ Some a → ⊥
-none-is a e = cc
 
 -- what was open before a beat on its link that begins no request with its source
 open-before : {w : ℕ} (l : Level) (s : ℕ) (asked : Request) (x : Beat w) (t : History w)
@@ -66,7 +64,7 @@ open-before l s asked (Beat.D y) t fine o other =
   where
     go : (b : Bool) → completes_answer s (Beat.D y) t ≡ b → (if b then None else kept_request s t) ≡ Some asked
         → IsOpen s asked t × (completes_answer s (Beat.D y) t ≡ false)
-    go true e kept = absurd (none-is asked kept)
+    go true e kept = absurd (none-some asked kept)
     go false e kept = (record { kept = kept; complete = o.complete }, e)
 open-before l s asked (Beat.B y) t fine o other =
     (record { kept = sym (request-next s (Beat.B y) t) ∙ o.kept; complete = o.complete }, refl)
@@ -127,7 +125,7 @@ closed-now s y h early last source =
 answered-closed : {w : ℕ} (levels : List Level) → IsWidth w → (c s : ℕ) (a : Outrun) (t : Trace w) → AreLegal levels t
     → IsOut c s a t → a.answered ≡ true → pending (RequestSource s) (on_link c t) ≡ false
 unfolding outrun_accesses
-answered-closed levels is c s a [] legal out answered = absurd (none-is a out)
+answered-closed levels is c s a [] legal out answered = absurd (none-some a out)
 answered-closed {w} levels is c s a (x ∷ t) legal out answered = elim (out-before c s a x t out) [
   | inl old ↦ elim (cases_eq x.0.0 c) [
     | inr other ↦ rw (other-link c x t other) (answered-closed levels is c s a t legal.1 old.0 answered)
@@ -281,7 +279,7 @@ one-more {w} levels width c s asked x t legal o accesses earlier = elim (cases_e
 pub open-pending : {w : ℕ} (levels : List Level) → IsWidth w → (c s : ℕ) (asked : Request) (t : Trace w)
     → AreLegal levels t → IsOpen s asked (on_link c t) → is_access asked.opcode ≡ true → IsPendingOrOut c s t
 unfolding on_link pending
-open-pending levels width c s asked [] legal o accesses = absurd (none-is asked o.kept)
+open-pending levels width c s asked [] legal o accesses = absurd (none-some asked o.kept)
 open-pending levels width c s asked (x ∷ t) legal o accesses =
     one-more levels width c s asked x t legal o accesses
     (λ opened. open-pending levels width c s asked t legal.1 opened accesses)

@@ -8,7 +8,9 @@ pub mod LongNumbers
 pub mod Made
 pub mod Names
 pub mod Naming
+pub mod EachBelow
 pub mod Reached
+pub mod PartMasks
 pub mod Numbering
 pub mod OnePart
 pub mod Placed

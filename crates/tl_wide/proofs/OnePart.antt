@@ -1,6 +1,6 @@
 -- The one part of a beat of at most 16 bytes.
-use Rattle.std.proofs.Common.{◌≡◌, ℕ, ◌+◌, ◌-◌, ◌*◌, ◌/◌, ◌%◌, ◌^◌, ◌<◌, ◌≤◌, Bool, true, false, not, cond, List, [], ◌∷◌}
-use Rattle.std.proofs.Common.{refl, sym, ap, ◌∙◌, arith, inl, inr, lit<}
+use Rattle.std.proofs.Common.{◌≡◌, ℕ, ◌+◌, ◌-◌, ◌*◌, ◌/◌, ◌%◌, ◌^◌, ◌<◌, ◌≤◌, Bool, true, false, not, cond, List, []}
+use Rattle.std.proofs.Common.{◌∷◌, refl, sym, ap, ◌∙◌, arith, inl, inr, lit<}
 use Rattle.std.proofs.lemmas.Bool.{cases_lt, lt-ltb, ne_eqb}
 use Rattle.std.proofs.lemmas.List.{take_all}
 use Rattle.std.proofs.lemmas.Nat.{and_mask, pow-add, pow_pos}
@@ -12,7 +12,8 @@ use Rattle.tl_beat.specs.statement.Line.{AreLanes}
 use Rattle.tl_burst.specs.statement.Burst.{bit}
 use Rattle.tl_rules.specs.statement.Legality.{is_one_of}
 use Rattle.tl_wide.proofs.Cut.{all-left, at}
-use Rattle.tl_wide.proofs.Reached.{by_width, each-cong, each-true, reaches-all, reaches-some}
+use Rattle.tl_wide.proofs.EachBelow.{each-cong, each-true}
+use Rattle.tl_wide.proofs.Reached.{by_width, reaches-all, reaches-some}
 use Rattle.tl_wide.specs.statement.Pieces.{carries_of, from, left_of, mask_in, parts_from, piece_of, pieces_of}
 use Rattle.tl_wide.specs.statement.Pieces.{reached_at, size_in}
 use Rattle.tl_wide.specs.declared.beat.WideBeat.{WideBeat}

@@ -7,7 +7,8 @@ ghost use Rattle.tl_words.specs.Tool.{IsTaskOf};
 
 use crate::commands::chart;
 use crate::usage::invalid_value;
-use crate::words::{WordsFault, copied, wrong_liberties};
+use crate::words::{WordsFault, copied};
+use crate::wrong_words::wrong_liberties;
 use clap::ArgMatches;
 use std::alloc::{AllocError, Global};
 use tl_command::chart::{ChartOption, range_named};

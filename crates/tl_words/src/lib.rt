@@ -10,3 +10,4 @@ mod run_words;
 mod usage;
 mod wide_words;
 pub mod words;
+mod wrong_words;

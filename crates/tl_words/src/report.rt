@@ -6,7 +6,8 @@ ghost use Rattle.tl_words.specs.Refused.{IsFaultOf};
 ghost use Rattle.tl_words.specs.Reports.{AreGiven};
 ghost use Rattle.tl_words.specs.Tool.{AreAllowedIn, IsTaskOf, is_reported, is_wide};
 
-use crate::words::{WordsFault, copied, together_named, wrong_number, wrong_words};
+use crate::words::{WordsFault, copied, together_named};
+use crate::wrong_words::{wrong_number, wrong_words};
 use clap::ArgMatches;
 use std::alloc::Global;
 use tl_command::search::inquiry_named;

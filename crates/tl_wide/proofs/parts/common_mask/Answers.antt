@@ -1,6 +1,6 @@
 use Rattle.std.proofs.Common.{rules, ap, refl, sym, ◌≡◌, ◌∙◌, ◌/◌, ◌-◌}
 use Rattle.std.specs.Prelude.{bit_and, filter, if◌then◌else◌}
-use Rattle.tl_wide.proofs.Reached.{common-all, common-more, common-none, full-lanes}
+use Rattle.tl_wide.proofs.PartMasks.{common-all, common-more, common-none, full-lanes}
 use Rattle.tl_wide.specs.statement.Parts.{below, common_mask, part_mask, reaches_part}
 use Rattle.tl_wide.proofs.parts.common_mask.Goals as goal
 

@@ -1,7 +1,7 @@
 use Rattle.std.proofs.Common.{ap, sym, ◌∙◌, ◌/◌}
 use Rattle.std.proofs.lemmas.Bool.{le-ltb, lt-ltb}
 use Rattle.std.specs.Prelude.{◌&&◌}
-use Rattle.tl_wide.proofs.Reached.{has-part}
+use Rattle.tl_wide.proofs.PartMasks.{has-part}
 use Rattle.tl_wide.specs.statement.Parts.{reaches_part}
 use Rattle.tl_wide.proofs.parts.has_part.Goals as goal
 

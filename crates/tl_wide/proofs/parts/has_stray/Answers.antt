@@ -1,7 +1,8 @@
 use Rattle.std.proofs.Common.{rules, arith, ap, ap₂, not, sym, ◌≡◌, ◌∙◌, ◌/◌}
 use Rattle.std.specs.Prelude.{◌&&◌}
 use Rattle.tl_wide.proofs.OnePart.{none-stray}
-use Rattle.tl_wide.proofs.Reached.{clear-more, clear-none, fills, stray-is}
+use Rattle.tl_wide.proofs.Reached.{fills}
+use Rattle.tl_wide.proofs.PartMasks.{clear-more, clear-none, stray-is}
 use Rattle.tl_wide.specs.statement.Parts.{parts_of}
 use Rattle.tl_wide.proofs.parts.has_stray.Goals as goal
 

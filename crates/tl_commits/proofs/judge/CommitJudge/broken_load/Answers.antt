@@ -21,4 +21,4 @@ returns g c = λ levels complete l e k lt is.
     c.renewed-load.result k.judge_is k.values_are k.loads_are lt is (rw c.as_slice.ensures.value at c.load_of-begun.ensures)
     (rw k.complete_are at c.renewed-load.ensures) in
     brings-or complete (length levels) c.args.link.0 c.args.piece c.args.value e c.renewed-load.result says
-    c.brings.result c.unless_brought.result on is c.brings.ensures c.unless_brought.ensures
+    c.brings.result c.unless_kept.result on is c.brings.ensures c.unless_kept.ensures

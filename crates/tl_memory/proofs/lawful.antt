@@ -6,7 +6,13 @@ pub mod Lawful
 pub mod LegalBeats
 pub mod Open
 pub mod OpenAccesses
+pub mod OutrunNames
+pub mod OutrunSteps
+pub mod OutrunRequests
+pub mod OutrunOnce
 pub mod Outrunning
+pub mod OutrunWaiting
+pub mod OutrunBeats
 pub mod Responses
 pub mod Sinks
 pub mod Unfinished

@@ -1,6 +1,9 @@
 pub mod Beginning
+pub mod ReleasingBeats
+pub mod GrantingBeats
 pub mod EarlyMessages
 pub mod Expecting
+pub mod ExpectedBeats
 pub mod Judging
 pub mod Kept
 pub mod LinkBeats

@@ -1,4 +1,6 @@
 pub mod Asked
+pub mod Leaving
+pub mod AskingElsewhere
 pub mod Bearing
 pub mod BlockAnswers
 pub mod Borne

@@ -1,8 +1,10 @@
 -- What is known of a beat that breaks no rule of its link, where none before it did.
-use Rattle.tl_memory.proofs.Imports.{Beat, BeatA, BeatC, BeatD, History, Link, IsWidth, channel_of, unfinished, Level, Request}
-use Rattle.tl_memory.proofs.Imports.{AreTyped, IsTyped, Trace, IsLegal, on_link, is_grant, is_release_ack}
-use Rattle.tl_memory.proofs.Imports.{IsLegalBeat, IsResponse, AreLegal, all_liberties, block_at, broken_after_under, burst_length, ends, is_legal_under, request_of}
-use Rattle.std.proofs.Common.{◌≡◌, ◌<◌, ◌/◌, ℕ, suc, Bool, true, false, List, [], ◌∷◌, length, find, refl, sym, ap, ◌∙◌, arith}
+use Rattle.tl_memory.proofs.Imports.{Beat, BeatA, BeatC, BeatD, History, Link, IsWidth, channel_of, unfinished, Level}
+use Rattle.tl_memory.proofs.Imports.{Request, AreTyped, IsTyped, Trace, IsLegal, on_link, is_grant, is_release_ack}
+use Rattle.tl_memory.proofs.Imports.{IsLegalBeat, IsResponse, AreLegal, all_liberties, block_at, broken_after_under}
+use Rattle.tl_memory.proofs.Imports.{burst_length, ends, is_legal_under, request_of}
+use Rattle.std.proofs.Common.{◌≡◌, ◌<◌, ◌/◌, ℕ, suc, Bool, true, false, List, [], ◌∷◌, length, find, refl, sym, ap, ◌∙◌}
+use Rattle.std.proofs.Common.{arith}
 use Rattle.std.specs.Prelude.{◌==◌, ◌+◌, if◌then◌else◌, Option, Some, None}
 use Rattle.std.proofs.lemmas.Bool.{and_parts, eq-eqb, eqb-true}
 use Rattle.tl_beat.specs.declared.beat.BeatE.{BeatE}
@@ -30,9 +32,11 @@ use Rattle.tl_memory.{proofs.lawful.OpenAccesses.legal-on, proofs.lawful.Unfinis
 use Rattle.tl_memory.{proofs.lawful.Unfinished.room}
 use Rattle.tl_memory.{proofs.lawful.Open.ack-whole, proofs.lawful.Unfinished.fewer-before}
 use Rattle.tl_memory.proofs.lawful.Complete.{lawful-asked, wide-burst, writes-inside}
-use Rattle.tl_memory.proofs.lawful.Outrunning.{IsFrom, IsOut, all-in, are-once, is-coming, kept-fields, out-bare}
-use Rattle.tl_memory.proofs.lawful.Outrunning.{out-block, outrun-from}
-use Rattle.tl_memory.proofs.lawful.Outrunning.{settles-asked}
+use Rattle.tl_memory.proofs.lawful.OutrunNames.{IsOut}
+use Rattle.tl_memory.proofs.lawful.OutrunRequests.{IsFrom, kept-fields, outrun-from}
+use Rattle.tl_memory.proofs.lawful.OutrunOnce.{all-in, are-once}
+use Rattle.tl_memory.proofs.lawful.OutrunBeats.{is-coming, out-bare, out-block, settles-asked}
+use Rattle.tl_memory.proofs.Plain.{true_false, some-same}
 
 module _ {w : ℕ} (levels : List Level) (link : Link) (t : Trace w) (is : IsWidth w)
     (legal : AreLegal levels t) where
@@ -83,9 +87,6 @@ module _ {w : ℕ} (levels : List Level) (link : Link) (t : Trace w) (is : IsWid
         },
       )
     where
-      some-same : {X : Type 0} {x y : X} → Some x ≡ Some y → x ≡ y
-      some-same e = cc
-
       whole : is_release_ack y.opcode ≡ false → outruns y past ≡ false
           → comes_in_request y.source (unfinished Channel.A past) ≡ false
       whole other late = rw other at late
@@ -115,9 +116,6 @@ module _ {w : ℕ} (levels : List Level) (link : Link) (t : Trace w) (is : IsWid
   released-once y (Some r) known k block there own =
       go (known.0.source == y.source) refl (rw (known.2, known.3) at there)
     where
-      some-same : {X : Type 0} {x y : X} → Some x ≡ Some y → x ≡ y
-      some-same e = cc
-
       same-block : (o : Option (BeatC w)) (a b : ℕ) → releases a o ≡ true → releases b o ≡ true → a ≡ b
       same-block None a b e f = absurd cc
       same-block (Some z) a b e f = sym (eqb-true (block_at z.address) a e) ∙ eqb-true (block_at z.address) b f
@@ -145,9 +143,6 @@ module _ {w : ℕ} (levels : List Level) (link : Link) (t : Trace w) (is : IsWid
       head : {X : Type 0} {x z : X} {xs zs : List X} → x ∷ xs ≡ z ∷ zs → x ≡ z
       head e = cc
 
-      true_false : {X : Type 0} → true ≡ false → X
-      true_false e = absurd cc
-
       unasked : (o : Option Granting) → KnowsGranting o past → (z : BeatD w) (older : List (Beat w))
           → unfinished Channel.D past ≡ Beat.D z ∷ older → is_grant z.opcode ≡ true → request_of z.source past ≡ None → ⊥
       unasked None known z older burst grant none = true_false (sym grant ∙ known z older burst)
@@ -167,9 +162,6 @@ module _ {w : ℕ} (levels : List Level) (link : Link) (t : Trace w) (is : IsWid
       requested : (q : Option (BeatA w)) (block : ℕ) → block_requested q ≡ Some block → asks_for block q ≡ true
       requested None block e = absurd cc
       requested (Some z) block e = eq-eqb (block_at z.address) block (some-same e)
-        where
-          some-same : {x y : ℕ} → Some x ≡ Some y → x ≡ y
-          some-same e = cc
 
       never : (block : ℕ) (burst : List (Beat w)) → ((z : BeatD w) (rest : List (Beat w)) → burst ≡ Beat.D z ∷ rest
           → is_grant z.opcode ≡ false) → block_granted y.sink burst past ≡ Some block → ⊥

@@ -1,9 +1,10 @@
 -- Accesses that are pending on links where no beat broke a rule: each is the request with its source.
-use Rattle.tl_memory.proofs.Imports.{Beat, BeatA, Link, IsWidth, History, Level, Request, Trace}
-use Rattle.tl_memory.proofs.Imports.{all_liberties, broken_after_under, IsLegal, is_legal_under, on_link, block_at, ends, is_release_ack}
-use Rattle.tl_memory.proofs.Imports.{Access, is_access, is_of, pending_accesses, AreLegal}
-use Rattle.std.proofs.Common.{◌≡◌, ℕ, suc, Bool, true, false, not, ◌||◌, ◌%◌, ◌^◌, ◌≤◌, List, [], ◌∷◌, length, Option, Some}
-use Rattle.std.proofs.Common.{None, refl, sym, ap, ◌∙◌, inl, inr, arith}
+use Rattle.tl_memory.proofs.Imports.{Beat, BeatA, Link, IsWidth, History, Level, Request, Trace, all_liberties}
+use Rattle.tl_memory.proofs.Imports.{broken_after_under, IsLegal, is_legal_under, on_link, block_at, ends}
+use Rattle.tl_memory.proofs.Imports.{is_release_ack, Access, is_access, is_of, pending_accesses, AreLegal, breaks_burst}
+use Rattle.tl_memory.proofs.Imports.{control_a, same_control, unfinished}
+use Rattle.std.proofs.Common.{◌≡◌, ℕ, suc, Bool, true, false, not, ◌||◌, ◌%◌, ◌^◌, ◌≤◌, List, [], ◌∷◌, length, Option}
+use Rattle.std.proofs.Common.{Some, None, refl, sym, ap, ◌∙◌, inl, inr, arith}
 use Rattle.std.specs.Prelude.{◌==◌, ◌&&◌, find, is_some, min}
 use Rattle.std.proofs.lemmas.Bool.{and_parts, cases_eq, eq-eqb, eqb-true, not-false}
 use Rattle.tl_rules.specs.code.Tables.{kept_request}
@@ -14,8 +15,8 @@ use Rattle.tl_beat.specs.declared.channel.Channel.{Channel}
 use Rattle.tl_params.specs.declared.key.Key.TheVariants.{RequestSource}
 use Rattle.tl_rules.specs.statement.Conformance.{comes_in_request}
 unfoldable use Rattle.tl_rules.specs.statement.History.{pending}
-use Rattle.tl_memory.proofs.Imports.{breaks_burst, control_a, same_control, unfinished}
-use Rattle.tl_memory.proofs.lawful.Outrunning.{still-waits, waits-open}
+use Rattle.tl_memory.proofs.lawful.OutrunRequests.{still-waits}
+use Rattle.tl_memory.proofs.lawful.OutrunWaiting.{waits-open}
 use Rattle.tl_bytes.proofs.Finding.{find-left_out}
 use Rattle.tl_bytes.proofs.Pending.{IsAnsweredNow, IsAskedNow, IsPending, pending-after, pending-before}
 use Rattle.tl_memory.proofs.lawful.Answering.{fields_of, kept-now}

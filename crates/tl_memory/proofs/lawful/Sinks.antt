@@ -16,6 +16,7 @@ use Rattle.tl_forgiving.proofs.Grants.{none-on-e}
 use Rattle.tl_forgiving.proofs.Implied.{rest-none, test-fails}
 use Rattle.tl_forgiving.proofs.Lawful.{AreLawful, begun-lawfully}
 unfoldable use Rattle.tl_memory.specs.statement.Links.{granted_request}
+use Rattle.tl_memory.proofs.Plain.{true_false, some-same}
 
 -- a block that waits for a GrantAck is that of the last Grant with its sink, which is pending
 pub record IsGiven {w : ℕ} (k s : ℕ) (t : History w) : Type 0 where
@@ -24,12 +25,6 @@ pub record IsGiven {w : ℕ} (k s : ℕ) (t : History w) : Type 0 where
 
 abbrev pub AreGiven : {w : ℕ} → History w → Type 0
 AreGiven t = (k s : ℕ) → pending (GrantAckOf k) t ≡ true → grant_sink k t ≡ Some s → IsGiven k s t
-
-true_false : {X : Type 0} → true ≡ false → X
-true_false e = absurd cc
-
-some-same : {X : Type 0} {x y : X} → Some x ≡ Some y → x ≡ y
-some-same e = cc
 
 module _ {w : ℕ} (l : Liberties) where
   -- a Grant that begins has a sink that isn't pending

@@ -1,32 +1,28 @@
 -- What the response that has begun on a link may bring, beat by beat.
 use Rattle.tl_memory.proofs.Imports.{Beat, BeatD, Link, OpD, History, breaks_burst, on, same_control, unfinished}
-use Rattle.tl_memory.proofs.Imports.{is_empty, control_d, Level, open_request, Request, Trace, IsLegal}
-use Rattle.tl_memory.proofs.Imports.{on_link, begins, ends, Expected, ExpectsGrant, ExpectsRead, ExpectsResponse}
-use Rattle.tl_memory.proofs.Imports.{all_liberties, AreLegal, Access, ExpectsAgain, ExpectsBeat, ExpectsLater, is_of}
-use Rattle.tl_memory.proofs.Imports.{pending_accesses}
-use Rattle.std.proofs.Common.{◌≡◌, ℕ, suc, Bool, true, false, ◌&&◌, List, [], ◌∷◌, length, Option, Some, None, refl, sym, ap}
-use Rattle.std.proofs.Common.{◌∙◌, inl, inr, subst, arith}
+use Rattle.tl_memory.proofs.Imports.{is_empty, control_d, Level, open_request, Request, Trace, IsLegal, on_link, begins}
+use Rattle.tl_memory.proofs.Imports.{ends, Expected, ExpectsGrant, ExpectsRead, ExpectsResponse, all_liberties}
+use Rattle.tl_memory.proofs.Imports.{AreLegal, Access, is_of, pending_accesses, IsWidth, OpA, answers, is_grant}
+use Rattle.tl_memory.proofs.Imports.{is_release_ack}
+use Rattle.std.proofs.Common.{◌≡◌, ℕ, suc, Bool, true, false, ◌&&◌, List, [], ◌∷◌, length, Option, Some, None, refl}
+use Rattle.std.proofs.Common.{sym, ap, ◌∙◌, inl, inr, subst, arith, ◌⊎◌, ◌||◌}
 use Rattle.std.specs.Prelude.{◌==◌, find, if◌then◌else◌}
 use Rattle.std.proofs.lemmas.Bool.{cases_Bool, cases_eq, eq-eqb, ne_eqb, not-false}
 use Rattle.tl_beat.specs.declared.channel.Channel.{Channel}
-use Rattle.tl_bytes.specs.statement.Bytes.{before_last, found_after, is_get}
+use Rattle.tl_bytes.specs.statement.Bytes.{before_last, ends_request, is_put}
 use Rattle.tl_memory.{specs.statement.Expecting.KnowsExpected, proofs.lawful.Lawful.goes_on}
 use Rattle.tl_memory.proofs.lawful.Answering.{answering-unended, goes_on_d, same_d, same_head, unended}
 use Rattle.tl_memory.proofs.lawful.Open.{IsAnswering, IsOpen, completes_answer, open-whole}
 use Rattle.tl_memory.proofs.lawful.OpenAccesses.{IsFine, found-still, is-fine, legal-on, open-after, other-link}
-use Rattle.tl_memory.proofs.lawful.OpenAccesses.{pending-open}
-use Rattle.tl_memory.proofs.lawful.OpenAccesses.{own-link}
-use Rattle.tl_memory.proofs.Imports.{IsWidth, OpA, answers, is_grant, is_release_ack}
-use Rattle.std.proofs.Common.{◌⊎◌, ◌||◌}
+use Rattle.tl_memory.proofs.lawful.OpenAccesses.{pending-open, own-link}
 use Rattle.tl_rules.specs.code.Tables.{kept_request}
-use Rattle.tl_bytes.specs.statement.Bytes.{ends_request, is_put}
 use Rattle.tl_bytes.specs.statement.Early.{Outrun, outruns}
 use Rattle.tl_bytes.proofs.{Finding.same-some, Pending.gone-but}
 use Rattle.tl_memory.proofs.{states.BlockAnswers.answer-ends, lawful.Responses.grants_no_access}
-use Rattle.tl_memory.proofs.lawful.Outrunning.{IsOut, comes-parts, is-coming, now-out, out-still, out-unpending}
-use Rattle.tl_memory.proofs.lawful.Outrunning.{outruns-parts}
-
--- ---- one more beat
+use Rattle.tl_memory.proofs.lawful.OutrunNames.{IsOut, comes-parts, outruns-parts}
+use Rattle.tl_memory.proofs.lawful.Outrunning.{out-still, out-unpending}
+use Rattle.tl_memory.proofs.lawful.OutrunWaiting.{now-out}
+use Rattle.tl_memory.proofs.lawful.OutrunBeats.{is-coming}
 
 -- The response goes on to answer this request: it is complete, or an access that the answer outran.
 abbrev pub IsServed : {w : ℕ} → ℕ → OpD → ℕ → Trace w → Type 0
@@ -364,60 +360,3 @@ module _ {w : ℕ} (levels : List Level) (link : Link) (n : ℕ) (z : BeatD w) (
           subst (λ (v : BeatD w). ExpectsResponse expected n c v.opcode v.source ((link, Beat.D z) ∷ t)
           (before_last c (suc (length older)) ((link, Beat.D z) ∷ t))) same
           (rw (← rest, before-on c (length burst) (link, Beat.D z) t own_beat) (still last))
-
--- ---- a beat of it
-
--- that begins it
-pub beat-begun : {w : ℕ} (expected : Option Expected) (n c : ℕ) (opcode : OpD) (s k : ℕ) (t : Trace w) → k ≡ 0
-    → ExpectsResponse expected n c opcode s t t → ExpectsBeat expected n c opcode s k t
-beat-begun {w} expected n c opcode s k t first known = rw first (go opcode known)
-  where
-    either : (get : Bool) → (if get then t else before_last c 0 t) ≡ t
-    either true = refl
-    either false = before-none c t
-
-    from-here : (o : Option (Access w)) → found_after o c 0 t ≡ t
-    from-here None = refl
-    from-here (Some access) = either (is_get access.request.opcode)
-
-    go : (opcode : OpD) → ExpectsResponse expected n c opcode s t t → ExpectsBeat expected n c opcode s 0 t
-    go OpD.AccessAckData known =
-        subst (λ u. ExpectsRead expected n (find (is_of c s) (pending_accesses t)) u)
-        (sym (from-here (find (is_of c s) (pending_accesses t)))) known
-    go v known = subst (λ u. ExpectsResponse expected n c v s t u) (sym (before-none c t)) known
-
-none-anew : {X : Type 0} (expected : Expected) → Some expected ≡ None → X
-none-anew expected e = absurd cc
-
--- that doesn't: what is said anew
-pub beat-anew : {w : ℕ} (expected : Expected) (n c : ℕ) (opcode : OpD) (s k : ℕ) (t : Trace w)
-    → ExpectsLater (Some expected) n c opcode s t → ExpectsBeat (Some expected) n c opcode s k t
-beat-anew {w} expected n c OpD.AccessAckData s k t known = go (find (is_of c s) (pending_accesses t)) known
-  where
-    go : (o : Option (Access w)) → ExpectsAgain (Some expected) n o t
-        → ExpectsRead (Some expected) n o (found_after o c k t)
-    go None e = none-anew expected e
-    go (Some access) e = elim (cases_Bool (is_get access.request.opcode)) [
-      | inl get ↦ rw get (e.0 get)
-      | inr other ↦ none-anew expected (e.1 other)
-    ]
-beat-anew expected n c v s k t known = none-anew expected known
-
--- or what was said when it began
-pub beat-kept : {w : ℕ} (expected : Option Expected) (n c : ℕ) (opcode : OpD) (s k : ℕ) (t : Trace w)
-    → ExpectsLater None n c opcode s t → ExpectsResponse expected n c opcode s t (before_last c k t)
-    → ExpectsBeat expected n c opcode s k t
-beat-kept {w} expected n c OpD.AccessAckData s k t later known = go (find (is_of c s) (pending_accesses t)) later known
-  where
-    unasked : (q : Option Expected) → ExpectsRead {w = w} q n None (before_last c k t) → ExpectsRead {w = w} q n None t
-    unasked None e = tt
-    unasked (Some v) e = absurd e
-
-    go : (o : Option (Access w)) → ExpectsAgain None n o t → ExpectsRead expected n o (before_last c k t)
-        → ExpectsRead expected n o (found_after o c k t)
-    go None e known = unasked expected known
-    go (Some access) e known = elim (cases_Bool (is_get access.request.opcode)) [
-      | inl get ↦ absurd (e.0 get)
-      | inr other ↦ rw other known
-    ]
-beat-kept expected n c v s k t later known = known

@@ -1,7 +1,9 @@
 -- What is kept of a link's messages, with one more beat.
-use Rattle.tl_memory.proofs.Imports.{Beat, BeatA, BeatC, BeatD, IsWidth, History, channel_of, grown, unfinished, is_small, Level}
-use Rattle.tl_memory.proofs.Imports.{AreTyped, IsTyped, all_liberties, broken_after_under, is_legal_under}
-use Rattle.std.proofs.Common.{◌≡◌, ℕ, Bool, true, false, List, [], ◌∷◌, ◌&&◌, Option, None, length, sym, ap, ◌∙◌, subst, ◌<◌, arith}
+use Rattle.tl_memory.proofs.Imports.{Beat, BeatA, BeatC, BeatD, IsWidth, History, channel_of, grown, unfinished}
+use Rattle.tl_memory.proofs.Imports.{is_small, Level, AreTyped, IsTyped, all_liberties, broken_after_under}
+use Rattle.tl_memory.proofs.Imports.{is_legal_under}
+use Rattle.std.proofs.Common.{◌≡◌, ℕ, Bool, true, false, List, [], ◌∷◌, ◌&&◌, Option, None, length, sym, ap, ◌∙◌, subst}
+use Rattle.std.proofs.Common.{◌<◌, arith}
 use Rattle.std.specs.Prelude.{if◌then◌else◌}
 use Rattle.tl_beat.specs.declared.channel.Channel.{Channel}
 use Rattle.tl_beat.specs.declared.beat.{BeatB.BeatB, BeatE.BeatE}
@@ -12,9 +14,9 @@ use Rattle.tl_forgiving.proofs.Lawful.{AreLawful, lawful-beat, lawful-history}
 use Rattle.tl_memory.specs.code.Early.{acknowledged, asking_after, granting_after, overtaken, released, releasing_after}
 use Rattle.tl_memory.specs.code.Elsewhere.{IsConcerned}
 use Rattle.tl_memory.specs.declared.early.{Asking.Asking, Granting.Granting, Releasing.Releasing}
-use Rattle.tl_memory.proofs.messages.EarlyMessages.{asking-grown, granting-a, granting-b, granting-c, granting-d}
-use Rattle.tl_memory.proofs.messages.EarlyMessages.{granting-e}
-use Rattle.tl_memory.proofs.messages.EarlyMessages.{releasing-a, releasing-b, releasing-c, releasing-d, releasing-e}
+use Rattle.tl_memory.proofs.messages.GrantingBeats.{granting-a, granting-b, granting-c, granting-d, granting-e}
+use Rattle.tl_memory.proofs.messages.EarlyMessages.{asking-grown}
+use Rattle.tl_memory.proofs.messages.ReleasingBeats.{releasing-a, releasing-b, releasing-c, releasing-d, releasing-e}
 use Rattle.tl_memory.{specs.declared.link.LinkMessages.LinkMessages}
 use Rattle.tl_memory.{specs.declared.message.CarriedMessage.CarriedMessage, specs.statement.Known.HasRoom}
 use Rattle.tl_memory.{specs.statement.Known.KnowsMessage, specs.statement.Links.KnowsMessages}

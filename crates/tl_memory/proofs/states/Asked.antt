@@ -1,8 +1,9 @@
 -- What is kept of a block, with a beat with which an access to it is asked for.
 use Rattle.tl_memory.proofs.Imports.{Beat, BeatA, ends, Link, Trace, on_link, block_at, Access, may_find, may_read}
-use Rattle.tl_memory.proofs.Imports.{is_of, pending_accesses, KnowsBlock, AreRenewed, found_by, keeps, staying, BlockState}
-use Rattle.tl_memory.proofs.Imports.{PendingAccess, may_bring, AllWriteInside, AnyIsTo, AreKnown, is_to, KeepsFound, KnowsAccess}
-use Rattle.tl_memory.proofs.Imports.{KnowsAccesses, KnowsState, WritesInside, LeavesHeld, open_for}
+use Rattle.tl_memory.proofs.Imports.{is_of, pending_accesses, KnowsBlock, AreRenewed, found_by, keeps, staying}
+use Rattle.tl_memory.proofs.Imports.{BlockState, PendingAccess, may_bring, AllWriteInside, AnyIsTo, AreKnown, is_to}
+use Rattle.tl_memory.proofs.Imports.{KeepsFound, KnowsAccess, KnowsAccesses, KnowsState, WritesInside, LeavesHeld}
+use Rattle.tl_memory.proofs.Imports.{open_for}
 use Rattle.std.proofs.Common.{◌≡◌, ℕ, suc, Bool, true, false, ◌&&◌, ◌||◌, ◌+◌, ◌*◌, ◌/◌, ◌≤◌, List, [], ◌∷◌, length}
 use Rattle.std.proofs.Common.{refl, sym, ap, ap₂, subst, ◌∙◌, arith, inl, inr}
 use Rattle.std.specs.Prelude.{filter, find, if◌then◌else◌, is_some, None, Option, Some}
@@ -13,18 +14,17 @@ use Rattle.tl_rules.specs.statement.Windows.{needs}
 use Rattle.tl_bytes.specs.declared.{read_bytes.ReadBytes.ReadBytes, windows.WritingWindows.WritingWindows}
 use Rattle.tl_bytes.specs.statement.Early.{if_answered, is_outrun_of, reaches_byte, settled_by}
 unfoldable use Rattle.tl_bytes.specs.statement.Early.{outrun_accesses}
-use Rattle.tl_bytes.specs.statement.Bytes.{is_settled}
+use Rattle.tl_bytes.specs.statement.Bytes.{is_settled, is_put}
 use Rattle.tl_bytes.proofs.Since.{same_after}
 use Rattle.tl_memory.specs.code.Elsewhere.{LeavesOutrun}
 use Rattle.tl_memory.specs.statement.Known.{AllReachInside}
-use Rattle.tl_memory.proofs.states.Elsewhere.{outrun-stays}
-use Rattle.tl_memory.proofs.states.Bearing.{leaves-request, leaves-still}
+use Rattle.tl_memory.proofs.states.Elsewhere.{outrun-stays, free-kept, last-kept}
+use Rattle.tl_memory.proofs.states.Leaving.{leaves-request, leaves-still}
 use Rattle.tl_bytes.specs.statement.{Known.KnowsWindows, Shown.is_window, Shown.shows}
-use Rattle.tl_bytes.specs.statement.Bytes.{is_put}
 use Rattle.tl_memory.specs.code.Taking.{AreContinued, next_accesses, none_shown, with_next}
 use Rattle.tl_memory.specs.code.Writers.{IsGrown, IsWriter}
-use Rattle.tl_memory.specs.{declared.next_state.NextState.NextState, declared.writer.Writer.Writer, statement.Known.IsLawful}
-use Rattle.tl_memory.proofs.states.Elsewhere.{free-kept, last-kept}
+use Rattle.tl_memory.specs.{declared.next_state.NextState.NextState, declared.writer.Writer.Writer}
+use Rattle.tl_memory.specs.{statement.Known.IsLawful}
 use Rattle.tl_memory.proofs.states.Found.{found-kept, found-settled, hidden, hidden-open, unshown-window}
 use Rattle.tl_memory.proofs.states.Keeping.{copied-each, filters-swap, inside-kept, settled-each}
 

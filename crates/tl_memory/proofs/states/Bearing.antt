@@ -1,300 +1,28 @@
--- Beats that bear on another block leave what is kept of this one.
-use Rattle.tl_memory.proofs.Imports.{Beat, BeatA, BeatC, BeatD, Link, c_carries_data, Trace, on_link}
-use Rattle.tl_memory.proofs.Imports.{block_at, ends, Access, ends_request, is_access, is_of, pending_accesses}
-use Rattle.tl_memory.proofs.Imports.{tells, IsElsewhere, LeavesHeld, PassesBy, WritesNot, AllWriteInside}
-use Rattle.tl_memory.proofs.Imports.{all_liberties, is_grant, is_release_ack, is_to, OpA, OpD, begins, reaches, unfinished}
-use Rattle.std.proofs.Common.{◌≡◌, ℕ, Bool, true, false, not, ◌&&◌, ◌||◌, ◌+◌, ◌*◌, ◌/◌, ◌<◌, List, [], ◌∷◌}
-use Rattle.std.proofs.Common.{refl, sym, ap, ◌∙◌, inl, inr, subst, arith}
-use Rattle.std.specs.Prelude.{is_some, if◌then◌else◌, filter, find, ◌==◌, Option, Some, None}
-use Rattle.std.proofs.lemmas.Bool.{and_parts, cases_Bool, eq-eqb, eqb-true}
+-- Beats other than requests that bear on another block leave what is kept of this one.
+use Rattle.tl_memory.proofs.Imports.{Beat, BeatC, BeatD, Link, c_carries_data, Trace, on_link, block_at, ends, Access}
+use Rattle.tl_memory.proofs.Imports.{ends_request, is_of, pending_accesses, tells, IsElsewhere, LeavesHeld, PassesBy}
+use Rattle.tl_memory.proofs.Imports.{WritesNot, AllWriteInside, all_liberties, is_grant, is_release_ack, is_to, OpD}
+use Rattle.tl_memory.proofs.Imports.{unfinished}
+use Rattle.std.proofs.Common.{◌≡◌, ℕ, Bool, true, false, not, ◌&&◌, ◌||◌, ◌+◌, ◌*◌, ◌/◌, ◌<◌, List, [], ◌∷◌, refl, sym}
+use Rattle.std.proofs.Common.{◌∙◌, inl, inr}
+use Rattle.std.specs.Prelude.{if◌then◌else◌, filter, find, ◌==◌, Option, Some, None}
+use Rattle.std.proofs.lemmas.Bool.{cases_Bool, eq-eqb}
 use Rattle.tl_beat.{specs.declared.beat.BeatB.BeatB, specs.declared.beat.BeatE.BeatE}
 use Rattle.tl_params.specs.declared.perm.Perm.{Perm}
 use Rattle.tl_beat.specs.declared.channel.Channel.{Channel}
 use Rattle.tl_params.specs.declared.key.Key.TheVariants.{ReleaseOf}
 use Rattle.tl_rules.specs.statement.Conformance.{comes_in_grant, comes_in_release}
-use Rattle.tl_rules.specs.statement.History.{capped, grants, is_acquire, is_probe_ack, is_release, releases}
+use Rattle.tl_rules.specs.statement.History.{capped, grants, is_probe_ack, is_release, releases}
 unfoldable use Rattle.tl_rules.specs.statement.History.{release_of}
-use Rattle.tl_rules.specs.statement.Liberties.{acknowledges, given_by_grant, grows_from_none, is_answered, left_by_release}
-use Rattle.tl_bytes.specs.statement.Bytes.{all_but, asks, asks_new, is_put, is_settled, leaves_pending}
-use Rattle.tl_memory.specs.code.{Passing.acquires_from_none, Taking.AreContinued, Taking.asked_now}
+use Rattle.tl_rules.specs.statement.Liberties.{acknowledges, given_by_grant, is_answered, left_by_release}
+use Rattle.tl_bytes.specs.statement.Bytes.{all_but, leaves_pending}
 use Rattle.tl_memory.{specs.code.Elsewhere.NoneIsTo, proofs.states.Keeping.inside-kept, proofs.values.Writing.apart}
 use Rattle.tl_memory.proofs.states.Elsewhere.{held-kept}
-use Rattle.tl_bytes.specs.statement.Early.{Outrun, is_outrun_of, is_release_of, is_released, outruns, reaches_byte, settled_by, without}
-use Rattle.tl_bytes.specs.statement.Early.{without_settled}
-use Rattle.tl_memory.specs.code.Elsewhere.{LeavesOutrun}
-use Rattle.tl_memory.specs.code.Taking.{AreOutrunIn}
-use Rattle.tl_memory.specs.statement.Known.{AllReachInside, AreInside, outruns_in}
-use Rattle.tl_memory.proofs.lawful.Outrunning.{found-key, settled-a}
+use Rattle.tl_bytes.specs.statement.Early.{is_release_of, is_released, outruns, settled_by}
+use Rattle.tl_memory.specs.statement.Known.{AllReachInside, AreInside}
 unfoldable use Rattle.tl_bytes.specs.statement.Early.{outrun_accesses}
-
--- ---- requests
-
--- a beat of channel A leaves as much of each block with its link, unless it is an Acquire of it from nothing held
-pub request-leaves : {w : ℕ} (block : ℕ) (link : Link) (y : BeatA w) (t : Trace w)
-    → (acquires_from_none y ≡ true → (block_at y.address == block) ≡ false) → LeavesHeld block (link, Beat.A y) t
-unfolding all_liberties
-request-leaves block link y t other = held-kept block (Beat.A y) (on_link link.0 t)
-    (λ over. silent (begins (Beat.A y) (on_link link.0 t)) (is_acquire y.opcode) (grows_from_none y.param) other)
-  where
-    silent : (first acquire none : Bool) → (acquire && none ≡ true → (block_at y.address == block) ≡ false)
-        → (if first && (acquire && none) then (if block_at y.address == block then Some Perm.None else None) else None)
-        ≡ None
-    silent true true true other = rw (other refl) refl
-    silent true true false other = refl
-    silent true false none other = refl
-    silent false acquire none other = refl
-
--- those that are gone are to another block
-none-gone : {w : ℕ} (link source block : ℕ) (accesses : List (Access w)) → NoneIsTo link source block accesses
-    → filter (is_to block) (all_but link source accesses) ≡ filter (is_to block) accesses
-none-gone link source block [] none = refl
-none-gone link source block (access ∷ accesses) none =
-    let more = none-gone link source block accesses none.1 in
-    elim (cases_Bool (is_of link source access)) [
-      | inl own ↦ rw (own, none.0 own) more
-      | inr other ↦ elim (cases_Bool (is_to block access)) [
-        | inl here ↦ rw (other, here) (ap (λ l. access ∷ l) more)
-        | inr there ↦ rw (other, there) more
-      ]
-    ]
-
--- an access that is asked for is among those that are pending
-asked-elsewhere : {w : ℕ} (c : Bool) (link source block : ℕ) (access : Access w) (before : List (Access w))
-    → (c ≡ true → is_to block access ≡ false) → (c ≡ true → NoneIsTo link source block before)
-    → filter (is_to block) (if c then access ∷ all_but link source before else before) ≡ filter (is_to block) before
-asked-elsewhere true link source block access before other none =
-    rw (other refl) (none-gone link source block before (none refl))
-asked-elsewhere false link source block access before other none = refl
-
--- a beat that leaves the accesses whose answers outran their requests
-pub leaves-still : {w : ℕ} (block : ℕ) (x : Link × Beat w) (t : Trace w) → outrun_accesses (x ∷ t) ≡ outrun_accesses t
-    → AllReachInside (outrun_accesses t) → LeavesOutrun block x t
-leaves-still block x t same inside = record { stay = ap (filter (outruns_in block)) same; reach_inside = rw same inside }
-
--- the same, if it is of none of these channels
-pub leaves-probe : {w : ℕ} (link : Link) (y : BeatB w) (t : Trace w)
-    → outrun_accesses ((link, Beat.B y) ∷ t) ≡ outrun_accesses t
-unfolding outrun_accesses
-leaves-probe link y t = refl
-
-pub leaves-report : {w : ℕ} (link : Link) (y : BeatC w) (t : Trace w)
-    → outrun_accesses ((link, Beat.C y) ∷ t) ≡ outrun_accesses t
-unfolding outrun_accesses
-leaves-report link y t = refl
-
-pub leaves-ack : {w : ℕ} (link : Link) (y : BeatE) (t : Trace w)
-    → outrun_accesses {w = w} ((link, Beat.E y) ∷ t) ≡ outrun_accesses t
-unfolding outrun_accesses
-leaves-ack link y t = refl
-
--- with a beat of a request they are those that it doesn't settle
-pub leaves-request : {w : ℕ} (link : Link) (y : BeatA w) (t : Trace w) (o : Option Outrun)
-    → settled_by link.0 (Beat.A y) (on_link link.0 t) (outrun_accesses t) ≡ o
-    → outrun_accesses ((link, Beat.A y) ∷ t) ≡ without_settled o (outrun_accesses t)
-unfolding outrun_accesses
-leaves-request link y t o e = ap (λ o. without_settled o (outrun_accesses t)) e
-
--- and with a response that doesn't outrun its request
-pub leaves-response : {w : ℕ} (link : Link) (y : BeatD w) (t : Trace w) (o : Option Outrun)
-    → outruns y (on_link link.0 t) ≡ false
-    → settled_by link.0 (Beat.D y) (on_link link.0 t) (outrun_accesses t) ≡ o
-    → outrun_accesses ((link, Beat.D y) ∷ t) ≡ without_settled o (outrun_accesses t)
-unfolding outrun_accesses
-leaves-response link y t o late e = rw late (ap (λ o. without_settled o (outrun_accesses t)) e)
-
--- those that are gone are to another block
-pub none-out : (link source block other : ℕ) (accesses : List Outrun) → AreOutrunIn link source other accesses
-    → (other == block) ≡ false
-    → filter (outruns_in block) (without link source accesses) ≡ filter (outruns_in block) accesses
-none-out link source block other [] are differ = refl
-none-out link source block other (a ∷ accesses) are differ =
-    let more = none-out link source block other accesses are.1 differ in
-    elim (cases_Bool (is_outrun_of link source a)) [
-      | inr stays ↦ elim (cases_Bool (outruns_in block a)) [
-        | inl here ↦ rw (stays, here) (ap (λ l. a ∷ l) more)
-        | inr there ↦ rw (stays, there) more
-      ]
-      | inl own ↦
-          let there : outruns_in block a ≡ false =
-          ap (λ k. k == block) (eqb-true (a.address / 64) other (are.0 own)) ∙ differ in
-          rw (own, there) more
-    ]
-
-pub reach-left : (keep : Outrun → Bool) (accesses : List Outrun) → AllReachInside accesses
-    → AllReachInside (filter keep accesses)
-reach-left keep [] all = tt
-reach-left keep (a ∷ accesses) all = elim (cases_Bool (keep a)) [
-  | inl on ↦ rw on (all.0, reach-left keep accesses all.1)
-  | inr off ↦ rw off (reach-left keep accesses all.1)
-]
-
-found-reaches : (link source : ℕ) (accesses : List Outrun) (a : Outrun) → AllReachInside accesses
-    → find (is_outrun_of link source) accesses ≡ Some a → (address : ℕ) → reaches a.address a.size address ≡ true
-    → block_at address ≡ block_at a.address
-found-reaches link source [] a all found = absurd cc
-found-reaches link source (b ∷ accesses) a all found = elim (cases_Bool (is_outrun_of link source b)) [
-  | inl here ↦ let same : Some b ≡ Some a = rw here at found in
-      subst (λ (v : Outrun). (address : ℕ) → reaches v.address v.size address ≡ true → block_at address ≡ block_at v.address)
-      (some-same same) all.0
-  | inr other ↦ found-reaches link source accesses a all.1 (rw other at found)
-]
-  where
-    some-same : {x y : Outrun} → Some x ≡ Some y → x ≡ y
-    some-same e = cc
-
-pub found-there : (link source block : ℕ) (accesses : List Outrun) (a : Outrun) → AreOutrunIn link source block accesses
-    → find (is_outrun_of link source) accesses ≡ Some a → outruns_in block a ≡ true
-found-there link source block [] a are found = absurd cc
-found-there link source block (b ∷ accesses) a are found = elim (cases_Bool (is_outrun_of link source b)) [
-  | inl here ↦ let same : Some b ≡ Some a = rw here at found in
-      ap (outruns_in block) (some-same same) ∙ are.0 here
-  | inr other ↦ found-there link source block accesses a are.1 (rw other at found)
-]
-  where
-    some-same : {x y : Outrun} → Some x ≡ Some y → y ≡ x
-    some-same e = cc
-
--- What a beat leaves of a block that settles an access to another one, or none.
-pub record SettlesElsewhere {w : ℕ} (block : ℕ) (x : Link × Beat w) (t : Trace w) : Type 0 where
-  pub unsettled : (place : ℕ) → place < 64 → is_settled (64 * block + place) x t ≡ false
-  pub outrun : LeavesOutrun block x t
-
-pub settles-none : {w : ℕ} (block : ℕ) (x : Link × Beat w) (t : Trace w)
-    → settled_by x.0.0 x.1 (on_link x.0.0 t) (outrun_accesses t) ≡ None
-    → outrun_accesses (x ∷ t) ≡ outrun_accesses t → AllReachInside (outrun_accesses t) → SettlesElsewhere block x t
-settles-none block x t none same inside = record {
-  unsettled = λ place lt. ap (reaches_byte (64 * block + place)) none;
-  outrun = leaves-still block x t same inside;
-}
-
-pub settles-other : {w : ℕ} (block other source : ℕ) (x : Link × Beat w) (t : Trace w)
-    → (o : Option Outrun) → settled_by x.0.0 x.1 (on_link x.0.0 t) (outrun_accesses t) ≡ o
-    → ((a : Outrun) → o ≡ Some a → find (is_outrun_of x.0.0 source) (outrun_accesses t) ≡ Some a)
-    → outrun_accesses (x ∷ t) ≡ without_settled o (outrun_accesses t)
-    → AreOutrunIn x.0.0 source other (outrun_accesses t) → (other == block) ≡ false
-    → AllReachInside (outrun_accesses t) → SettlesElsewhere block x t
-settles-other block other source x t None settled found same are differ inside =
-    settles-none block x t settled same inside
-settles-other block other source x t (Some a) settled found same are differ inside =
-    let key = found-key x.0.0 source (outrun_accesses t) a (found a refl) in
-    record {
-      unsettled = λ place lt. ap (reaches_byte (64 * block + place)) settled ∙ unreached place lt;
-      outrun = record {
-        stay = ap (filter (outruns_in block)) same
-            ∙ none-out a.link a.source block other (outrun_accesses t)
-            (subst (λ n. AreOutrunIn n a.source other (outrun_accesses t)) (sym key.0)
-            (subst (λ n. AreOutrunIn x.0.0 n other (outrun_accesses t)) (sym key.1) are)) differ;
-        reach_inside = rw same (reach-left (λ b. not (is_outrun_of a.link a.source b)) (outrun_accesses t) inside);
-      };
-    }
-  where
-    true_false : {X : Type 0} → true ≡ false → X
-    true_false e = absurd cc
-
-    unreached : (place : ℕ) → place < 64 → reaches a.address a.size (64 * block + place) ≡ false
-    unreached place lt = elim (cases_Bool (reaches a.address a.size (64 * block + place))) [
-      | inr none ↦ none
-      | inl some ↦
-          let here = found-reaches x.0.0 source (outrun_accesses t) a inside (found a refl) (64 * block + place) some in
-          let to = eqb-true (a.address / 64) other (found-there x.0.0 source other (outrun_accesses t) a are (found a refl))
-          in
-          let own : (64 * block + place) / 64 ≡ block = omega (arith, lt) in
-          true_false (sym (eq-eqb other block (sym to ∙ sym here ∙ own)) ∙ differ)
-    ]
-
--- a beat of channel A that asks for no access to the block
-request-elsewhere : {w : ℕ} (block : ℕ) (link : Link) (y : BeatA w) (t : Trace w)
-    → AllWriteInside (pending_accesses ((link, Beat.A y) ∷ t))
-    → (asks_new link.0 y (on_link link.0 t) (outrun_accesses t) ≡ true → (block_at y.address == block) ≡ false)
-    → (asks_new link.0 y (on_link link.0 t) (outrun_accesses t) ≡ true
-    → NoneIsTo link.0 y.source block (pending_accesses t))
-    → SettlesElsewhere block (link, Beat.A y) t → IsElsewhere block (link, Beat.A y) t
-unfolding pending_accesses
-request-elsewhere block link y t inside other none settles = record {
-  quiet = refl;
-  keeps = λ place lt. tt;
-  pending_stay = asked-elsewhere (asks_new link.0 y (on_link link.0 t) (outrun_accesses t)) link.0 y.source block _
-      (pending_accesses t) other none;
-  inside = inside;
-  unsettled = settles.unsettled;
-  outrun = settles.outrun;
-}
-
--- where an access is asked for in another block none with its source is to this one
-continued-apart : {w : ℕ} (link block : ℕ) (y : BeatA w) (accesses : List (Access w)) → AreContinued link y accesses
-    → (block_at y.address == block) ≡ false → NoneIsTo link y.source block accesses
-continued-apart link block y [] are other = tt
-continued-apart link block y (access ∷ accesses) are other = (
-  λ own. ap (λ k. k == block) (are.0 own).1 ∙ other,
-  continued-apart link block y accesses are.1 other,
-)
-
--- one for another block
-pub request-passes : {w : ℕ} (block : ℕ) (link : Link) (y : BeatA w) (t : Trace w)
-    → AllWriteInside (pending_accesses ((link, Beat.A y) ∷ t)) → AllReachInside (outrun_accesses t)
-    → AreContinued link.0 y (pending_accesses t) → AreOutrunIn link.0 y.source (block_at y.address) (outrun_accesses t)
-    → (block_at y.address == block) ≡ false → PassesBy block (link, Beat.A y) t
-request-passes block link y t inside reach continued are other = record {
-  elsewhere = request-elsewhere block link y t inside (λ asked. other)
-      (λ asked. continued-apart link.0 block y (pending_accesses t) continued other)
-      (settles-other block (block_at y.address) y.source (link, Beat.A y) t _ refl
-      (λ a e. settled-a link.0 y (on_link link.0 t) (outrun_accesses t) a e) (leaves-request link y t _ refl) are other
-      reach);
-  held_is = request-leaves block link y t (λ acquires. other);
-  unshown = refl;
-}
-
-never-new : (asked out : Bool) → asked ≡ false → (asked && not out) ≡ false
-never-new true out e = absurd cc
-never-new false out e = refl
-
--- one with which no access is asked for, and none is settled
-pub unasked-elsewhere : {w : ℕ} (block : ℕ) (link : Link) (y : BeatA w) (t : Trace w) → AreInside t
-    → asks y (on_link link.0 t) ≡ false
-    → settled_by link.0 (Beat.A y) (on_link link.0 t) (outrun_accesses t) ≡ None → IsElsewhere block (link, Beat.A y) t
-unfolding pending_accesses
-unasked-elsewhere block link y t inside none unsettled =
-    let never = never-new (asks y (on_link link.0 t))
-    (is_some (find (is_outrun_of link.0 y.source) (outrun_accesses t))) none in
-    request-elsewhere block link y t (rw never inside.inside) (λ asked. no (sym asked ∙ never))
-    (λ asked. no (sym asked ∙ never))
-    (settles-none block (link, Beat.A y) t unsettled (leaves-request link y t None unsettled) inside.reach_inside)
-  where
-    no : {X : Type 0} → true ≡ false → X
-    no e = absurd cc
-
--- an access is no Acquire
-pub access-bare : {w : ℕ} (y : BeatA w) → is_access y.opcode ≡ true → acquires_from_none y ≡ false
-access-bare {w} y e = go y.opcode e
-  where
-    go : (opcode : OpA) → is_access opcode ≡ true → is_acquire opcode && grows_from_none y.param ≡ false
-    go OpA.AcquireBlock e = absurd cc
-    go OpA.AcquirePerm e = absurd cc
-    go v e = refl
-
-pub asks-bare : {w : ℕ} {X : Type 0} (link : Link) (y : BeatA w) (t : Trace w) → asks y (on_link link.0 t) ≡ true
-    → acquires_from_none y ≡ true → X
-asks-bare link y t asked acquires =
-    let both = and_parts (is_access y.opcode) (is_put y.opcode || ends (Beat.A y) (on_link link.0 t)) asked in
-    absurd (let no : true ≡ false = sym acquires ∙ access-bare y both.0 in cc)
-
--- so with an Acquire from nothing held none is asked for
-pub acquire-unasked : {w : ℕ} (link : Link) (y : BeatA w) (t : Trace w) → acquires_from_none y ≡ true
-    → asks y (on_link link.0 t) ≡ false
-acquire-unasked link y t acquires = go (is_access y.opcode) refl
-  where
-    go : (access : Bool) → is_access y.opcode ≡ access
-        → access && (is_put y.opcode || ends (Beat.A y) (on_link link.0 t)) ≡ false
-    go true e = absurd (let no : true ≡ false = sym acquires ∙ access-bare y e in cc)
-    go false e = refl
-
-pub pending-asked : {w : ℕ} (link : Link) (y : BeatA w) (t : Trace w)
-    → asks y (on_link link.0 t) ≡ true → is_some (find (is_outrun_of link.0 y.source) (outrun_accesses t)) ≡ false
-    → pending_accesses ((link, Beat.A y) ∷ t) ≡ asked_now link.0 y t ∷ all_but link.0 y.source (pending_accesses t)
-unfolding pending_accesses
-pending-asked link y t asked none = rw (asked, none) refl
-
--- ---- beats that neither ask nor answer
+use Rattle.tl_memory.proofs.states.Leaving.{none-gone, leaves-still, leaves-probe, leaves-report, leaves-ack}
+use Rattle.tl_memory.proofs.states.Leaving.{leaves-response, SettlesElsewhere, settles-none}
 
 pub probe-passes : {w : ℕ} (block : ℕ) (link : Link) (y : BeatB w) (t : Trace w) → AreInside t
     → PassesBy block (link, Beat.B y) t
@@ -561,34 +289,6 @@ response-passes block link y t inside bare other none settles = record {
     quiet true b c e = rw (bare, e) refl
     quiet false b c e = refl
 
--- ---- a request that an answer outran
-
--- with a beat of it that settles it not yet
-pub asks-known : {w : ℕ} (block : ℕ) (link : Link) (y : BeatA w) (a : Outrun) (t : Trace w) → AreInside t
-    → find (is_outrun_of link.0 y.source) (outrun_accesses t) ≡ Some a
-    → settled_by link.0 (Beat.A y) (on_link link.0 t) (outrun_accesses t) ≡ None → IsElsewhere block (link, Beat.A y) t
-unfolding pending_accesses
-asks-known block link y a t inside found unsettled =
-    let never : asks_new link.0 y (on_link link.0 t) (outrun_accesses t) ≡ false =
-    rw found (unasked (asks y (on_link link.0 t))) in
-    request-elsewhere block link y t (rw never inside.inside) (λ asked. no (sym asked ∙ never))
-    (λ asked. no (sym asked ∙ never))
-    (settles-none block (link, Beat.A y) t unsettled (leaves-request link y t None unsettled) inside.reach_inside)
-  where
-    no : {X : Type 0} → true ≡ false → X
-    no e = absurd cc
-
-    unasked : (b : Bool) → (b && false) ≡ false
-    unasked true = refl
-    unasked false = refl
-
--- the request of an access leaves what its link holds
-pub asks-calm : {w : ℕ} (link : Link) (y : BeatA w) (t : Trace w) → asks y (on_link link.0 t) ≡ true
-    → acquires_from_none y ≡ false
-asks-calm link y t asked =
-    access-bare y (and_parts (is_access y.opcode) (is_put y.opcode || ends (Beat.A y) (on_link link.0 t)) asked).0
-
--- a report without data, or of a Release that is answered, tells nothing
 pub report-silent : {w : ℕ} (block : ℕ) (link : Link) (y : BeatC w) (t : Trace w) (answered : Bool)
     → is_released block (Beat.C y) (on_link link.0 t) ≡ answered → (c_carries_data y.opcode && not answered) ≡ false
     → tells block (Beat.C y) (on_link link.0 t) ≡ false

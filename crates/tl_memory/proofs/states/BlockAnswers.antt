@@ -1,38 +1,37 @@
 -- What a response that breaks no rule tells of blocks, by the request that it answers.
-use Rattle.tl_memory.proofs.Imports.{BeatA, BeatD, Link, OpA, OpD, History, open_request, request_fields, Request, unfinished}
+use Rattle.tl_memory.proofs.Imports.{BeatA, BeatD, Link, OpA, OpD, History, open_request, request_fields, Request}
+use Rattle.tl_memory.proofs.Imports.{unfinished, Trace, answers, on_link, block_at, ends, is_grant, is_release_ack}
+use Rattle.tl_memory.proofs.Imports.{request_of, Access, ends_request, is_access, is_of, pending_accesses, tells}
+use Rattle.tl_memory.proofs.Imports.{IsElsewhere, PassesBy, IsResponse, AnyIsTo, Beat, all_liberties}
 use Rattle.tl_memory.proofs.lawful.Open.{open-whole}
-use Rattle.tl_memory.proofs.Imports.{Trace, answers, on_link, block_at, ends, is_grant, is_release_ack, request_of}
-use Rattle.tl_memory.proofs.Imports.{Access, ends_request, is_access, is_of, pending_accesses, tells, IsElsewhere}
-use Rattle.tl_memory.proofs.Imports.{PassesBy, IsResponse, AnyIsTo, Beat}
 use Rattle.std.proofs.Common.{◌≡◌, ◌⊎◌, ℕ, Bool, true, false, not, ◌&&◌, ◌/◌, ◌∷◌, List, [], refl, sym, ap, ◌∙◌, inl}
-use Rattle.std.proofs.Common.{inr}
-use Rattle.std.proofs.Common.{◌||◌, ◌+◌, ◌*◌}
+use Rattle.std.proofs.Common.{inr, ◌||◌, ◌+◌, ◌*◌}
 use Rattle.std.specs.Prelude.{filter, find, if◌then◌else◌, None, Option, Some, ◌==◌}
 use Rattle.tl_beat.specs.declared.channel.Channel.{Channel}
 use Rattle.std.proofs.lemmas.Bool.{and_parts, cases_Bool, eq-eqb}
 use Rattle.tl_rules.{specs.code.Tables.kept_request, specs.statement.History.asks_for, specs.statement.History.grants}
 use Rattle.tl_rules.specs.statement.Conformance.{comes_in_request}
-use Rattle.tl_bytes.specs.statement.Bytes.{leaves_pending}
-use Rattle.tl_bytes.specs.statement.Early.{Outrun, is_outrun_of, is_overtaken, outruns, reaches_byte, settled_by, without}
+use Rattle.tl_bytes.specs.statement.Bytes.{leaves_pending, is_put}
+use Rattle.tl_bytes.specs.statement.Early.{Outrun, is_outrun_of, is_overtaken, outruns, reaches_byte, settled_by}
+use Rattle.tl_bytes.specs.statement.Early.{without}
 unfoldable use Rattle.tl_bytes.specs.statement.Early.{outrun_accesses}
 use Rattle.tl_memory.specs.code.Elsewhere.{LeavesOutrun}
 use Rattle.tl_bytes.specs.statement.Known.{NoneSettled}
 use Rattle.tl_memory.specs.statement.Known.{AllReachInside, AreInside, outruns_in}
-use Rattle.tl_memory.proofs.lawful.Outrunning.{kept-fields, outruns-parts, settled-d}
+use Rattle.tl_memory.proofs.lawful.OutrunNames.{outruns-parts, settled-d}
+use Rattle.tl_memory.proofs.lawful.OutrunRequests.{kept-fields}
 use Rattle.tl_forgiving.proofs.Implied.{not-true}
-use Rattle.tl_memory.proofs.Imports.{all_liberties}
 use Rattle.tl_memory.specs.code.{Early.is_in_doubt, Passing.changes_held, Taking.IsOrdered}
 use Rattle.tl_memory.specs.declared.early.Granting.{Granting}
 use Rattle.tl_memory.specs.statement.Links.{KnowsGranting}
 use Rattle.tl_memory.proofs.messages.EarlyMessages.{doubt-is}
 use Rattle.tl_memory.{specs.code.Elsewhere.NoneIsTo, specs.code.Taking.AreAsked, specs.code.Taking.tells_block}
 use Rattle.tl_memory.{specs.code.Taking.tells_response, specs.statement.Known.IsNoPut}
-use Rattle.tl_bytes.specs.statement.Bytes.{is_put}
 use Rattle.tl_memory.proofs.lawful.Responses.{grants_no_access, none-answered, response-tells}
-use Rattle.tl_memory.proofs.states.Bearing.{SettlesElsewhere, leaves-response, leaves-still, none-out, none_of_both}
-use Rattle.tl_memory.proofs.states.Bearing.{none_of_three}
-use Rattle.tl_memory.proofs.states.Bearing.{reach-left, response-elsewhere, response-passes, settles-none}
-use Rattle.tl_memory.proofs.states.Bearing.{settles-other}
+use Rattle.tl_memory.proofs.states.Leaving.{SettlesElsewhere, leaves-response, leaves-still, none-out, reach-left}
+use Rattle.tl_memory.proofs.states.Leaving.{settles-none, settles-other}
+use Rattle.tl_memory.proofs.states.Bearing.{none_of_both, none_of_three, response-elsewhere, response-passes}
+use Rattle.tl_memory.proofs.Plain.{true_false}
 
 -- ---- the request
 
@@ -67,9 +66,6 @@ none-there link source block asked (access ∷ accesses) are other = (
   λ own. ap (λ k. k == block) (are.0 own).2 ∙ other,
   none-there link source block asked accesses are.1 other,
 )
-
-true_false : {X : Type 0} → true ≡ false → X
-true_false e = absurd cc
 
 -- where no access was asked for, none has its source
 none-asked : {w : ℕ} (link source : ℕ) (asked : Request) (access : Access w) → is_access asked.opcode ≡ false

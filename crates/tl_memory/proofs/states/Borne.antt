@@ -1,6 +1,8 @@
 -- A beat that breaks no rule bears on one block at most.
-use Rattle.tl_memory.proofs.Imports.{Beat, BeatA, BeatD, Link, Request, Trace, History, on_link, block_at, is_grant, request_of, unfinished}
-use Rattle.tl_memory.proofs.Imports.{is_release_ack, Access, is_of, pending_accesses, block_asked, block_borne}
+use Rattle.tl_memory.proofs.Imports.{Beat, BeatA, BeatD, Link, Request, Trace, History, on_link, block_at, is_grant}
+use Rattle.tl_memory.proofs.Imports.{request_of, unfinished, is_release_ack, Access, is_of, pending_accesses}
+use Rattle.tl_memory.proofs.Imports.{block_asked, block_borne, ends, PassesBy, IsLegalBeat, IsResponse, AllWriteInside}
+use Rattle.tl_memory.proofs.Imports.{WritesInside}
 use Rattle.tl_beat.specs.declared.beat.BeatE.{BeatE}
 use Rattle.tl_beat.specs.declared.channel.Channel.{Channel}
 use Rattle.tl_params.specs.declared.perm.Perm.{Perm}
@@ -8,27 +10,23 @@ use Rattle.tl_rules.specs.statement.Conformance.{comes_in_request}
 use Rattle.tl_rules.specs.statement.History.{capped, is_release, releases, reported}
 unfoldable use Rattle.tl_rules.specs.statement.History.{release_of}
 use Rattle.tl_rules.specs.statement.Liberties.{given_by_grant, left_by_release}
-use Rattle.tl_bytes.specs.statement.Bytes.{asks_new}
+use Rattle.tl_bytes.specs.statement.Bytes.{asks_new, asks}
 use Rattle.tl_bytes.specs.statement.Early.{is_release_of}
 unfoldable use Rattle.tl_bytes.specs.statement.Early.{outrun_accesses}
-use Rattle.tl_memory.specs.code.Elsewhere.{block_coming, block_granted, block_released, block_requested}
+use Rattle.tl_memory.specs.code.Elsewhere.{block_coming, block_granted, block_released, block_requested, LeavesOutrun}
 use Rattle.tl_memory.specs.code.Taking.{IsLegalAck, IsLegalResponse}
 use Rattle.tl_memory.specs.statement.Known.{AllReachInside, AreInside}
-use Rattle.tl_memory.specs.code.Elsewhere.{LeavesOutrun}
 use Rattle.tl_bytes.specs.declared.known_bytes.KnownBytes.{KnownBytes}
 use Rattle.tl_bytes.specs.statement.{Bytes.tells, Known.AreCarried, Known.HasBytes}
-use Rattle.tl_memory.proofs.Imports.{ends}
 use Rattle.tl_memory.proofs.{messages.EarlyMessages.picked, lawful.Open.open-whole}
-use Rattle.tl_memory.proofs.Imports.{PassesBy, IsLegalBeat, IsResponse, AllWriteInside, WritesInside}
 use Rattle.std.proofs.Common.{◌≡◌, ℕ, Bool, true, false, not, ◌&&◌, [], ◌∷◌, List, refl, sym, ap, ◌∙◌, inl, inr}
 use Rattle.std.specs.Prelude.{if◌then◌else◌, filter, Option, Some, None, ◌==◌}
 use Rattle.std.proofs.lemmas.Bool.{and_parts, cases_Bool, eq-eqb, eqb-true}
-use Rattle.tl_bytes.specs.statement.Bytes.{asks}
 use Rattle.tl_memory.{specs.code.Taking.IsRequested, specs.code.Taking.asked_now}
 use Rattle.tl_memory.{proofs.states.BlockAnswers.other-passes}
 use Rattle.tl_memory.proofs.states.Keeping.{inside-kept}
 use Rattle.tl_memory.proofs.states.Bearing.{ack-passes, ack-settles, probe-passes, release-passes, report-passes}
-use Rattle.tl_memory.proofs.states.Bearing.{request-passes}
+use Rattle.tl_memory.proofs.states.AskingElsewhere.{request-passes}
 
 -- ---- the accesses that are pending write in their blocks
 

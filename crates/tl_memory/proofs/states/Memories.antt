@@ -30,9 +30,7 @@ use Rattle.tl_memory.{specs.statement.Memory.IsAddressed, proofs.messages.Beginn
 use Rattle.tl_memory.{proofs.states.Borne.passes}
 use Rattle.tl_memory.{proofs.lawful.LegalBeats.legal-beat, proofs.messages.LinkTables.link-there}
 use Rattle.tl_memory.{proofs.states.PassedBy.none-later}
-
-true_false : {X : Type 0} → true ≡ false → X
-true_false e = absurd cc
+use Rattle.tl_memory.proofs.Plain.{true_false}
 
 -- ---- the blocks of requests
 

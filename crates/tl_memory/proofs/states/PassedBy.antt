@@ -2,8 +2,8 @@
 use Rattle.tl_memory.proofs.Imports.{Beat, BeatC, BeatD, Link, History, is_empty, Trace, on_link, begins, ends}
 use Rattle.tl_memory.proofs.Imports.{is_access, is_grant, is_release_ack, LeavesHeld, PassesBy, unfinished}
 use Rattle.tl_memory.proofs.Imports.{all_liberties, answers, ExpectsLater, IsLegalBeat, IsResponse, OpA, OpD, Request}
-use Rattle.std.proofs.Common.{◌≡◌, ℕ, Bool, true, false, not, ◌&&◌, ◌||◌, List, [], ◌∷◌, length, refl, sym, ap, ◌∙◌, arith}
-use Rattle.std.proofs.Common.{inl, inr}
+use Rattle.std.proofs.Common.{◌≡◌, ℕ, Bool, true, false, not, ◌&&◌, ◌||◌, List, [], ◌∷◌, length, refl, sym, ap, ◌∙◌}
+use Rattle.std.proofs.Common.{arith, inl, inr}
 use Rattle.std.{specs.Prelude.None, specs.Prelude.◌==◌, specs.Prelude.if◌then◌else◌}
 use Rattle.std.proofs.lemmas.Bool.{and_parts, cases_Bool, ne_eqb}
 use Rattle.tl_beat.specs.declared.channel.Channel.{Channel}
@@ -16,11 +16,9 @@ use Rattle.tl_memory.specs.code.Changing.{ExpectsAlong, ExpectsBegun}
 use Rattle.tl_memory.specs.code.Passing.{acquires_from_none, changes_held, is_answer, passes_by}
 use Rattle.tl_memory.{proofs.states.Elsewhere.held-kept}
 use Rattle.tl_memory.proofs.states.Bearing.{ack-leaves, ack-passes, ack-settles, given-none, grants-none, left-none}
-use Rattle.tl_memory.proofs.states.Bearing.{probe-passes, report-elsewhere, request-leaves}
-use Rattle.tl_memory.proofs.states.Bearing.{response-elsewhere, response-leaves, unasked-elsewhere}
-
-true_false : {X : Type 0} → true ≡ false → X
-true_false e = absurd cc
+use Rattle.tl_memory.proofs.states.Bearing.{probe-passes, report-elsewhere, response-elsewhere, response-leaves}
+use Rattle.tl_memory.proofs.states.AskingElsewhere.{request-leaves, unasked-elsewhere}
+use Rattle.tl_memory.proofs.Plain.{true_false}
 
 is_false : (b : Bool) → not b ≡ true → b ≡ false
 is_false true e = absurd cc

@@ -1,9 +1,9 @@
 -- What is kept of a block, with a beat that answers an access before its request is complete, or settles one.
 use Rattle.tl_memory.proofs.Imports.{Beat, BeatA, BeatD, Link, Request, Trace, on_link, block_at, ends, is_access}
-use Rattle.tl_memory.proofs.Imports.{is_release_ack, pending_accesses, IsResponse, KnowsState, BlockState}
-use Rattle.tl_memory.proofs.Imports.{KnowsBlock, ends_request, keeps, reaches, unfinished}
-use Rattle.std.proofs.Common.{◌≡◌, ◌<◌, ◌≤◌, ℕ, Bool, true, false, not, ◌&&◌, ◌||◌, ◌+◌, ◌*◌, ◌/◌, List, [], ◌∷◌, ◌++◌, refl, sym}
-use Rattle.std.proofs.Common.{ap, ◌∙◌, inl, inr, subst}
+use Rattle.tl_memory.proofs.Imports.{is_release_ack, pending_accesses, IsResponse, KnowsState, BlockState, KnowsBlock}
+use Rattle.tl_memory.proofs.Imports.{ends_request, keeps, reaches, unfinished}
+use Rattle.std.proofs.Common.{◌≡◌, ◌<◌, ◌≤◌, ℕ, Bool, true, false, not, ◌&&◌, ◌||◌, ◌+◌, ◌*◌, ◌/◌, List, [], ◌∷◌, ◌++◌}
+use Rattle.std.proofs.Common.{refl, sym, ap, ◌∙◌, inl, inr, subst}
 use Rattle.std.specs.Prelude.{◌==◌, filter, find, if◌then◌else◌, Option, Some, None, ⊤}
 use Rattle.std.proofs.lemmas.Bool.{cases_Bool, eq-eqb}
 use Rattle.tl_beat.specs.declared.channel.Channel.{Channel}
@@ -18,12 +18,14 @@ use Rattle.tl_memory.specs.code.Taking.{AreOutrunIn, IsComing, IsSettlement}
 unfoldable use Rattle.tl_memory.specs.code.Writers.{picked}
 use Rattle.tl_memory.specs.declared.early.{Asking.Asking, OutrunAccess.OutrunAccess}
 use Rattle.tl_memory.specs.statement.Known.{AreOutrun, IsOutrun, KnowsOutrun, outruns_in}
-use Rattle.tl_memory.proofs.states.Bearing.{found-there, leaves-request, leaves-response, reach-left}
+use Rattle.tl_memory.proofs.states.Leaving.{found-there, leaves-request, leaves-response, reach-left}
 use Rattle.tl_memory.proofs.states.BlockAnswers.{answer-ends, leaves-coming, out-new, settles-coming}
 use Rattle.tl_memory.proofs.states.Elsewhere.{beat-keeps, bytes-kept}
 use Rattle.tl_memory.proofs.states.Keeping.{filters-swap, find-keeps, finds-none}
-use Rattle.tl_memory.proofs.lawful.Outrunning.{out-unpending, outruns-parts}
+use Rattle.tl_memory.proofs.lawful.OutrunNames.{outruns-parts}
+use Rattle.tl_memory.proofs.lawful.Outrunning.{out-unpending}
 use Rattle.tl_memory.proofs.lawful.Responses.{access-untold, none-answered}
+use Rattle.tl_memory.proofs.Plain.{true_false, some-same}
 
 -- ---- the accesses that are kept
 
@@ -100,12 +102,6 @@ is-settling kept block x t s place lt = (
   rw (s.settles) (s.is.reaches_it place lt),
   λ e. s.is.any place,
 )
-
-some-same : {X : Type 0} {x y : X} → Some x ≡ Some y → x ≡ y
-some-same e = cc
-
-true_false : {X : Type 0} → true ≡ false → X
-true_false e = absurd cc
 
 -- what is known of the access with this source that is kept
 pub kept-found : (link source block : ℕ) (kept : OutrunAccess) (items : List OutrunAccess) (all : List Outrun)

@@ -3,7 +3,7 @@ use Rattle.tl_beat.specs.declared.beat.BeatB.{BeatB}
 use Rattle.tl_memory.proofs.Imports.{Beat, BeatA, BeatD, History, Link, open_request, Request, Trace, on_link}
 use Rattle.tl_memory.proofs.Imports.{block_borne, IsLegalBeat, IsResponse}
 use Rattle.tl_memory.proofs.Imports.{BlockState, Freedom}
-use Rattle.std.proofs.Common.{◌≡◌, ℕ, true, false, refl, sym, ◌∙◌}
+use Rattle.std.proofs.Common.{◌≡◌, ℕ, false, refl, sym, ◌∙◌}
 use Rattle.std.specs.Prelude.{Option, Some, None}
 use Rattle.tl_bytes.specs.statement.Early.{outruns}
 use Rattle.tl_memory.specs.code.{Passing.acquires_from_none, Taking.IsNext, Taking.IsNextAsked, Taking.IsNextUnseen}
@@ -11,9 +11,7 @@ use Rattle.tl_memory.specs.code.Taking.{AnswersTo, IsSeen, with_next}
 use Rattle.tl_memory.proofs.{states.Borne.response-there, lawful.Open.open-whole}
 use Rattle.tl_memory.specs.declared.next_state.NextState.{NextState}
 use Rattle.tl_memory.proofs.{states.Elsewhere.settled, states.PassedBy.held-left, states.PassedBy.held-unshown}
-
-true_false : {X : Type 0} → true ≡ false → X
-true_false e = absurd cc
+use Rattle.tl_memory.proofs.Plain.{true_false}
 
 -- the request of an access changes nothing of what is held
 pub seen-request : {w : ℕ} (next : Option (NextState w)) (free : Option Freedom) (s : BlockState w) (n block : ℕ)

@@ -1,9 +1,9 @@
 -- What a beat makes of the possible values of bytes, whatever these were.
 use Rattle.tl_memory.proofs.Imports.{Beat, BeatA, BeatD, Link, Trace, on_link, Access, ends, ends_request, is_of, tells}
-use Rattle.tl_memory.proofs.Imports.{History, is_grant}
-use Rattle.tl_memory.proofs.Imports.{pending_accesses, unfinished, IsElsewhere, is_release_ack, IsResponse, Request}
-use Rattle.std.proofs.Common.{◌≡◌, ℕ, Bool, true, false, not, ◌&&◌, ◌+◌, ◌*◌, ◌<◌, List, ◌∷◌, length}
-use Rattle.std.proofs.Common.{refl, sym, ap, ◌∙◌}
+use Rattle.tl_memory.proofs.Imports.{History, is_grant, pending_accesses, unfinished, IsElsewhere, is_release_ack}
+use Rattle.tl_memory.proofs.Imports.{IsResponse, Request, is_access}
+use Rattle.std.proofs.Common.{◌≡◌, ℕ, Bool, true, false, not, ◌&&◌, ◌+◌, ◌*◌, ◌<◌, List, ◌∷◌, length, refl, sym, ap}
+use Rattle.std.proofs.Common.{◌∙◌}
 use Rattle.std.specs.Prelude.{find, if◌then◌else◌, None, Option, Some}
 use Rattle.tl_beat.specs.declared.channel.Channel.{Channel}
 use Rattle.tl_bytes.proofs.Told.{by-standing}
@@ -21,9 +21,8 @@ use Rattle.tl_memory.specs.declared.early.OutrunAccess.{OutrunAccess}
 use Rattle.tl_memory.specs.statement.ByteChanges.{grants_unread, IsByteChange, KeepsValues}
 use Rattle.tl_rules.specs.code.Tables.{kept_request}
 use Rattle.tl_memory.proofs.{states.BlockAnswers.none-found, states.BlockAnswers.settles-bare}
-use Rattle.tl_memory.proofs.Imports.{is_access}
 use Rattle.tl_memory.proofs.{states.BlockAnswers.asked-first, states.Bearing.grants-none}
-use Rattle.tl_memory.proofs.{states.BlockAnswers.settles-coming, lawful.Outrunning.outruns-parts}
+use Rattle.tl_memory.proofs.{states.BlockAnswers.settles-coming, lawful.OutrunNames.outruns-parts}
 use Rattle.tl_memory.proofs.{lawful.Responses.access-untold}
 use Rattle.tl_memory.proofs.{states.Elsewhere.beat-keeps, states.Found.in_block, states.Settling.is-settling}
 

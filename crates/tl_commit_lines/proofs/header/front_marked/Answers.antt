@@ -1,6 +1,6 @@
 use Rattle.std.proofs.Common.{◌≡◌, None, rules}
 use Rattle.tl_params.proofs.Headers.{level_unread}
-use Rattle.tl_commit_lines.proofs.MarkedHeaders.{no-level}
+use Rattle.tl_commit_lines.proofs.HeaderLinks.{no-level}
 use Rattle.tl_commit_lines.proofs.header.front_marked.Goals as goal
 
 pub returns-in_err-level : goal.returns-in_err-level

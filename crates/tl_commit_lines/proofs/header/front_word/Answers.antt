@@ -3,7 +3,7 @@ use Rattle.std.proofs.lemmas.Bool.Decides.{Decides-eqb}
 use Rattle.std.proofs.lemmas.Slice.Eq.{strip_prefix_is}
 use Rattle.std.specs.Prelude.{None, Some}
 use Rattle.tl_commit_lines.specs.code.HeadReading.{word_at}
-use Rattle.tl_commit_lines.proofs.MarkedHeaders.{no-word, word-read}
+use Rattle.tl_commit_lines.proofs.HeaderLinks.{no-word, word-read}
 use Rattle.tl_commit_lines.proofs.header.front_word.Goals as goal
 
 pub returns-in-Some : goal.returns-in-Some

@@ -1,12 +1,10 @@
-use Rattle.std.proofs.Common.{◌∙◌, ap}
+use Rattle.std.proofs.Common.{◌∙◌, ap, rules, ◌≡◌, true}
 use Rattle.std.specs.Prelude.{Bool}
-use Rattle.tl_commit_lines.proofs.MarkedHeaders.{whole_tail}
-use Rattle.tl_commit_lines.specs.statement.MarkedHeader.{MarkedLinks}
-use Rattle.std.proofs.Common.{ap, rules, ◌≡◌, ◌∙◌, true}
+use Rattle.tl_commit_lines.proofs.HeaderLinks.{whole_tail}
+use Rattle.tl_commit_lines.specs.statement.MarkedHeader.{MarkedLinks, links_read}
 use Rattle.tl_commit_lines.proofs.MarkedHeaders.{links_are, links_spelled, named-so, no_comma, none-read, not_read}
 use Rattle.tl_commit_lines.proofs.MarkedHeaders.{same_links, some-read}
 use Rattle.tl_commit_lines.specs.code.HeadReading.{is_named}
-use Rattle.tl_commit_lines.specs.statement.MarkedHeader.{links_read}
 use Rattle.tl_commit_lines.proofs.header.read_marked_links.Goals as goal
 
 pub returns-in_err-may-clause-every_spelling : goal.returns-in_err-may-clause-every_spelling

@@ -1,5 +1,6 @@
 use Rattle.std.proofs.Common.{rules, arith, ap, refl, sym, ◌∙◌, ◌≡◌, true, false, length}
-use Rattle.std.{proofs.lemmas.Result.IfOk-weaker, proofs.lemmas.Option.same_Some, specs.Prelude.Some, specs.Prelude.None}
+use Rattle.std.{proofs.lemmas.Result.IfOk-weaker, proofs.lemmas.Option.same_Some, specs.Prelude.Some}
+use Rattle.std.{specs.Prelude.None}
 use Rattle.std.specs.Prelude.{is_some}
 use Rattle.tl_beat.{specs.declared.channel.Channel.Channel}
 use Rattle.tl_burst.specs.statement.Messages.{unfinished}

@@ -2,7 +2,7 @@ use Rattle.std.proofs.Common.{rules, ◌≡◌, true}
 use Rattle.std.{proofs.lemmas.Result.IfOk-weaker, specs.Prelude.Some}
 use Rattle.tl_beat.specs.declared.beat.Beat.{Beat}
 use Rattle.tl_memory.specs.code.Passing.{acquires_from_none}
-use Rattle.tl_memory.proofs.states.Bearing.{acquire-unasked, unasked-elsewhere}
+use Rattle.tl_memory.proofs.states.AskingElsewhere.{acquire-unasked, unasked-elsewhere}
 use Rattle.tl_memory.proofs.states.Taken.{seen-other, seen-request}
 use Rattle.tl_memory.proofs.next.after_asking.Goals as goal
 

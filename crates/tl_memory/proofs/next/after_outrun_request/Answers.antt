@@ -3,7 +3,7 @@ use Rattle.std.{proofs.lemmas.Bool.and_parts, specs.Prelude.length}
 use Rattle.tl_beat.specs.declared.beat.Beat.{Beat}
 use Rattle.tl_bytes.specs.statement.Early.{outrun_accesses}
 use Rattle.tl_rules.{specs.statement.Conformance.on_link, specs.statement.History.ends}
-use Rattle.tl_memory.proofs.states.Bearing.{asks-calm, asks-known}
+use Rattle.tl_memory.proofs.states.AskingElsewhere.{asks-calm, asks-known}
 use Rattle.tl_memory.proofs.states.Settling.{kept-found, settles-request, unsettled-request}
 use Rattle.tl_memory.proofs.next.after_outrun_request.Goals as goal
 

@@ -9,9 +9,9 @@ use Rattle.tl_rules.{specs.statement.Conformance.on_link, specs.statement.Histor
 use Rattle.tl_bytes.specs.statement.Early.{is_released}
 use Rattle.tl_bytes.specs.statement.Free.{all_liberties}
 use Rattle.tl_memory.specs.code.Early.{is_answered}
-use Rattle.tl_memory.proofs.states.Bearing.{leaves-report, leaves-still, none_of_both, report-begun, report-elsewhere}
-use Rattle.tl_memory.proofs.states.Bearing.{report-silent}
-use Rattle.tl_memory.proofs.states.Bearing.{report-stays, report-tells}
+use Rattle.tl_memory.proofs.states.Leaving.{leaves-report, leaves-still}
+use Rattle.tl_memory.proofs.states.Bearing.{none_of_both, report-begun, report-elsewhere, report-silent, report-stays}
+use Rattle.tl_memory.proofs.states.Bearing.{report-tells}
 use Rattle.tl_memory.proofs.{messages.EarlyMessages.released-is, messages.Masks.few}
 use Rattle.tl_memory.proofs.next.after_report.Goals as goal
 

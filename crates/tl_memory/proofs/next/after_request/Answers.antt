@@ -6,7 +6,8 @@ use Rattle.tl_rules.specs.statement.Conformance.{on_link}
 use Rattle.tl_bytes.specs.statement.Bytes.{asks}
 use Rattle.tl_bytes.specs.statement.Early.{outrun_accesses}
 use Rattle.tl_memory.specs.code.Early.{outrun_in}
-use Rattle.tl_memory.proofs.{states.Bearing.asks-calm, states.Bearing.unasked-elsewhere, messages.Masks.few}
+use Rattle.tl_memory.proofs.{states.AskingElsewhere.asks-calm, states.AskingElsewhere.unasked-elsewhere}
+use Rattle.tl_memory.proofs.{messages.Masks.few}
 use Rattle.tl_memory.proofs.{states.Settling.none-kept, states.Taken.unseen-asked}
 use Rattle.tl_memory.proofs.next.after_request.Goals as goal
 

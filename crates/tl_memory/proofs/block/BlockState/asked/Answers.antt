@@ -5,7 +5,8 @@ use Rattle.tl_beat.specs.declared.{beat.Beat.Beat, beat.Link.Link}
 use Rattle.tl_memory.specs.code.Taking.{asked_now}
 use Rattle.tl_memory.specs.declared.next_state.{NextAccesses.NextAccesses, NextState.NextState}
 use Rattle.tl_memory.proofs.{states.Asked.asked-state, states.Asked.leaves-asked, states.Asked.unsettled-asked}
-use Rattle.tl_memory.proofs.{states.Bearing.asks-bare, states.Bearing.pending-asked, states.Bearing.request-leaves}
+use Rattle.tl_memory.proofs.{states.AskingElsewhere.asks-bare, states.AskingElsewhere.pending-asked}
+use Rattle.tl_memory.proofs.{states.AskingElsewhere.request-leaves}
 use Rattle.tl_memory.proofs.states.Elsewhere.{bytes-kept}
 use Rattle.tl_memory.proofs.block.BlockState.asked.Goals as goal
 

@@ -11,7 +11,8 @@ use Rattle.tl_bytes.{specs.statement.Bytes.is_of, specs.statement.Bytes.pending_
 use Rattle.tl_bytes.{proofs.Finding.found-passes}
 use Rattle.tl_memory.specs.{code.Taking.none_shown, code.Writers.is_named}
 use Rattle.tl_memory.specs.statement.Known.{IsLawful, KnowsAccess, open_for}
-use Rattle.tl_memory.proofs.{states.Bearing.asks-bare, states.Bearing.request-leaves, states.Elsewhere.free-kept}
+use Rattle.tl_memory.proofs.{states.AskingElsewhere.asks-bare, states.AskingElsewhere.request-leaves}
+use Rattle.tl_memory.proofs.{states.Elsewhere.free-kept}
 use Rattle.tl_memory.proofs.{states.Elsewhere.last-kept}
 use Rattle.tl_memory.proofs.{states.Found.found-first, states.Keeping.finds, states.States.is-found}
 use Rattle.tl_memory.proofs.{states.States.none-found}

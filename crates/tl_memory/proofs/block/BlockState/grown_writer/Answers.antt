@@ -1,4 +1,5 @@
-use Rattle.std.proofs.Common.{rules, ℕ, [], refl, sym, ap, subst, true, not, get_or, ◌∙◌, ◌≡◌, ◌∷◌, ◌+◌, ◌*◌, ◌/◌, find, suc, length}
+use Rattle.std.proofs.Common.{rules, ℕ, [], refl, sym, ap, subst, true, not, get_or, ◌∙◌, ◌≡◌, ◌∷◌, ◌+◌, ◌*◌, ◌/◌, find}
+use Rattle.std.proofs.Common.{suc, length}
 use Rattle.std.specs.{Prelude.Some, Prelude.◌==◌}
 use Rattle.std.proofs.lemmas.Bool.{and_parts, eq-eqb, eqb-true}
 use Rattle.tl_beat.specs.declared.{beat.Beat.Beat, beat.Link.Link, channel.Channel.Channel}
@@ -10,14 +11,14 @@ use Rattle.tl_bytes.{proofs.Finding.found-passes, specs.statement.Bytes.is_put}
 use Rattle.tl_memory.specs.code.Taking.{asked_now, none_shown}
 use Rattle.tl_memory.specs.code.Writers.{found_by, grown_in, is_named, with_writer}
 use Rattle.tl_memory.specs.statement.Known.{IsLawful, KnowsAccess, open_for}
-use Rattle.tl_memory.proofs.{states.Bearing.asks-bare, states.Bearing.pending-asked, states.Bearing.request-leaves}
+use Rattle.tl_memory.proofs.{states.AskingElsewhere.asks-bare, states.AskingElsewhere.pending-asked}
+use Rattle.tl_memory.proofs.{states.AskingElsewhere.request-leaves}
 use Rattle.tl_memory.proofs.{states.Elsewhere.bytes-kept}
 use Rattle.tl_memory.proofs.{states.Growing.grown-items, states.Growing.none-stays, states.Growing.only-one}
 use Rattle.tl_memory.proofs.{states.Growing.put-grown}
 use Rattle.tl_memory.proofs.{states.Keeping.finds, states.States.is-found}
 use Rattle.tl_memory.proofs.states.Asked.{asked-state, continued-as, continued-to, grown-access, leaves-asked}
-use Rattle.tl_memory.proofs.states.Asked.{unsettled-asked}
-use Rattle.tl_memory.proofs.states.Asked.{whole_room}
+use Rattle.tl_memory.proofs.states.Asked.{unsettled-asked, whole_room}
 use Rattle.tl_memory.proofs.block.BlockState.grown_writer.Goals as goal
 
 pub returns : goal.returns

@@ -4,7 +4,8 @@ use Rattle.std.specs.{Box.box_value, Prelude.option_map}
 use Rattle.tl_beat.{specs.declared.beat.Beat.Beat, specs.declared.channel.Channel.Channel}
 use Rattle.tl_burst.specs.statement.Messages.{unfinished}
 use Rattle.tl_rules.{specs.statement.Conformance.on_link, specs.statement.History.begins}
-use Rattle.tl_memory.proofs.messages.Expecting.{beat-anew, beat-begun, beat-kept, expects-later}
+use Rattle.tl_memory.proofs.messages.Expecting.{expects-later}
+use Rattle.tl_memory.proofs.messages.ExpectedBeats.{beat-anew, beat-begun, beat-kept}
 use Rattle.tl_memory.proofs.states.PassedBy.{none-before}
 use Rattle.tl_memory.proofs.link.LinkState.expected.Goals as goal
 

@@ -46,7 +46,7 @@ impl BeatLines {
             .count()
     }
 
-    /// The line of the beat with a number, in a trace where each event is a line. A number that no beat has stays.
+    /// The line of the beat with a number, if each event is a line. A number that no beat has stays.
     fn event_line(&self, number: u128) -> u128
         ensures { result ≡ line_by self.now.last self.now.commits.items number }
     {

@@ -17,7 +17,7 @@ pub struct Passing<'a, const W: usize> {
     pub cited: &'a [u8],
 }
 
-/// What came of a part of the wide beat at fault.
+/// The outcome for a part of the wide beat at fault.
 #[derive(Clone, Copy, PartialEq, Eq)]
 pub enum Met {
     /// It is at fault, and its grounds are appended.

@@ -360,7 +360,7 @@ def in_wide_words(told, owners, lines, names, width):
     for pattern, other in (
         (r"line (\d+)", lambda it: f"line {owners[int(it) - 2]}"),
         (r"block ([0-9a-f]{8})", lambda it: f"block {names['blocks'][int(it, 16) // BLOCK] * BLOCK:016x}"),
-        (r"(?<=byte )([0-9a-f]{8})(?= is)", lambda it: f"{names['blocks'][int(it, 16) // BLOCK] * BLOCK + int(it, 16) % BLOCK:016x}"),
+        (r"(?<=byte )([0-9a-f]{8})(?= is| of the copy)", lambda it: f"{names['blocks'][int(it, 16) // BLOCK] * BLOCK + int(it, 16) % BLOCK:016x}"),
         (r"(?<=source is )(..)(?=,)", lambda it: f"{names['sources'][int(it, 16)]:04x}"),
         (r"(?<=sink is )(..)(?=,)", lambda it: f"{names['sinks'][int(it, 16)]:04x}"),
         (r"(?<=source )([0-9a-f]{2})(?=[ :])", lambda it: f"{names['sources'][int(it, 16)]:04x}"),

@@ -10,13 +10,12 @@ joined they must say what they say of the trace that was written wide, which has
 must find what they find line by line in the trace without the lines found before, and count the beats and the commits of the others.
 `cover --json` must count what it counts of the narrow trace, with the lines of the wide one. `chart` must draw the rows of the chart
 of the narrow one with those lines and names. `explain`, also with `--coherent`, must write what it writes of the narrow trace with
-those lines and names, but for the values of bytes, for the grounds of M1 to M4, and for what the narrow one shows of a line that
-spells no event. Such lines have the fault of the table in docs/FORMATS.md, and commits take no numbers of sources. Ends with 'wide commits: N passed, M failed'."""
+those lines and names, but for what the narrow one shows of a line that spells no event. Such lines have the fault of the table in
+docs/FORMATS.md, and commits take no numbers of sources. Ends with 'wide commits: N passed, M failed'."""
 import concurrent.futures
 import os
 import pathlib
 import random
-import re
 import subprocess
 import sys
 import tempfile
@@ -81,14 +80,10 @@ def wanted(tool, words, head, events, width):
 
 
 def compared(told):
-    """What is compared of an explanation: no values of bytes, of M1 to M4 no grounds, and of a line that spells no event its fault."""
+    """What is compared of an explanation: of a line that spells no event its fault."""
     status, text = told
     first, *lines = text.splitlines()
-    if first.split()[-1] in ("M1", "M2", "M3", "M4"):
-        lines = lines[:2]
-    elif first.split()[-1].startswith("F"):
-        lines = lines[:1]
-    return status, [first, *(it for it in lines if not re.match(r"  byte |  and \d+ more", it))]
+    return status, [first, *(lines[:1] if first.split()[-1].startswith("F") else lines)]
 
 
 def misexplained(tool, text, liberties, levels, events, width):

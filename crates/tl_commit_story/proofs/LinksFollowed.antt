@@ -9,7 +9,6 @@ use Rattle.std.specs.Prelude.{◌==◌, Option, Some, None, count_by, nat_lt}
 use Rattle.tl_beat.specs.declared.beat.Beat.{Beat}
 use Rattle.tl_beat.specs.declared.beat.BeatD.{BeatD}
 use Rattle.tl_beat.specs.declared.beat.Link.{Link}
-use Rattle.tl_beat.specs.statement.Digits.{digits}
 use Rattle.tl_commits.specs.statement.Events.{Events, beats_of}
 use Rattle.tl_events.specs.declared.commit.Commit.{Commit}
 use Rattle.tl_events.specs.declared.commit.Event.TheVariants as event
@@ -170,10 +169,11 @@ links-answered r link source asked o is here says levels may t k =
     go false lt opened e = absurd cc
 
 -- the lines by what is kept are those of the events
-names-same : {w : ℕ} (r : LinksRecord w) (may : Liberties) (levels : List Level) (e : Events w)
-    → KnowsLinks r may levels e → names_by r.lines.last r.lines.commits.items ≡ event_names e
-names-same r may levels e k =
-    ap (λ (line : ℕ → ℕ). record { line = line; address = digits 8 }) (fun_ext k.lines_are.line_is)
+names-same : {w : ℕ} (names : Naming) (r : LinksRecord w) (may : Liberties) (levels : List Level) (e : Events w)
+    → KnowsLinks r may levels e → names_by r.lines.last r.lines.commits.items names ≡ event_names names e
+names-same names r may levels e k =
+    ap (λ (line : ℕ → ℕ). record { line = λ n. names.line (line n); address = names.address })
+    (fun_ext k.lines_are.line_is)
 
 -- ---- what is told, by what is told of each rule
 
@@ -201,27 +201,39 @@ module _ {w : ℕ} (names : Naming) (n link : ℕ) (x : BeatD w) (t : Trace w) (
   of-rule M2 links of grant access = absurd cc
   of-rule M3 links of grant access = absurd cc
 
-pub links-told : {w : ℕ} (r : LinksRecord w) (rule : MemoryRule) (link : Link) (x : BeatD w) (was is : List ℕ)
+pub links-told : {w : ℕ} (names : Naming) (r : LinksRecord w) (rule : MemoryRule) (link : Link) (x : BeatD w) (was is : List ℕ)
     → is_of_links rule ≡ true
     → ((levels : List Level) (may : Liberties) (t : Trace w) → Knows r.judge levels may t false
     → IsAnswered levels link x.source r.block t)
     → (rule ≡ M1 → (levels : List Level) (may : Liberties) (block : ℕ) (t : Trace w) → Knows r.judge levels may t false
     → KnowsWitness r.witness (length levels) block t
     → is ≡ was
-    ++ conflicts_text (names_by r.lines.last r.lines.commits.items) (length levels) link.0 (capped x.param) block t)
+    ++ conflicts_text (names_by r.lines.last r.lines.commits.items names) (length levels) link.0 (capped x.param) block t)
     → (rule ≡ M4 → (levels : List Level) (may : Liberties) (asked : Request) (block : ℕ) (t : Trace w)
     → Knows r.judge levels may t false → KnowsWitness r.witness (length levels) block t → link.0 < length levels
     → open_request x.source (on_link link.0 t) ≡ Some asked
     → is ≡ was
-    ++ access_text (names_by r.lines.last r.lines.commits.items) (length levels) link.0 x.source asked block t)
-    → TellsLinks r rule link x was is
-links-told r rule link x was is of answered grant access = record {
+    ++ access_text (names_by r.lines.last r.lines.commits.items names) (length levels) link.0 x.source asked block t)
+    → TellsLinks r names rule link x was is
+links-told names r rule link x was is of answered grant access = record {
   of_links = of;
   says = λ may levels e k.
       let so = answered levels may (beats_of e) k.judge_is in
-      let said = of-rule (names_by r.lines.last r.lines.commits.items) (length levels) link.0 x (beats_of e) r.block was
+      let said = of-rule (names_by r.lines.last r.lines.commits.items names) (length levels) link.0 x (beats_of e) r.block was
       is rule of so.1 (λ one. grant one levels may r.block (beats_of e) k.judge_is k.witness_is)
       (λ four asked opened. access four levels may asked r.block (beats_of e) k.judge_is k.witness_is so.0 opened) in
-      said ∙ ap (λ (names : Naming). was ++ grounds_text names rule (length levels) link.0 x (beats_of e))
-      (names-same r may levels e k);
+      said ∙ ap (λ (named : Naming). was ++ grounds_text named rule (length levels) link.0 x (beats_of e))
+      (names-same names r may levels e k);
+}
+
+-- what is known stays so with a judge that knows the same
+pub links-kept : {w : ℕ} (r : LinksRecord w) (judge : Judge w) (may : Liberties) (levels : List Level) (e : Events w)
+    → KnowsLinks r may levels e
+    → ((levels : List Level) (may : Liberties) (t : Trace w) (closed : Bool) → Knows r.judge levels may t closed
+    → Knows judge levels may t closed)
+    → KnowsLinks (record r { judge = judge }) may levels e
+links-kept r judge may levels e k knows = record {
+  judge_is = knows levels may (beats_of e) false k.judge_is;
+  witness_is = k.witness_is;
+  lines_are = k.lines_are;
 }

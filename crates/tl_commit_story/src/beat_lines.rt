@@ -1,12 +1,12 @@
 //! The lines of the beats of a trace with commits.
 
-ghost use Rattle.std.specs.Prelude.{ℕ, ◌+◌, ◌++◌, [], ◌∷◌, ◌≡◌, count_by, nat_lt, OnOk};
+ghost use Rattle.std.specs.Prelude.{◌++◌, [], ◌∷◌, ◌≡◌, count_by, nat_lt, OnOk};
+ghost use Rattle.tl_commit_story.specs.code.Placing.{line_by};
 
 use std::alloc::{AllocError, Global};
 use tl_witness::places::Places;
-use tl_witness::text::append_hex;
 
-/// Names beats, which are numbered as in a trace without commits, by their lines.
+/// The events of beats, which are numbered as in a trace without commits.
 #[derive(Drop)]
 pub struct BeatLines {
     /// The number of the last beat; 1, that of the header, before the first.
@@ -45,21 +45,36 @@ impl BeatLines {
             .filter(|last| u128::from(**last) < number)
             .count()
     }
+
+    /// The line of the beat with a number, if each event is a line. A number that no beat has stays.
+    fn event_line(&self, number: u128) -> u128
+        ensures { result ≡ line_by self.now.last self.now.commits.items number }
+    {
+        if number > u128::from(self.last) {
+            return number;
+        }
+        number + self.before(number) as u128
+    }
 }
 
-impl Places for BeatLines {
+/// Names beats, which are numbered as in a trace without commits, by the lines of their events.
+#[derive(Drop)]
+pub struct BeatPlaces<'a, X> {
+    pub lines: &'a BeatLines,
+    /// Names the lines of events, and addresses.
+    pub places: &'a X,
+}
+
+impl<'a, X: Places> Places for BeatPlaces<'a, X> {
     ghost use Rattle.tl_commit_story.specs.code.Placing.{names_by};
 
-    ghost names = { λ b. names_by b.last b.commits.items };
+    ghost names = { λ b. names_by b.lines.now.last b.lines.now.commits.items (X.names b.places.now) };
 
     fn line_at(&self, recorded: u128) -> u128 {
-        if recorded > u128::from(self.last) {
-            return recorded;
-        }
-        recorded + self.before(recorded) as u128
+        self.places.line_at(self.lines.event_line(recorded))
     }
 
     fn append_place(&self, address: u32, out: &mut Vec<u8>) -> Result<(), AllocError> {
-        append_hex(address, 8, out)
+        self.places.append_place(address, out)
     }
 }

@@ -16,6 +16,7 @@ use tl_events::commit::Event;
 use tl_events::rule::CommitRule;
 use tl_evidence::copy_record::CopyRecord;
 use tl_explain::turns::Subject;
+use tl_explain::wording::AsRecorded;
 use tl_monitor::monitor::Monitor;
 use tl_params::level::Level;
 use tl_params::liberties::Liberties;
@@ -139,6 +140,7 @@ impl<const W: usize> CopyFollower<W> {
         if !tell_grounds(alloc, &self.grounds, link, event, out)? {
             return Ok(false);
         }
-        self.record.tell(rule, event, self.grounds.giving.came, out)
+        self.record
+            .tell(&AsRecorded, rule, event, self.grounds.giving.came, out)
     }
 }

@@ -1,25 +1,24 @@
 //! Follows the events of a trace for the reasons of its first fault.
 
-ghost use Rattle.std.specs.Prelude.{◌≡◌, [], Bool, true, not, IfOk, IfSome};
+ghost use Rattle.std.specs.Prelude.{◌≡◌, [], true, IfOk, IfSome};
 ghost use Rattle.tl_beat.specs.declared.beat.Beat.TheVariants as beat;
 ghost use Rattle.tl_beat.specs.statement.Width.{IsWidth};
-ghost use Rattle.tl_commit_story.specs.code.Followers.{FollowsEvent, KnowsFollower, TellsBytes, TellsGrounds};
-ghost use Rattle.tl_commit_story.specs.code.Placing.{is_of_links};
+ghost use Rattle.tl_commit_story.specs.code.Followers.{FollowsEvent, KnowsFollower, TellsGrounds};
 ghost use Rattle.tl_lines.specs.declared.fault.Fault.{Fault};
 ghost use Rattle.tl_events.specs.declared.commit.Event.TheVariants as event;
 ghost use Rattle.tl_events.specs.statement.EventLine.{SpellsEvent};
 
 use crate::copy_follower::CopyFollower;
 use crate::link_record::LinkRecord;
-use crate::links_record::LinksRecord;
+use crate::response_follower::ResponseFollower;
 use std::alloc::{AllocError, Global};
 use tl_beat::beat::{Beat, BeatD, Link};
 use tl_commit_lines::header::MarkedLevel;
 use tl_commit_lines::judge::{complete_of, levels_of};
 use tl_events::commit::Event;
 use tl_events::rule::CommitRule;
-use tl_evidence::copy_record::CopyRecord;
 use tl_explain::turns::Subject;
+use tl_explain::wording::AsRecorded;
 use tl_lines::fault::Fault;
 use tl_params::liberties::Liberties;
 use tl_rules::memory_rule::MemoryRule;
@@ -32,64 +31,13 @@ pub enum Follower<const W: usize> {
     OfLink(LinkRecord<W>),
     /// For a rule of stores and loads.
     OfCopy(CopyFollower<W>),
-    /// For M1 and M4.
-    OfLinks(LinksRecord<W>),
-    /// For M2 and M3.
-    OfBytes(CopyRecord<W>),
+    /// For a rule of memory.
+    OfResponse(ResponseFollower<W>),
     /// For another fault.
     OfNothing,
 }
 
-/// Whether the rule is about the bytes of responses.
-fn is_of_bytes(rule: MemoryRule) -> bool
-    ensures { result ≡ not (is_of_links rule) }
-{
-    matches!(rule, MemoryRule::M2 | MemoryRule::M3)
-}
-
-/// Appends the bytes of a response that it can't have, for a breach of M2 or M3. Returns true if they are for it.
-fn tell_bytes<const W: usize>(
-    kept: &mut CopyRecord<W>,
-    rule: MemoryRule,
-    link: Link,
-    x: &BeatD<W>,
-    out: &mut Vec<u8>,
-) -> Result<bool, AllocError>
-    requires { IsWidth W }
-    ensures { IfOk result (λ told. told ≡ true →
-        TellsBytes kept.old rule link x.now out.old.items out.new.items) }
-{
-    if !is_of_bytes(rule) || link != kept.link {
-        return Ok(false);
-    }
-    kept.tell_response(x, out)
-}
-
 impl<const W: usize> Follower<W> {
-    /// Follows the values of a block's bytes for a response of this subject.
-    fn of_bytes(
-        alloc: Global,
-        subject: Subject,
-        links: &[MarkedLevel],
-        zero: bool,
-        may: Liberties,
-    ) -> Result<Option<Self>, AllocError>
-        requires { IsWidth W }
-        ensures { (together : Bool) → IfOk result (λ follower. IfSome follower (λ f. KnowsFollower together f may
-            (record { zero = zero; levels = links.now }) [])) }
-    {
-        let levels = levels_of(alloc, links)?;
-        let levels = levels.as_slice();
-        let complete = complete_of(alloc, links)?;
-        let complete = complete.as_slice();
-        let (link, block) = (subject.link, subject.block);
-        let kept = CopyRecord::new(alloc, link, block, levels, complete, zero, may)?;
-        match kept {
-            None => Ok(None),
-            Some(kept) => Ok(Some(Follower::OfBytes(kept))),
-        }
-    }
-
     /// Follows these links, which have these liberties, for the fault of an event of this subject. `zero` says whether
     /// memory was zero before the trace. None if there is no such block or link.
     pub fn new(
@@ -112,11 +60,11 @@ impl<const W: usize> Follower<W> {
                 let kept = LinkRecord::new(alloc, together, subject, levels, may)?;
                 Ok(Some(Follower::OfLink(kept)))
             }
-            Fault::MemoryRule(MemoryRule::M1 | MemoryRule::M4) => {
-                let kept = LinksRecord::new(alloc, subject.block, levels, may)?;
+            Fault::MemoryRule(rule) => {
+                let kept = ResponseFollower::new(alloc, rule, subject, links, zero, may)?;
                 match kept {
                     None => Ok(None),
-                    Some(kept) => Ok(Some(Follower::OfLinks(kept))),
+                    Some(kept) => Ok(Some(Follower::OfResponse(kept))),
                 }
             }
             Fault::CommitRule(_) => {
@@ -128,7 +76,6 @@ impl<const W: usize> Follower<W> {
                     Some(kept) => Ok(Some(Follower::OfCopy(kept))),
                 }
             }
-            Fault::MemoryRule(_) => Self::of_bytes(alloc, subject, links, zero, may),
             _ => Ok(Some(Follower::OfNothing)),
         }
     }
@@ -148,8 +95,7 @@ impl<const W: usize> Follower<W> {
         match self {
             Follower::OfLink(kept) => kept.take(number, line, link, event),
             Follower::OfCopy(kept) => kept.take(number, line, link, event),
-            Follower::OfLinks(kept) => kept.take(line, link, event),
-            Follower::OfBytes(kept) => kept.take(number, link, event),
+            Follower::OfResponse(kept) => kept.take(number, line, link, event),
             Follower::OfNothing => Ok(true),
         }
     }
@@ -186,8 +132,7 @@ impl<const W: usize> Follower<W> {
             out.new.items) }
     {
         match self {
-            Follower::OfLinks(kept) => kept.tell(rule, link, x, out),
-            Follower::OfBytes(kept) => tell_bytes(kept, rule, link, x, out),
+            Follower::OfResponse(kept) => kept.tell(&AsRecorded, rule, link, x, out),
             _ => Ok(false),
         }
     }

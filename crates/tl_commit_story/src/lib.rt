@@ -18,6 +18,7 @@ mod pending;
 mod places;
 mod replay;
 mod reread;
+pub mod response_follower;
 pub mod sentences;
 mod store_line;
 mod stores;

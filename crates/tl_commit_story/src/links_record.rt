@@ -3,6 +3,7 @@
 ghost use Rattle.std.specs.Prelude.{ℕ, List, [], ◌∷◌, true, false, length, IfOk, IfSome, ◌≡◌};
 ghost use Rattle.tl_beat.specs.statement.Width.{IsWidth};
 ghost use Rattle.tl_commit_story.specs.code.Placing.{FollowsLinks, IsAnswered, KnowsLinks, TellsLinks, is_of_links};
+ghost use Rattle.tl_commits.specs.statement.Events.{Events};
 ghost use Rattle.tl_events.specs.declared.commit.Commit.{Commit};
 ghost use Rattle.tl_events.specs.declared.commit.Event.TheVariants as event;
 ghost use Rattle.tl_params.specs.declared.level.Level.{Level};
@@ -10,7 +11,7 @@ ghost use Rattle.tl_params.specs.declared.liberties.Liberties.{Liberties};
 ghost use Rattle.tl_rules.specs.statement.Conformance.{Trace};
 ghost use Rattle.tl_together.specs.statement.Knows.{Knows};
 
-use crate::beat_lines::BeatLines;
+use crate::beat_lines::{BeatLines, BeatPlaces};
 use std::alloc::{AllocError, Global};
 use tl_beat::beat::{Beat, BeatD, Link};
 use tl_events::commit::Event;
@@ -20,6 +21,7 @@ use tl_rules::memory_rule::MemoryRule;
 use tl_together::fault::JudgeFault;
 use tl_together::judge::Judge;
 use tl_witness::grounds;
+use tl_witness::places::Places;
 use tl_witness::witness::Witness;
 
 /// The number of blocks: an address has 32 bits.
@@ -52,7 +54,7 @@ fn push<const W: usize>(
 }
 
 /// Whether the rule is about the permissions that links hold.
-fn is_of_links(rule: MemoryRule) -> bool
+pub fn is_of_links(rule: MemoryRule) -> bool
     ensures { result ≡ is_of_links rule }
 {
     matches!(rule, MemoryRule::M1 | MemoryRule::M4)
@@ -137,30 +139,30 @@ impl<const W: usize> LinksRecord<W> {
     }
 
     /// Appends the links that hold, or are being granted, a permission which conflicts with a response that breaks M1 or
-    /// M4, and for M4 the line in which its request was complete. Returns true if they are for it.
-    pub fn tell(
+    /// M4, and for M4 the line in which its request was complete, with the lines of events and addresses named so. Returns
+    /// true if they are for it. All that is known stays true.
+    pub fn tell<X: Places>(
         &mut self,
+        places: &X,
         rule: MemoryRule,
         link: Link,
         x: &BeatD<W>,
         out: &mut Vec<u8>,
     ) -> Result<bool, AllocError>
         requires { IsWidth W }
-        ensures { IfOk result (λ told. told ≡ true →
-            TellsLinks self.old rule link x.now out.old.items out.new.items) }
+        ensures knows { (may : Liberties) (levels : List Level) (e : Events W) → KnowsLinks self.old may levels e →
+            KnowsLinks self.new may levels e }
+        ensures tells { IfOk result (λ told. told ≡ true →
+            TellsLinks self.old (X.names places.now) rule link x.now out.old.items out.new.items) }
     {
         if !is_of_links(rule) || !self.is_answered(link, x.source) {
             return Ok(false);
         }
-        grounds::tell(
-            &self.lines,
-            &self.witness,
-            &mut self.judge,
-            rule,
-            link,
-            x,
-            out,
-        )?;
+        let places = BeatPlaces {
+            lines: &self.lines,
+            places,
+        };
+        grounds::tell(&places, &self.witness, &mut self.judge, rule, link, x, out)?;
         Ok(true)
     }
 }

@@ -7,7 +7,6 @@ use Rattle.std.proofs.lemmas.Bool.{lt-ltb}
 use Rattle.std.proofs.lemmas.Option.{slice_get-get_or}
 use Rattle.std.specs.Prelude.{slice_get, Option, Some, None, ⊤}
 use Rattle.tl_beat.specs.declared.beat.BeatC.{BeatC}
-use Rattle.tl_beat.specs.statement.Digits.{digits}
 use Rattle.tl_beat.specs.declared.channel.Channel.TheVariants as channel
 use Rattle.tl_burst.specs.statement.Messages.{unfinished}
 use Rattle.tl_bytes.specs.statement.Bytes.{could_be, told_as}
@@ -27,7 +26,7 @@ use Rattle.tl_memory.specs.declared.byte_set.ByteSet.{ByteSet}
 use Rattle.tl_params.specs.declared.level.Level.{Level}
 use Rattle.tl_params.specs.declared.liberties.Liberties.{Liberties}
 use Rattle.tl_evidence.proofs.SameTexts.{AreAll, all-same, any-all, strays-same}
-use Rattle.tl_witness.specs.statement.Naming.{as_recorded}
+use Rattle.tl_witness.specs.statement.Naming.{Naming}
 use Rattle.tl_witness.specs.statement.Strays.{more_text, strays_text, values_text}
 use Rattle.tl_evidence.specs.code.Following.{IsRoom, KnowsCopy, is_in_set, set_in}
 use Rattle.tl_evidence.specs.declared.copy_record.CopyRecord.{CopyRecord}
@@ -76,7 +75,7 @@ pub so-many : (i count value : ℕ) → length (bytes_low_first i count value) �
 so-many i zero value = refl
 so-many i (suc count) value = ap suc (so-many (suc i) count value)
 
-module _ {w : ℕ} (r : CopyRecord w) (may : Liberties) (levels : List Level) (complete : Completeness) (e : Events w)
+module _ {w : ℕ} (names : Naming) (r : CopyRecord w) (may : Liberties) (levels : List Level) (complete : Completeness) (e : Events w)
     (k : KnowsCopy r may levels complete e) where
   abbrev n : ℕ
   n = length levels
@@ -117,11 +116,11 @@ module _ {w : ℕ} (r : CopyRecord w) (may : Liberties) (levels : List Level) (c
   -- the bytes of a beat of a report
   pub given-text : (x : BeatC w) (first : ℕ) (lanes : List ℕ) → x.address / 64 ≡ r.block
       → first ≡ w * length (unfinished channel.C (link_beats link e)) → first + length lanes ≤ 64 → x.lanes ≡ Some lanes
-      → strays_text as_recorded (λ i v. told_as v (tellings_at (i - base) r.copy.values.items))
+      → strays_text names (λ i v. told_as v (tellings_at (i - base) r.copy.values.items))
       (λ i v. set_in r.copy (i - base) v) 0 (base + first) lanes
-      ≡ given_lines complete n link x e
+      ≡ given_lines names complete n link x e
   given-text x first lanes here at room has =
-      rw (here, ← at, has) (strays-same as_recorded (λ _. ⊤) (λ v lt. tt)
+      rw (here, ← at, has) (strays-same names (λ _. ⊤) (λ v lt. tt)
       (λ i v. told_as v (tellings_at (i - base) r.copy.values.items)) (may_give complete n link e)
       (λ i v. set_in r.copy (i - base) v) (set_in_copy complete n link e) 0 (base + first) lanes (any-all lanes)
       (λ i low high. (
@@ -133,9 +132,9 @@ module _ {w : ℕ} (r : CopyRecord w) (may : Liberties) (levels : List Level) (c
   pub given-by : (x : BeatC w) (first b : ℕ) (lanes : List ℕ) (s : SetLines) → b ≡ r.block → s ≡ r.copy
       → x.address / 64 ≡ r.block → first ≡ w * length (unfinished channel.C (link_beats link e)) → first + length lanes ≤ 64
       → x.lanes ≡ Some lanes
-      → strays_text as_recorded (λ i v. told_as v (tellings_at (i - 64 * b) s.values.items)) (λ i v. set_in s (i - 64 * b) v) 0
+      → strays_text names (λ i v. told_as v (tellings_at (i - 64 * b) s.values.items)) (λ i v. set_in s (i - 64 * b) v) 0
       (64 * b + first) lanes
-      ≡ given_lines complete n link x e
+      ≡ given_lines names complete n link x e
   given-by x first b lanes s block set here at room has = rw (block, set) (given-text x first lanes here at room has)
 
   -- the bytes of a load
@@ -145,12 +144,12 @@ module _ {w : ℕ} (r : CopyRecord w) (may : Liberties) (levels : List Level) (c
       → ((i v : ℕ) → i < 2 ^ piece.size → v < 256 → has_at sets i v
       ≡ at_some (may_bring complete n link (piece.address + i) v) link piece e)
       → length sets ≡ 8
-      → strays_text as_recorded (λ i v. is_in_set (slice_get sets (i - (base + first))) v) (λ i v. set_in r.copy (i - base) v) 0
+      → strays_text names (λ i v. is_in_set (slice_get sets (i - (base + first))) v) (λ i v. set_in r.copy (i - base) v) 0
       (base + first) lanes
-      ≡ loaded_lines complete n link piece value e
+      ≡ loaded_lines names complete n link piece value e
   loaded-text piece value first sets lanes here at room few are wide bytes says long =
       let start : base + first ≡ piece.address = omega (arith, here, at) in
-      rw (← are, start) (strays-same as_recorded Byte (λ v lt. lt)
+      rw (← are, start) (strays-same names Byte (λ v lt. lt)
       (λ i v. is_in_set (slice_get sets (i - piece.address)) v) (λ i v. at_some (may_bring complete n link i v) link piece e)
       (λ i v. set_in r.copy (i - base) v) (set_in_copy complete n link e) 0 piece.address lanes bytes
       (λ i low high. (
@@ -167,9 +166,9 @@ module _ {w : ℕ} (r : CopyRecord w) (may : Liberties) (levels : List Level) (c
       → piece.address / 64 ≡ r.block → IsRoom piece first count → bytes ≡ to_le_bytes w64 value → length sets ≡ 8
       → ((i v : ℕ) → i < 2 ^ piece.size → v < 256 → has_at sets i v
       ≡ at_some (may_bring complete n link (piece.address + i) v) link piece e)
-      → strays_text as_recorded (λ i v. is_in_set (slice_get sets (i - (base + first))) v) (λ i v. set_in r.copy (i - base) v) 0
+      → strays_text names (λ i v. is_in_set (slice_get sets (i - (base + first))) v) (λ i v. set_in r.copy (i - base) v) 0
       (base + first) (take count bytes)
-      ≡ loaded_lines complete n link piece value e
+      ≡ loaded_lines names complete n link piece value e
   unfolding le_bytes
   loaded-bytes piece value first count sets bytes here room is long says =
       let few : 2 ^ piece.size ≤ 8 = omega (arith, room.few, room.count_is) in
@@ -184,9 +183,9 @@ module _ {w : ℕ} (r : CopyRecord w) (may : Liberties) (levels : List Level) (c
       → length sets ≡ 8
       → ((i v : ℕ) → i < 2 ^ piece.size → v < 256 → has_at sets i v
       ≡ at_some (may_bring complete n link (piece.address + i) v) link piece e)
-      → strays_text as_recorded (λ i v. is_in_set (slice_get sets (i - (64 * b + first))) v)
+      → strays_text names (λ i v. is_in_set (slice_get sets (i - (64 * b + first))) v)
       (λ i v. set_in s (i - 64 * b) v) 0 (64 * b + first) (take count bytes)
-      ≡ loaded_lines complete n link piece value e
+      ≡ loaded_lines names complete n link piece value e
   loaded-by piece value first count b sets bytes s block set here room is long says =
       rw (block, set) (loaded-bytes piece value first count sets bytes here room is long says)
 
@@ -194,12 +193,12 @@ module _ {w : ℕ} (r : CopyRecord w) (may : Liberties) (levels : List Level) (c
   pub brought-by : (first : ℕ) (sets : List ByteSet) (from block : ℕ) (test : ℕ → ℕ → Bool) (lanes : List ℕ) (s : SetLines)
       → AreBytes (record { block = r.block; first = first; sets = sets }) w from test → block ≡ r.block → s ≡ r.copy
       → length lanes ≡ w → AreAll Byte lanes → length sets ≡ 64
-      → strays_text as_recorded (λ i v. is_in_set (slice_get sets (i - (64 * block + 0))) v)
+      → strays_text names (λ i v. is_in_set (slice_get sets (i - (64 * block + 0))) v)
       (λ i v. set_in s (i - 64 * block) v) 0 (64 * block + first) lanes
-      ≡ strays_text as_recorded test (set_in_copy complete n link e) 0 from lanes
+      ≡ strays_text names test (set_in_copy complete n link e) 0 from lanes
   brought-by first sets from block test lanes s are here set wide bytes long =
       let start : base + first ≡ from = are.from_is in
-      rw (here, set, start) (strays-same as_recorded Byte (λ v lt. lt)
+      rw (here, set, start) (strays-same names Byte (λ v lt. lt)
       (λ i v. is_in_set (slice_get sets (i - (base + 0))) v) test (λ i v. set_in r.copy (i - base) v)
       (set_in_copy complete n link e) 0 from lanes bytes
       (λ i low high. (
@@ -228,80 +227,80 @@ module _ {w : ℕ} (r : CopyRecord w) (may : Liberties) (levels : List Level) (c
 
   -- all that a byte of the copy may be, and a byte of memory
   pub copy-values : (place : ℕ) → place < 64
-      → values_text as_recorded (λ v. told_as v (tellings_at (base + place - base) r.copy.values.items))
+      → values_text names (λ v. told_as v (tellings_at (base + place - base) r.copy.values.items))
       (λ v. set_in r.copy (base + place - base) v) false 256 0
-      ≡ values_text as_recorded (λ v. told_as v (copy_values complete n link (base + place) e))
+      ≡ values_text names (λ v. told_as v (copy_values complete n link (base + place) e))
       (set_in_copy complete n link e (base + place)) false 256 0
-  copy-values place small = all-same as_recorded (λ _. ⊤) (λ v lt. tt) _ _ _ _ (
+  copy-values place small = all-same names (λ _. ⊤) (λ v lt. tt) _ _ _ _ (
     λ v any. copy-now (base + place) v (omega arith) (omega (arith, small)),
     λ v fits. copy-set (base + place) v (omega arith) (omega (arith, small)) fits,
   )
 
   pub memory-values : (place : ℕ) → place < 64
-      → values_text as_recorded (λ v. told_as v (tellings_at (base + place - base) r.memory.values.items))
+      → values_text names (λ v. told_as v (tellings_at (base + place - base) r.memory.values.items))
       (λ v. set_in r.memory (base + place - base) v) false 256 0
-      ≡ values_text as_recorded (λ v. told_as v (memory_may complete.zero n (base + place) (beats_of e)))
+      ≡ values_text names (λ v. told_as v (memory_may complete.zero n (base + place) (beats_of e)))
       (set_in_memory complete.zero n e (base + place)) false 256 0
-  memory-values place small = all-same as_recorded (λ _. ⊤) (λ v lt. tt) _ _ _ _ (
+  memory-values place small = all-same names (λ _. ⊤) (λ v lt. tt) _ _ _ _ (
     λ v any. memory-now place v small,
     λ v fits. memory-set place v small fits,
   )
 
   copy-by : (place b : ℕ) (s : SetLines) → place < 64 → b ≡ r.block → s ≡ r.copy
-      → values_text as_recorded (λ v. told_as v (tellings_at (64 * b + place - 64 * b) s.values.items))
+      → values_text names (λ v. told_as v (tellings_at (64 * b + place - 64 * b) s.values.items))
       (λ v. set_in s (64 * b + place - 64 * b) v) false 256 0
-      ≡ values_text as_recorded (λ v. told_as v (copy_values complete n link (base + place) e))
+      ≡ values_text names (λ v. told_as v (copy_values complete n link (base + place) e))
       (set_in_copy complete n link e (base + place)) false 256 0
   copy-by place b s small block set = rw (block, set) (copy-values place small)
 
   memory-by : (place b : ℕ) (s : SetLines) → place < 64 → b ≡ r.block → s ≡ r.memory
-      → values_text as_recorded (λ v. told_as v (tellings_at (64 * b + place - 64 * b) s.values.items))
+      → values_text names (λ v. told_as v (tellings_at (64 * b + place - 64 * b) s.values.items))
       (λ v. set_in s (64 * b + place - 64 * b) v) false 256 0
-      ≡ values_text as_recorded (λ v. told_as v (memory_may complete.zero n (base + place) (beats_of e)))
+      ≡ values_text names (λ v. told_as v (memory_may complete.zero n (base + place) (beats_of e)))
       (set_in_memory complete.zero n e (base + place)) false 256 0
   memory-by place b s small block set = rw (block, set) (memory-values place small)
 
   -- the line of a byte that is lost
   pub lost-told : (place b b' : ℕ) (s s' : SetLines) → place < 64 → b ≡ r.block → s ≡ r.copy → b' ≡ r.block → s' ≡ r.memory
       → (address : ℕ) → address ≡ 64 * b + place → (out a c d f g h i : List ℕ) → a ≡ out ++ codes "  byte "
-      → c ≡ a ++ digits 8 address → d ≡ c ++ codes " of the copy was stored"
-      → f ≡ d ++ values_text as_recorded (λ v. told_as v (tellings_at (64 * b + place - 64 * b) s.values.items))
+      → c ≡ a ++ names.address address → d ≡ c ++ codes " of the copy was stored"
+      → f ≡ d ++ values_text names (λ v. told_as v (tellings_at (64 * b + place - 64 * b) s.values.items))
       (λ v. set_in s (64 * b + place - 64 * b) v) false 256 0
       → g ≡ f ++ codes "; that of memory wasn't"
-      → h ≡ g ++ values_text as_recorded (λ v. told_as v (tellings_at (64 * b' + place - 64 * b') s'.values.items))
+      → h ≡ g ++ values_text names (λ v. told_as v (tellings_at (64 * b' + place - 64 * b') s'.values.items))
       (λ v. set_in s' (64 * b' + place - 64 * b') v) false 256 0
-      → i ≡ h ++ codes "\n" → i ≡ out ++ lost_line complete n link (base + place) e
+      → i ≡ h ++ codes "\n" → i ≡ out ++ lost_line names complete n link (base + place) e
   unfolding lost_line
   lost-told place b b' s s' small eb es eb' es' address at out a c d f g h i ea ec ed ef eg eh ei =
       let there : address ≡ base + place = at ∙ ap (λ k. 64 * k + place) eb in
-      let named = ec ∙ ap (λ k. a ++ digits 8 k) there in
+      let named = ec ∙ ap (λ k. a ++ names.address k) there in
       let copy = ef ∙ ap (λ t. d ++ t) (copy-by place b s small eb es) in
       let memory = eh ∙ ap (λ t. g ++ t) (memory-by place b' s' small eb' es') in
       rw (ei, memory, eg, copy, ed, named, ea) (seven out _ _ _ _ _ _ _)
 
   -- a byte that isn't lost
   pub place-kept : (others address rest : ℕ) (out : List ℕ) → is_kept complete n address e ≡ true
-      → out ++ lost_from complete n link others (address + 1) rest e
-      ≡ out ++ lost_from complete n link others address (suc rest) e
+      → out ++ lost_from names complete n link others (address + 1) rest e
+      ≡ out ++ lost_from names complete n link others address (suc rest) e
   unfolding lost_from
   place-kept others address rest out kept = rw kept refl
 
   -- and one that is
   pub place-lost : (others now address rest : ℕ) (out new : List ℕ) → is_kept complete n address e ≡ false
-      → now ≡ others + 1 → new ≡ out ++ counted_line complete n link others address e
-      → new ++ lost_from complete n link now (address + 1) rest e
-      ≡ out ++ lost_from complete n link others address (suc rest) e
+      → now ≡ others + 1 → new ≡ out ++ counted_line names complete n link others address e
+      → new ++ lost_from names complete n link now (address + 1) rest e
+      ≡ out ++ lost_from names complete n link others address (suc rest) e
   unfolding lost_from
   place-lost others now address rest out new lost more line =
-      rw (lost, more, line) (append_assoc out (counted_line complete n link others address e)
-      (lost_from complete n link (others + 1) (address + 1) rest e))
+      rw (lost, more, line) (append_assoc out (counted_line names complete n link others address e)
+      (lost_from names complete n link (others + 1) (address + 1) rest e))
 
   -- the next place
   pub place-next : (others now place : ℕ) (out new whole : List ℕ) → place < 64
-      → ((rest : ℕ) → new ++ lost_from complete n link now (base + place + 1) rest e
-      ≡ out ++ lost_from complete n link others (base + place) (suc rest) e)
-      → out ++ lost_from complete n link others (base + place) (64 - place) e ≡ whole
-      → new ++ lost_from complete n link now (base + (place + 1)) (64 - (place + 1)) e ≡ whole
+      → ((rest : ℕ) → new ++ lost_from names complete n link now (base + place + 1) rest e
+      ≡ out ++ lost_from names complete n link others (base + place) (suc rest) e)
+      → out ++ lost_from names complete n link others (base + place) (64 - place) e ≡ whole
+      → new ++ lost_from names complete n link now (base + (place + 1)) (64 - (place + 1)) e ≡ whole
   place-next others now place out new whole below next so_far =
       let left : 64 - place ≡ suc (64 - (place + 1)) = omega (arith, below) in
       let at : base + (place + 1) ≡ base + place + 1 = omega arith in
@@ -309,7 +308,7 @@ module _ {w : ℕ} (r : CopyRecord w) (may : Liberties) (levels : List Level) (c
 
   -- no place is left
   pub place-last : (others place : ℕ) (out whole : List ℕ) → 64 ≤ place
-      → out ++ lost_from complete n link others (base + place) (64 - place) e ≡ whole → out ++ more_text others ≡ whole
+      → out ++ lost_from names complete n link others (base + place) (64 - place) e ≡ whole → out ++ more_text others ≡ whole
   unfolding lost_from
   place-last others place out whole past so_far =
       let left : 64 - place ≡ 0 = omega (arith, past) in
@@ -326,15 +325,15 @@ room-count (suc (suc (suc (suc n)))) le = absurd (omega arith)
 
 -- ---- all
 
-module _ {w : ℕ} (complete : Completeness) (n link : ℕ) (e : Events w) where
+module _ {w : ℕ} (names : Naming) (complete : Completeness) (n link : ℕ) (e : Events w) where
   -- one of the first eight bytes
   pub counted-first : (others address : ℕ) → others < 8
-      → lost_line complete n link address e ≡ counted_line complete n link others address e
+      → lost_line names complete n link address e ≡ counted_line names complete n link others address e
   counted-first others address lt = rw (lt-ltb others 8 lt) refl
 
   -- a rule that is about values
   pub other-lines : (rule : CommitRule) (x : Event w) → (rule ≡ CommitRule.M5 → ⊥)
-      → event_lines complete n link x e ≡ copy_lines rule complete n link x e
+      → event_lines names complete n link x e ≡ copy_lines names rule complete n link x e
   other-lines CommitRule.M5 x other = absurd (other refl)
   other-lines CommitRule.M6 x other = refl
   other-lines CommitRule.M7 x other = refl

@@ -16,7 +16,7 @@ use Rattle.tl_params.specs.declared.liberties.Liberties.{Liberties}
 use Rattle.tl_params.specs.declared.rule.Rule.{Rule}
 use Rattle.tl_rules.specs.declared.past.Request.{Request}
 use Rattle.tl_rules.specs.statement.OpenMessages.{open_request}
-use Rattle.tl_witness.specs.statement.Naming.{as_recorded}
+use Rattle.tl_witness.specs.statement.Naming.{Naming}
 use Rattle.tl_witness.specs.statement.Strays.{strays_text}
 use Rattle.tl_evidence.specs.code.Following.{KnowsCopy}
 use Rattle.tl_evidence.specs.code.Responding.{AreOf}
@@ -24,24 +24,24 @@ use Rattle.tl_evidence.specs.declared.copy_record.CopyRecord.{CopyRecord}
 use Rattle.tl_evidence.specs.statement.CopyLines.{set_in_copy}
 use Rattle.tl_evidence.specs.statement.ResponseLines.{answered_lines, bytes_lines, granted_lines}
 
-module _ {w : ℕ} (b : ResponseBytes) (complete : Completeness) (n link : ℕ) (x : BeatD w) (e : Events w)
+module _ {w : ℕ} (names : Naming) (b : ResponseBytes) (complete : Completeness) (n link : ℕ) (x : BeatD w) (e : Events w)
     (lanes was is : List ℕ) (has : x.lanes ≡ Some lanes)
     (says : (from : ℕ) (test : ℕ → ℕ → Bool) → AreBytes b w from test
-    → is ≡ was ++ strays_text as_recorded test (set_in_copy complete n link e) 0 from lanes) where
+    → is ≡ was ++ strays_text names test (set_in_copy complete n link e) 0 from lanes) where
   granted-told : (o : Option Request) → AreGranted (Some b) complete n link o e
-      → is ≡ was ++ granted_lines complete n link x o e
+      → is ≡ was ++ granted_lines names complete n link x o e
   granted-told None never = absurd never
   granted-told (Some asked) are = rw has (says (granted_from link asked e) (may_be_granted complete n link e) are)
 
   answered-told : (o : Option (Access w)) → AreAnswered (Some b) complete n link o e
-      → is ≡ was ++ answered_lines complete n link x o e
+      → is ≡ was ++ answered_lines names complete n link x o e
   answered-told None never = absurd never
   answered-told (Some access) are =
       rw has (says (answered_from link access e) (may_be_answered complete n link access e) are)
 
   -- of a response with this opcode
   pub response-told : (opcode : OpD) → AreOf b opcode complete n link x e
-      → is ≡ was ++ bytes_lines opcode complete n link x e
+      → is ≡ was ++ bytes_lines names opcode complete n link x e
   response-told OpD.GrantData are = granted-told (open_request x.source (link_beats link e)) are
   response-told OpD.AccessAckData are = answered-told (find (is_of link x.source) (pending_accesses (beats_of e))) are
   response-told v never = absurd never

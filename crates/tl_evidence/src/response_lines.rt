@@ -10,7 +10,6 @@ ghost use Rattle.tl_evidence.specs.statement.CopyLines.{set_in_copy};
 ghost use Rattle.tl_evidence.specs.statement.ResponseLines.{response_lines};
 ghost use Rattle.tl_params.specs.declared.level.Level.{Level};
 ghost use Rattle.tl_params.specs.declared.liberties.Liberties.{Liberties};
-ghost use Rattle.tl_witness.specs.statement.Naming.{as_recorded};
 ghost use Rattle.tl_witness.specs.statement.Strays.{strays_text};
 
 use crate::copy_lines::BYTES;
@@ -21,8 +20,8 @@ use std::alloc::AllocError;
 use tl_beat::beat::{Beat, BeatD};
 use tl_beat::opcode::OpD;
 use tl_commits::responding::ResponseBytes;
-use tl_explain::wording::AsRecorded;
 use tl_memory::byte_set::ByteSet;
+use tl_witness::places::Places;
 
 /// It is below 256.
 fn prove_byte(byte: u8)
@@ -66,8 +65,9 @@ impl<const W: usize> CopyRecord<W> {
 
     /// Appends the lines of the bytes of a beat that it can't have, from a place on, by these values. Returns true if the block
     /// has room for them.
-    fn tell_bytes(
+    fn tell_bytes<X: Places>(
         &self,
+        places: &X,
         first: usize,
         sets: &[ByteSet; 64],
         lanes: &[u8; W],
@@ -77,7 +77,8 @@ impl<const W: usize> CopyRecord<W> {
             AreBytes (record { block = self.now.block; first = first; sets = sets.now }) W from test →
             (may : Liberties) (levels : List Level) (complete : Completeness) (e : Events W) →
             KnowsCopy self.now may levels complete e → out.new.items ≡ out.old.items
-            ++ strays_text as_recorded test (set_in_copy complete (length levels) self.now.link.0 e) 0 from lanes.now) }
+            ++ strays_text (X.names places.now) test (set_in_copy complete (length levels) self.now.link.0 e) 0 from
+            lanes.now) }
     {
         prove_bytes(lanes);
         if first.saturating_add(W) > usize::from(BYTES) {
@@ -88,13 +89,14 @@ impl<const W: usize> CopyRecord<W> {
             sets,
             possible: self.possible(&self.copy),
         };
-        tell_lanes(&AsRecorded, &values, first, lanes, out)?;
+        tell_lanes(places, &values, first, lanes, out)?;
         Ok(true)
     }
 
     /// The same, if they are of this block. Returns true if they are.
-    fn tell_bytes_of(
+    fn tell_bytes_of<X: Places>(
         &self,
+        places: &X,
         bytes: &ResponseBytes,
         lanes: &[u8; W],
         out: &mut Vec<u8>,
@@ -102,27 +104,36 @@ impl<const W: usize> CopyRecord<W> {
         ensures { IfOk result (λ told. told ≡ true → (from : ℕ) (test : ℕ → ℕ → Bool) → AreBytes bytes.now W from test →
             (may : Liberties) (levels : List Level) (complete : Completeness) (e : Events W) →
             KnowsCopy self.now may levels complete e → out.new.items ≡ out.old.items
-            ++ strays_text as_recorded test (set_in_copy complete (length levels) self.now.link.0 e) 0 from lanes.now) }
+            ++ strays_text (X.names places.now) test (set_in_copy complete (length levels) self.now.link.0 e) 0 from
+            lanes.now) }
     {
         if bytes.block != self.block {
             return Ok(false);
         }
-        self.tell_bytes(bytes.first, &bytes.sets, lanes, out)
+        self.tell_bytes(places, bytes.first, &bytes.sets, lanes, out)
     }
 
-    /// Appends the lines for the breach of M2 or M3 by a beat of a response of the link. Returns true if they are for it.
-    pub fn tell_response(&mut self, x: &BeatD<W>, out: &mut Vec<u8>) -> Result<bool, AllocError>
+    /// Appends the lines for the breach of M2 or M3 by a beat of a response of the link, with lines and addresses that are
+    /// named so. Returns true if they are for it. All that is known stays true.
+    pub fn tell_response<X: Places>(
+        &mut self,
+        places: &X,
+        x: &BeatD<W>,
+        out: &mut Vec<u8>,
+    ) -> Result<bool, AllocError>
         requires { IsWidth W }
-        ensures { IfOk result (λ told. told ≡ true → (may : Liberties) (levels : List Level) (complete : Completeness)
-            (e : Events W) → KnowsCopy self.old may levels complete e → out.new.items
-            ≡ out.old.items ++ response_lines complete (length levels) self.old.link.0 x.now e) }
+        ensures knows { (may : Liberties) (levels : List Level) (complete : Completeness) (e : Events W) →
+            KnowsCopy self.old may levels complete e → KnowsCopy self.new may levels complete e }
+        ensures tells { IfOk result (λ told. told ≡ true → (may : Liberties) (levels : List Level)
+            (complete : Completeness) (e : Events W) → KnowsCopy self.old may levels complete e → out.new.items
+            ≡ out.old.items ++ response_lines (X.names places.now) complete (length levels) self.old.link.0 x.now e) }
     {
         let Some(bytes) = self.response_bytes(x)? else {
             return Ok(false);
         };
         match &x.lanes {
             None => Ok(false),
-            Some(lanes) => self.tell_bytes_of(&bytes, lanes, out),
+            Some(lanes) => self.tell_bytes_of(places, &bytes, lanes, out),
         }
     }
 }

@@ -312,7 +312,7 @@ fn is_allowed<const W: usize>(expected: Option<&Expected>, beats: usize, x: &Bea
 }
 
 /// The state of a link: the unfinished messages, and the bytes that the unfinished response on channel D may bring.
-/// These are on the heap, and stay where they were made.
+/// These are on the heap, and are never moved.
 #[derive(Drop)]
 pub struct LinkState {
     pub messages: LinkMessages,

@@ -5,15 +5,16 @@ ghost use Rattle.tl_events.specs.statement.CommitLine.{IsCommit};
 ghost use Rattle.tl_wide.specs.statement.Width.{IsWideWidth};
 
 use crate::names::first_byte;
+use crate::passing::{Met, Passing, append_passing};
 use crate::places::{Places, append_address, piece_of, places_of_commit, places_of_part};
 use crate::transfer::Transfer;
 use crate::words::append_wide_commit;
 use std::alloc::{AllocError, Global};
 use tl_beat::beat::{Beat, Link};
 use tl_events::commit::{Commit, Event};
+use tl_events::rule::CommitRule;
 use tl_evidence::copy_record::CopyRecord;
 use tl_explain::bursts::is_small;
-use tl_explain::told::Spelling;
 use tl_explain::turns::Subject;
 use tl_explain::words::perm_name;
 use tl_lines::links_header::LinksHeader;
@@ -22,30 +23,10 @@ use tl_monitor::monitor::Monitor;
 use tl_rules::key::block_at;
 use tl_rules::kind::is_grant;
 use tl_rules::perm::Perm;
-use tl_wide::beat::WideBeat;
 use tl_wide_events::commit::WideCommit;
-use tl_wide_story::citation::append_cited;
+use tl_wide_story::numbering::Numbering;
+use tl_wide_story::places::WidePlaces;
 use tl_witness::text::append_hex;
-
-/// A wide beat in the line of this number.
-#[derive(Clone, Copy)]
-pub struct Passing<'a, const W: usize> {
-    pub number: u64,
-    pub link: Link,
-    pub beat: &'a WideBeat<W>,
-    /// The citation of its line.
-    pub cited: &'a [u8],
-}
-
-/// Appends the words of a wide beat, after the number of its line.
-fn append_passing<const W: usize>(
-    passing: Passing<'_, W>,
-    out: &mut Vec<u8>,
-) -> Result<(), AllocError>
-    requires { IsWideWidth W }
-{
-    append_cited::<W>(&Spelling::of(passing.cited), out).map_err(|_| AllocError)
-}
 
 /// A store in the line of this number.
 #[derive(Clone, Copy)]
@@ -186,9 +167,10 @@ impl<const P: usize> CopyGuide<P> {
         }
     }
 
-    /// Takes a part of a wide beat. Returns true if it breaks no rule.
+    /// Takes a part of a wide beat, which is recorded with this number. Returns true if it breaks no rule.
     pub fn take_part<const W: usize>(
         &mut self,
+        number: u64,
         passing: Passing<'_, W>,
         part: &Beat<P>,
     ) -> Result<bool, AllocError>
@@ -196,7 +178,7 @@ impl<const P: usize> CopyGuide<P> {
         requires width { IsWidth P }
     {
         let event = Event::Beat(*part);
-        if !self.record.take(passing.number, passing.link, &event)? {
+        if !self.record.take(number, passing.link, &event)? {
             return Ok(false);
         }
         if passing.link == self.link {
@@ -220,9 +202,11 @@ impl<const P: usize> CopyGuide<P> {
         }
     }
 
-    /// Takes the commit in the line of this number, which becomes this narrow one. Returns true if it breaks no rule.
+    /// Takes the commit in this line, which becomes a narrow one that is recorded with this number. Returns true if it breaks
+    /// no rule.
     pub fn take_commit(
         &mut self,
+        line: u64,
         number: u64,
         link: Link,
         commit: WideCommit,
@@ -239,7 +223,7 @@ impl<const P: usize> CopyGuide<P> {
         {
             self.keep(
                 StoreLine {
-                    number,
+                    number: line,
                     link,
                     commit,
                 },
@@ -284,8 +268,9 @@ impl<const P: usize> CopyGuide<P> {
         out.extend_from_slice(&lines)
     }
 
-    /// Appends the grounds for the fault of an event that is about these bytes of the block at this address.
-    fn tell(&self, address: u64, places: Places, out: &mut Vec<u8>) -> Result<(), AllocError> {
+    /// Appends the permission held of the block at this address, data under way and the last stores, for an event that is
+    /// about these bytes.
+    fn tell_all(&self, address: u64, places: Places, out: &mut Vec<u8>) -> Result<(), AllocError> {
         self.tell_held(address, out)?;
         append_begun(
             "  a GrantData of the block is under way since:\n",
@@ -300,32 +285,60 @@ impl<const P: usize> CopyGuide<P> {
         self.tell_stores(places, out)
     }
 
+    /// Appends the grounds for the breach of a rule of stores and loads by an event of the link that is about these bytes of the
+    /// block at this address. Returns true if they are for it.
+    fn tell(
+        &self,
+        numbering: &Numbering,
+        rule: CommitRule,
+        address: u64,
+        places: Places,
+        event: &Event<P>,
+        out: &mut Vec<u8>,
+    ) -> Result<bool, AllocError>
+        requires { IsWidth P }
+    {
+        let mut held = Vec::new(self.alloc);
+        self.tell_all(address, places, &mut held)?;
+        out.extend_from_slice(&held)?;
+        let names = WidePlaces { numbering, address };
+        self.record.tell(&names, rule, event, self.giving.came, out)
+    }
+
     /// Appends the grounds for the fault of a commit, which becomes this narrow one. Returns true if they are for it.
     pub fn tell_commit(
         &self,
+        numbering: &Numbering,
+        rule: CommitRule,
         link: Link,
         commit: WideCommit,
         narrow: Commit,
         out: &mut Vec<u8>,
-    ) -> Result<bool, AllocError> {
+    ) -> Result<bool, AllocError>
+        requires { IsWidth P }
+    {
         if link != self.link || block_at(first_byte(narrow)) != self.block {
             return Ok(false);
         }
         let Some(places) = places_of_commit(commit) else {
             return Ok(false);
         };
-        self.tell(commit.address(), places, out)?;
-        Ok(true)
+        let event = Event::Commit(narrow);
+        self.tell(numbering, rule, commit.address(), places, &event, out)
     }
 
     /// Appends the grounds for the fault of a part of a wide beat, which has this address. Returns true if they are for it.
-    pub fn tell_part(
+    fn tell_part(
         &self,
+        numbering: &Numbering,
+        rule: CommitRule,
         link: Link,
         address: u64,
         part: &Beat<P>,
         out: &mut Vec<u8>,
-    ) -> Result<bool, AllocError> {
+    ) -> Result<bool, AllocError>
+        requires { IsWidth P }
+    {
         let block = match part {
             Beat::A(x) => block_at(x.address),
             Beat::C(x) => block_at(x.address),
@@ -337,7 +350,32 @@ impl<const P: usize> CopyGuide<P> {
         let Some(places) = places_of_part(self.giving.came, part) else {
             return Ok(false);
         };
-        self.tell(address, places, out)?;
-        Ok(true)
+        self.tell(numbering, rule, address, places, &Event::Beat(*part), out)
+    }
+
+    /// Meets a part of the wide beat at fault, which has this address: appends the grounds if the part is at fault, and takes
+    /// it if it isn't.
+    pub fn meet_part<const W: usize>(
+        &mut self,
+        numbering: &Numbering,
+        rule: CommitRule,
+        number: u64,
+        passing: Passing<'_, W>,
+        address: u64,
+        part: &Beat<P>,
+        out: &mut Vec<u8>,
+    ) -> Result<Met, AllocError>
+        requires wide { IsWideWidth W }
+        requires width { IsWidth P }
+    {
+        let mut grounds = Vec::new(self.alloc);
+        if !self.tell_part(numbering, rule, passing.link, address, part, &mut grounds)? {
+            return Ok(Met::Strange);
+        }
+        if self.take_part(number, passing, part)? {
+            return Ok(Met::Taken);
+        }
+        out.extend_from_slice(&grounds)?;
+        Ok(Met::AtFault)
     }
 }

@@ -329,8 +329,11 @@ fn reasons<R: Read>(
 /// line names the further liberties that would allow the wide beat. For a rule of stores and loads they are the permission
 /// that the link of the event holds of the block, with the wide beat at which it last changed; the first beat of a
 /// GrantData, ProbeAckData or ReleaseData of the block that isn't complete; and the last store to each byte that the event
-/// is about. For a line that spells no event the reasons are the sentence of its fault. After a trace without a fault come
-/// its pending messages and the limits of the verdict.
+/// is about. For M6 and M7 the bytes at fault follow, each with all that it may be and the line that set each value. For M1
+/// and M4 the grounds are the links that hold, or are being granted, a permission that conflicts, and since which line. For
+/// M2 and M3 they are the bytes that the response can't have, each with all that it may be. For a line that spells no event
+/// the reasons are the sentence of its fault. After a trace without a fault come its pending messages and the limits of the
+/// verdict.
 ///
 /// Nothing is written before both readings have reached their ends. After that the only fault is `Write`: the writer
 /// took only a front of the text. `Read` and `Memory` are faults of the first reading, before its verdict and before

@@ -7,8 +7,10 @@ ghost use Rattle.tl_wide.specs.statement.Width.{IsWideWidth, part_width};
 ghost use Rattle.tl_wide_event_lines.specs.code.EventJudging.{IsValid};
 ghost use Rattle.tl_wide_events.specs.statement.WideCommitLine.{IsWideCommit};
 
-use crate::copy_guide::{CopyGuide, Passing};
+use crate::copy_guide::CopyGuide;
 use crate::link_guide::LinkGuide;
+use crate::passing::Passing;
+use crate::response_guide::ResponseGuide;
 use arrayvec::ArrayVec;
 use std::alloc::{AllocError, Global};
 use tl_beat::beat::{Beat, Link};
@@ -24,6 +26,7 @@ use tl_wide_events::commit::{WideCommit, WideEvent};
 use tl_wide_events::narrow::narrow_commit;
 use tl_wide_lines::judge::Clue;
 use tl_wide_story::citation::citation;
+use tl_wide_story::numbering::Numbering;
 
 /// Follows events for the grounds of a fault.
 #[derive(Drop)]
@@ -32,6 +35,8 @@ pub enum Kind<const W: usize, const P: usize> {
     OfLink(LinkGuide<W, P>),
     /// For a rule of stores and loads.
     OfCopy(CopyGuide<P>),
+    /// For a rule of memory.
+    OfResponse(ResponseGuide<P>),
     /// For another fault.
     OfNothing,
 }
@@ -43,6 +48,9 @@ pub struct Guide<const W: usize, const P: usize> {
     pub narrower: Narrower,
     pub fault: Fault,
     pub kind: Kind<W, P>,
+    /// The number with which the last event that a wide event became was recorded. That of the header is 1.
+    pub recorded: u64,
+    pub numbering: Numbering,
 }
 
 /// The header without the marks of its links.
@@ -88,6 +96,10 @@ fn kind_of<const W: usize, const P: usize>(
                 Some(guide) => Ok(Some(Kind::OfCopy(guide))),
             }
         }
+        Fault::MemoryRule(rule) => match ResponseGuide::new(alloc, rule, clue, header)? {
+            None => Ok(None),
+            Some(guide) => Ok(Some(Kind::OfResponse(guide))),
+        },
         _ => Ok(Some(Kind::OfNothing)),
     }
 }
@@ -95,19 +107,27 @@ fn kind_of<const W: usize, const P: usize>(
 impl<const W: usize, const P: usize> Kind<W, P> {
     /// Keeps the address of a wide beat, if the verdict may be about its block.
     pub fn note_address(&mut self, at_fault: bool, link: Link, beat: &WideBeat<W>) {
-        if let Kind::OfLink(guide) = self {
-            guide.note_address(at_fault, link, beat);
+        match self {
+            Kind::OfLink(guide) => guide.note_address(at_fault, link, beat),
+            Kind::OfResponse(guide) => guide.note_address(link, beat),
+            _ => {}
         }
     }
 
-    /// Takes a part of a wide beat. Returns true if it could be taken.
-    fn take_part(&mut self, passing: Passing<'_, W>, part: &Beat<P>) -> Result<bool, AllocError>
+    /// Takes a part of a wide beat, which is recorded with this number. Returns true if it could be taken.
+    fn take_part(
+        &mut self,
+        number: u64,
+        passing: Passing<'_, W>,
+        part: &Beat<P>,
+    ) -> Result<bool, AllocError>
         requires wide { IsWideWidth W }
         requires width { IsWidth P }
     {
         match self {
             Kind::OfNothing => Ok(true),
-            Kind::OfCopy(guide) => guide.take_part(passing, part),
+            Kind::OfCopy(guide) => guide.take_part(number, passing, part),
+            Kind::OfResponse(guide) => guide.take_part(number, passing, part),
             Kind::OfLink(guide) => {
                 guide.allow(passing.link, part)?;
                 Ok(guide.record(passing.cited, passing.link, part))
@@ -115,9 +135,11 @@ impl<const W: usize, const P: usize> Kind<W, P> {
         }
     }
 
-    /// Takes a commit, which becomes this narrow one. Returns true if it could be taken.
+    /// Takes the commit in this line, which becomes a narrow one that is recorded with this number. Returns true if it could
+    /// be taken.
     fn take_commit(
         &mut self,
+        line: u64,
         number: u64,
         link: Link,
         commit: WideCommit,
@@ -127,7 +149,8 @@ impl<const W: usize, const P: usize> Kind<W, P> {
         requires commit { IsCommit narrow }
     {
         match self {
-            Kind::OfCopy(guide) => guide.take_commit(number, link, commit, narrow),
+            Kind::OfCopy(guide) => guide.take_commit(line, number, link, commit, narrow),
+            Kind::OfResponse(guide) => guide.take_commit(number, link, narrow),
             _ => Ok(true),
         }
     }
@@ -153,8 +176,42 @@ impl<const W: usize, const P: usize> Guide<W, P> {
                 narrower: Narrower::new(alloc),
                 fault,
                 kind,
+                recorded: 1,
+                numbering: Numbering::new(alloc),
             })),
         }
+    }
+
+    /// The number with which the next event is recorded. The error is that there is none.
+    pub fn next_number(&self) -> Result<u64, AllocError> {
+        self.recorded.checked_add(1).ok_or(AllocError)
+    }
+
+    /// Notes that an event was recorded with this number, and whether it is a later part of its wide beat.
+    pub fn note_number(&mut self, number: u64, is_later: bool) -> Result<(), AllocError> {
+        if is_later {
+            self.numbering.note_later(number)?;
+        }
+        self.recorded = number;
+        Ok(())
+    }
+
+    /// Takes a part of a wide beat, and whether others came before it. Returns true if it could be taken.
+    fn take_part(
+        &mut self,
+        passing: Passing<'_, W>,
+        is_later: bool,
+        part: &Beat<P>,
+    ) -> Result<bool, AllocError>
+        requires wide { IsWideWidth W }
+        requires width { IsWidth P }
+    {
+        let number = self.next_number()?;
+        if !self.kind.take_part(number, passing, part)? {
+            return Ok(false);
+        }
+        self.note_number(number, is_later)?;
+        Ok(true)
     }
 
     /// Takes the parts of a wide beat. Returns true if each could be taken.
@@ -163,11 +220,13 @@ impl<const W: usize, const P: usize> Guide<W, P> {
         requires width { IsWidth P }
         requires part { P ≡ part_width W }
     {
+        let mut is_later = false;
         let mut left = parts;
         while let Some(part) = left.next::<W, P>(passing.beat) {
-            if !self.kind.take_part(passing, &part)? {
+            if !self.take_part(passing, is_later, &part)? {
                 return Ok(false);
             }
+            is_later = true;
         }
         Ok(true)
     }
@@ -186,20 +245,20 @@ impl<const W: usize, const P: usize> Guide<W, P> {
         self.take_parts(passing, parts)
     }
 
-    /// Takes a commit. Returns true if it could be taken.
-    fn take_commit(
-        &mut self,
-        number: u64,
-        link: Link,
-        commit: WideCommit,
-    ) -> Result<bool, AllocError>
+    /// Takes the commit in the line of this number. Returns true if it could be taken.
+    fn take_commit(&mut self, line: u64, link: Link, commit: WideCommit) -> Result<bool, AllocError>
         requires width { IsWidth P }
         requires commit { IsWideCommit commit }
     {
-        match narrow_commit(&mut self.narrower, link, commit)? {
-            None => Ok(false),
-            Some(narrow) => self.kind.take_commit(number, link, commit, narrow),
+        let Some(narrow) = narrow_commit(&mut self.narrower, link, commit)? else {
+            return Ok(false);
+        };
+        let number = self.next_number()?;
+        if !self.kind.take_commit(line, number, link, commit, narrow)? {
+            return Ok(false);
         }
+        self.note_number(number, false)?;
+        Ok(true)
     }
 
     /// Takes the event of the line with this number. Returns true if it could be taken.
@@ -219,7 +278,6 @@ impl<const W: usize, const P: usize> Guide<W, P> {
             WideEvent::Beat(beat) => {
                 let cited = citation(number, line);
                 self.take_beat(Passing {
-                    number,
                     link,
                     beat,
                     cited: cited.as_slice(),

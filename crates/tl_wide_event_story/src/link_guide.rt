@@ -4,7 +4,7 @@ ghost use Rattle.std.specs.Prelude.{◌≡◌};
 ghost use Rattle.tl_beat.specs.statement.Width.{IsWidth};
 ghost use Rattle.tl_wide.specs.statement.Width.{IsWideWidth};
 
-use crate::copy_guide::Passing;
+use crate::passing::{Met, Passing};
 use std::alloc::{AllocError, Global};
 use tl_beat::beat::{Beat, Link};
 use tl_commit_story::sentences::no_cache_words;
@@ -131,22 +131,24 @@ impl<const W: usize, const P: usize> LinkGuide<W, P> {
     }
 
     /// Meets a part of the wide beat at fault: appends the evidence if the part breaks this rule, and records it if it doesn't.
-    /// Returns true if it does.
     pub fn meet_part(
         &mut self,
         rule: Rule,
         passing: Passing<'_, W>,
         part: &Beat<P>,
         out: &mut Vec<u8>,
-    ) -> Result<bool, AllocError>
+    ) -> Result<Met, AllocError>
         requires { IsWidth P }
     {
         self.allow(passing.link, part)?;
         if self.tell_part(rule, passing.link, part, out)? {
-            return Ok(true);
+            return Ok(Met::AtFault);
         }
-        let _ = self.record(passing.cited, passing.link, part);
-        Ok(false)
+        if self.record(passing.cited, passing.link, part) {
+            Ok(Met::Taken)
+        } else {
+            Ok(Met::Strange)
+        }
     }
 
     /// Appends the line that names the liberties of which each alone would allow every part that was taken.

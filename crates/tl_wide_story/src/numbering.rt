@@ -1,6 +1,6 @@
 //! The lines of a wide trace, by the beats that its wide beats become.
 
-ghost use Rattle.std.specs.Prelude.{◌≡◌, count_by, nat_le};
+ghost use Rattle.std.specs.Prelude.{◌≡◌, ◌++◌, [], ◌∷◌, count_by, nat_le, OnOk};
 ghost use Rattle.tl_wide_story.specs.statement.WideNaming.{line_of};
 
 use std::alloc::{AllocError, Global};
@@ -13,14 +13,18 @@ pub struct Numbering {
 
 impl Numbering {
     /// No beat was recorded.
-    pub fn new(alloc: Global) -> Self {
+    pub fn new(alloc: Global) -> Self
+        ensures { result.later.items ≡ [] }
+    {
         Numbering {
             later: Vec::new(alloc),
         }
     }
 
     /// Notes that a beat which isn't the first part of its wide beat is recorded with this number.
-    pub fn note_later(&mut self, number: u64) -> Result<(), AllocError> {
+    pub fn note_later(&mut self, number: u64) -> Result<(), AllocError>
+        ensures { OnOk result (self.new.later.items ≡ self.old.later.items ++ number ∷ []) }
+    {
         self.later.push(number)?;
         Ok(())
     }

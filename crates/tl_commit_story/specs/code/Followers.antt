@@ -1,25 +1,21 @@
 -- What is known of the events of a trace, by the fault for which they are followed.
-use Rattle.std.specs.Prelude.{◌≡◌, ◌+◌, ◌++◌, ◌∷◌, ℕ, Bool, false, List, length, ⊤}
-use Rattle.tl_beat.specs.declared.beat.BeatD.{BeatD}
+use Rattle.std.specs.Prelude.{◌≡◌, ◌+◌, ◌++◌, ◌∷◌, ℕ, Bool, List, length, ⊤}
 use Rattle.tl_beat.specs.declared.beat.Link.{Link}
 use Rattle.tl_commit_lines.specs.statement.MarkedHeader.{MarkedLinks, complete_of, levels_of}
-use Rattle.tl_commits.specs.statement.Completeness.{Completeness}
 use Rattle.tl_commits.specs.statement.Events.{Events}
 use Rattle.tl_lines.specs.declared.fault.Fault.{Fault}
 use Rattle.tl_events.specs.declared.commit.Event.{Event}
 use Rattle.tl_events.specs.declared.rule.CommitRule.{CommitRule}
 use Rattle.tl_evidence.specs.code.Following.{KnowsCopy}
-use Rattle.tl_evidence.specs.declared.copy_record.CopyRecord.{CopyRecord}
 use Rattle.tl_evidence.specs.statement.CopyLines.{copy_lines}
-use Rattle.tl_evidence.specs.statement.ResponseLines.{response_lines}
 use Rattle.tl_params.specs.declared.level.Level.{Level}
 use Rattle.tl_params.specs.declared.liberties.Liberties.{Liberties}
-use Rattle.tl_params.specs.declared.memory_rule.MemoryRule.{MemoryRule}
+use Rattle.tl_witness.specs.statement.Naming.{as_recorded}
 use Rattle.tl_commit_story.specs.code.Following.{KnowsGrounds}
-use Rattle.tl_commit_story.specs.code.Placing.{KnowsLinks, is_of_links}
 use Rattle.tl_commit_story.specs.code.Recording.{KnowsLink}
+use Rattle.tl_commit_story.specs.code.Responses.{KnowsResponses}
 use Rattle.tl_commit_story.specs.declared.follower.Follower.{Follower}
-use Rattle.tl_commit_story.specs.declared.follower.Follower.TheVariants.{OfBytes, OfCopy, OfLink, OfLinks, OfNothing}
+use Rattle.tl_commit_story.specs.declared.follower.Follower.TheVariants.{OfCopy, OfLink, OfNothing, OfResponse}
 use Rattle.tl_commit_story.specs.declared.copy_follower.CopyFollower.{CopyFollower}
 use Rattle.tl_commit_story.specs.declared.grounds.Grounds.{Grounds}
 use Rattle.tl_commit_story.specs.statement.Grounds.{AreGrounds, copy_grounds}
@@ -39,8 +35,7 @@ FollowsCopy {w} old new number link x =
 abbrev pub KnowsFollower : {w : ℕ} → Bool → Follower w → Liberties → MarkedLinks → Events w → Type 0
 KnowsFollower together (OfLink r) may links e = KnowsLink together r may (levels_of links) e
 KnowsFollower together (OfCopy f) may links e = KnowsCopyFollower f may links e
-KnowsFollower together (OfLinks r) may links e = KnowsLinks r may (levels_of links) e
-KnowsFollower together (OfBytes r) may links e = KnowsCopy r may (levels_of links) (complete_of links) e
+KnowsFollower together (OfResponse f) may links e = KnowsResponses f may links e
 KnowsFollower together OfNothing may links e = ⊤
 
 -- one more event, in the line of this number
@@ -60,14 +55,7 @@ abbrev pub TellsCopy : {w : ℕ} → CopyFollower w → CommitRule → Link → 
 TellsCopy {w} f rule link x was is =
     (may : Liberties) (links : MarkedLinks) (e : Events w) → KnowsCopyFollower f may links e
     → is ≡ was ++ (copy_grounds may (levels_of links) link x e
-    ++ copy_lines rule (complete_of links) (length (levels_of links)) link.0 x e)
-
--- The rule is M2 or M3, and the text has the lines for a response that breaks it, behind what it had.
-pub record TellsBytes {w : ℕ} (r : CopyRecord w) (rule : MemoryRule) (link : Link) (x : BeatD w) (was is : List ℕ)
-    : Type 0 where
-  pub of_bytes : is_of_links rule ≡ false
-  pub says : (may : Liberties) (levels : List Level) (complete : Completeness) (e : Events w)
-      → KnowsCopy r may levels complete e → is ≡ was ++ response_lines complete (length levels) link.0 x e
+    ++ copy_lines as_recorded rule (complete_of links) (length (levels_of links)) link.0 x e)
 
 -- for the fault of an event
 abbrev pub TellsGrounds : {w : ℕ} → Follower w → Fault → Link → Event w → List ℕ → List ℕ → Type 0

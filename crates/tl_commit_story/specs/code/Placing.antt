@@ -3,7 +3,6 @@ use Rattle.std.specs.Prelude.{ℕ, ◌+◌, ◌++◌, ◌<◌, ◌≡◌, ◌∷
 use Rattle.std.specs.Prelude.{count_by, if◌then◌else◌, nat_lt}
 use Rattle.tl_beat.specs.declared.beat.BeatD.{BeatD}
 use Rattle.tl_beat.specs.declared.beat.Link.{Link}
-use Rattle.tl_beat.specs.statement.Digits.{digits}
 use Rattle.tl_commits.specs.statement.Events.{Events, beats_of}
 use Rattle.tl_events.specs.declared.commit.Event.{Event}
 use Rattle.tl_memory.specs.code.Elsewhere.{block_asked}
@@ -25,8 +24,8 @@ use Rattle.tl_commit_story.specs.statement.BeatLines.{event_names, line_of_beat}
 abbrev pub line_by : ℕ → List ℕ → ℕ → ℕ
 line_by last commits n = if nat_lt last n then n else n + count_by (λ m. nat_lt m n) commits
 
-abbrev pub names_by : ℕ → List ℕ → Naming
-names_by last commits = record { line = line_by last commits; address = digits 8 }
+abbrev pub names_by : ℕ → List ℕ → Naming → Naming
+names_by last commits names = record { line = λ n. names.line (line_by last commits n); address = names.address }
 
 -- the rule is about the permissions that links hold
 abbrev pub is_of_links : MemoryRule → Bool
@@ -58,8 +57,8 @@ FollowsLinks {w} old new link x =
     → KnowsLinks new may levels ((link, x) ∷ e)
 
 -- The rule is M1 or M4, and the text has the lines for a response that breaks it, behind what it had.
-pub record TellsLinks {w : ℕ} (r : LinksRecord w) (rule : MemoryRule) (link : Link) (x : BeatD w) (was is : List ℕ)
-    : Type 0 where
+pub record TellsLinks {w : ℕ} (r : LinksRecord w) (names : Naming) (rule : MemoryRule) (link : Link) (x : BeatD w)
+    (was is : List ℕ) : Type 0 where
   pub of_links : is_of_links rule ≡ true
   pub says : (may : Liberties) (levels : List Level) (e : Events w) → KnowsLinks r may levels e
-      → is ≡ was ++ grounds_text (event_names e) rule (length levels) link.0 x (beats_of e)
+      → is ≡ was ++ grounds_text (event_names names e) rule (length levels) link.0 x (beats_of e)

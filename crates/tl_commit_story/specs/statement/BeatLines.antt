@@ -1,6 +1,5 @@
 -- The lines of the beats of a trace with commits.
 use Rattle.std.specs.Prelude.{ℕ, ◌+◌, ◌==◌, if◌then◌else◌, length, [], ◌∷◌}
-use Rattle.tl_beat.specs.statement.Digits.{digits}
 use Rattle.tl_commits.specs.statement.Events.{Events, beats_of}
 use Rattle.tl_events.specs.declared.commit.Event.{Event}
 use Rattle.tl_events.specs.declared.commit.Event.TheVariants as event
@@ -17,6 +16,6 @@ unfoldable pub line_of_beat : {w : ℕ} → Events w → ℕ → ℕ
 line_of_beat [] n = n
 line_of_beat (x ∷ e) n = line_or x.1 e n (line_of_beat e n)
 
--- beats are named by their lines, and addresses as they are written
-abbrev pub event_names : {w : ℕ} → Events w → Naming
-event_names e = record { line = line_of_beat e; address = digits 8 }
+-- beats are named by the lines of these events, which are named so, and addresses as they are
+abbrev pub event_names : {w : ℕ} → Naming → Events w → Naming
+event_names names e = record { line = λ n. names.line (line_of_beat e n); address = names.address }

@@ -30,6 +30,7 @@ use Rattle.tl_params.specs.declared.memory_rule.MemoryRule.TheVariants.{M1, M4}
 use Rattle.tl_params.specs.declared.perm.Perm.{Perm}
 use Rattle.tl_params.specs.declared.rule.Rule.{Rule}
 use Rattle.tl_witness.specs.statement.Grounds.{grounds_text}
+use Rattle.tl_witness.specs.statement.Naming.{Naming, as_recorded}
 use Rattle.tl_commit_story.specs.declared.cached.Cached.{Cached}
 use Rattle.tl_commit_story.specs.statement.BeatLines.{event_names}
 use Rattle.tl_commit_story.specs.statement.Cached.{Stored, begun_by, block_of, came, cited, held_since, holding}
@@ -129,17 +130,18 @@ AreLinkGrounds together rule may levels link (event.Commit x) e grounds =
 
 -- ---- rules of memory
 
--- The lines for a response that breaks M1 or M4: those for the beats alone, with the lines of this trace. For M2 and M3 the
--- bytes that it can't have, with all that each may be and the line that set each value.
-abbrev pub response_grounds : {w : ℕ} → MemoryRule → Completeness → ℕ → Link → BeatD w → Events w → List ℕ
-response_grounds M1 complete n link x e = grounds_text (event_names e) M1 n link.0 x (beats_of e)
-response_grounds M4 complete n link x e = grounds_text (event_names e) M4 n link.0 x (beats_of e)
-response_grounds _ complete n link x e = response_lines complete n link.0 x e
+-- The lines for a response that breaks M1 or M4: those for the beats alone, with the lines of these events. For M2 and M3
+-- the bytes that it can't have, with all that each may be and the line that set each value. Lines and addresses are named
+-- so.
+abbrev pub response_grounds : {w : ℕ} → Naming → MemoryRule → Completeness → ℕ → Link → BeatD w → Events w → List ℕ
+response_grounds names M1 complete n link x e = grounds_text (event_names names e) M1 n link.0 x (beats_of e)
+response_grounds names M4 complete n link x e = grounds_text (event_names names e) M4 n link.0 x (beats_of e)
+response_grounds names _ complete n link x e = response_lines names complete n link.0 x e
 
 -- no other event breaks such a rule
-abbrev pub memory_grounds : {w : ℕ} → MemoryRule → Completeness → ℕ → Link → Event w → Events w → List ℕ
-memory_grounds rule complete n link (event.Beat (beat.D x)) e = response_grounds rule complete n link x e
-memory_grounds rule complete n link _ e = []
+abbrev pub memory_grounds : {w : ℕ} → Naming → MemoryRule → Completeness → ℕ → Link → Event w → Events w → List ℕ
+memory_grounds names rule complete n link (event.Beat (beat.D x)) e = response_grounds names rule complete n link x e
+memory_grounds names rule complete n link _ e = []
 
 -- ---- all rules
 
@@ -150,9 +152,9 @@ AreGrounds together (Breaks rule) may links link x e grounds =
     AreLinkGrounds together rule may (levels_of links) link x e grounds
 AreGrounds together (CommitRule rule) may links link x e grounds =
     grounds ≡ copy_grounds may (levels_of links) link x e
-    ++ copy_lines rule (complete_of links) (length (levels_of links)) link.0 x e
+    ++ copy_lines as_recorded rule (complete_of links) (length (levels_of links)) link.0 x e
 AreGrounds together (BreaksTogether rule) may links link x e grounds =
-    grounds ≡ memory_grounds rule (complete_of links) (length (levels_of links)) link x e
+    grounds ≡ memory_grounds as_recorded rule (complete_of links) (length (levels_of links)) link x e
 AreGrounds together _ may links link x e grounds = grounds ≡ []
 
 -- The reasons begin with the sentence of the rule that the event breaks, and the event.

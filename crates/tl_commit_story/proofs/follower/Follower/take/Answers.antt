@@ -1,13 +1,7 @@
 use Rattle.std.proofs.lemmas.Result.{IfOk-weaker}
-use Rattle.tl_commit_lines.specs.statement.MarkedHeader.{complete_of, levels_of}
 use Rattle.tl_commit_story.proofs.follower.Follower.take.Goals as goal
 
-pub returns-in-OfLinks : goal.returns-in-OfLinks
-returns-in-OfLinks g c = IfOk-weaker c.take-in-OfLinks.result _ _
+pub returns-in-OfResponse : goal.returns-in-OfResponse
+returns-in-OfResponse g c = IfOk-weaker c.take-in-OfResponse.result _ _
     (λ on follows. λ yes together may links e at k.
-    follows yes may (levels_of links) e (rw c.in-OfLinks.is at k)) c.take-in-OfLinks.ensures
-
-pub returns-in-OfBytes : goal.returns-in-OfBytes
-returns-in-OfBytes g c = IfOk-weaker c.take-in-OfBytes.result _ _
-    (λ on follows. λ yes together may links e at k.
-    follows yes may (levels_of links) (complete_of links) e at (rw c.in-OfBytes.is at k)) c.take-in-OfBytes.ensures.takes
+    follows yes may links e at (rw c.in-OfResponse.is at k)) c.take-in-OfResponse.ensures

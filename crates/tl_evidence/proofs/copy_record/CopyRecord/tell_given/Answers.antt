@@ -13,6 +13,6 @@ returns g c = λ on may levels complete e k came.
     let first : c.saturating_mul-first.result ≡ g.row.W * length (unfinished channel.C (link_beats r.link.0 e)) =
     omega (arith, c.saturating_mul-first.ensures, ap (λ m. g.row.W * m) came, room) in
     c.in_ok-tell_lanes.ensures
-    ∙ ap (λ text. c.args.out.now.items ++ text) (given-by r may levels complete e k c.args.x.now
+    ∙ ap (λ text. c.args.out.now.items ++ text) (given-by (g.X.Places.names c.args.places.now) r may levels complete e k c.args.x.now
     c.saturating_mul-first.result c.possible-values.result.block c.in-Some.lanes c.possible-values.result.set.now
     c.possible-values.ensures.block c.possible-values.ensures.set here first room c.in-Some.is)

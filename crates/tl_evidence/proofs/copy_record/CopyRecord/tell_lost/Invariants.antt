@@ -12,7 +12,7 @@ invariant-loop-place g l = record {
   few : l.count ≤ l.place;
   told : (may : Liberties) (levels : List Level) (complete : Completeness) (e : Events g.row.W)
       → KnowsCopy l.self may levels complete e
-      → l.out.items ++ lost_from complete (length levels) l.self.link.0 l.count (64 * l.self.block + l.place)
+      → l.out.items ++ lost_from (g.X.Places.names l.places) complete (length levels) l.self.link.0 l.count (64 * l.self.block + l.place)
       (64 - l.place) e
-      ≡ l.initial.out.items ++ lost_lines complete (length levels) l.self.link.0 l.self.block e;
+      ≡ l.initial.out.items ++ lost_lines (g.X.Places.names l.places) complete (length levels) l.self.link.0 l.self.block e;
 }

@@ -1,7 +1,7 @@
 //! The state of a link.
 
 ghost use Rattle.std.specs.Box.{box_value};
-ghost use Rattle.std.specs.Prelude.{ℕ, true, false, if◌then◌else◌, ◌&&◌, [], ◌∷◌, ◌≡◌, ◌≤◌, List, None, length, option_copied, option_map};
+ghost use Rattle.std.specs.Prelude.{ℕ, true, false, [], ◌∷◌, ◌≡◌, ◌≤◌, List, None, length, option_copied, option_map};
 ghost use Rattle.tl_beat.specs.declared.beat.Beat.TheVariants as beat;
 ghost use Rattle.tl_beat.specs.declared.beat.{Beat.Beat, BeatD.BeatD, Link.Link};
 ghost use Rattle.tl_beat.specs.declared.channel.Channel.TheVariants as channel;
@@ -11,7 +11,7 @@ ghost use Rattle.tl_params.specs.declared.level.Level.{Level};
 ghost use Rattle.tl_rules.specs.statement.Conformance.{Trace, on_link};
 ghost use Rattle.tl_rules.specs.statement.Liberties.{broken_after_under, is_legal_under};
 ghost use Rattle.tl_bytes.specs.statement.Free.{all_liberties};
-ghost use Rattle.tl_rules.specs.statement.History.{begins, is_release_ack};
+ghost use Rattle.tl_rules.specs.statement.History.{begins};
 ghost use Rattle.tl_bytes.specs.statement.Bytes as bytes;
 ghost use Rattle.tl_memory.specs.code.Allowed as allowed;
 ghost use Rattle.tl_memory.specs.code.Early as early;
@@ -22,10 +22,12 @@ use crate::early::{Asking, Doubt, Granting, Releasing};
 use crate::expected::Expected;
 use crate::message::{CarriedMessage, is_small};
 use crate::typed::prove_request;
-use tl_beat::beat::{Beat, BeatA, BeatC, BeatD};
+use crate::unfinished::{
+    acknowledged, asking_after, granting_after, overtaken, releasing_after, releasing_answered,
+};
+use tl_beat::beat::{Beat, BeatC, BeatD};
 use tl_beat::opcode::OpD;
 use tl_rules::key::block_at;
-use tl_rules::kind::{is_grant, is_release, is_release_ack};
 
 /// The unfinished messages of a link on channels A, C and D, which carry bytes to memory and back, and the fields of them
 /// that an early answer depends on.
@@ -40,124 +42,6 @@ pub struct LinkMessages {
     pub releasing: Option<Releasing>,
     /// The unfinished Grant on channel D.
     pub granting: Option<Granting>,
-}
-
-/// The unfinished request after a beat of channel A, which completes it or not.
-fn asking_after<const W: usize>(x: &BeatA<W>, completes: bool) -> Option<Asking>
-    ensures { result ≡ early.asking_after x.now completes }
-{
-    if completes {
-        return None;
-    }
-    Some(Asking {
-        source: x.source,
-        address: x.address,
-        size: x.size,
-    })
-}
-
-/// The unfinished Release after a beat of channel C, which completes it or not.
-fn releasing_after<const W: usize>(
-    before: Option<Releasing>,
-    x: &BeatC<W>,
-    completes: bool,
-) -> Option<Releasing>
-    ensures { result ≡ early.releasing_after before x.now completes }
-{
-    if completes || !is_release(x.opcode) {
-        return None;
-    }
-    match before {
-        Some(releasing) => Some(releasing),
-        None => Some(Releasing {
-            source: x.source,
-            block: block_at(x.address),
-            answered: false,
-        }),
-    }
-}
-
-/// The unfinished Release after a ReleaseAck with this source.
-fn released(before: Option<Releasing>, source: u8) -> Option<Releasing>
-    ensures { result ≡ early.released before source }
-{
-    match before {
-        Some(releasing) if releasing.source == source => Some(Releasing {
-            answered: true,
-            ..releasing
-        }),
-        _ => before,
-    }
-}
-
-/// The unfinished Release after a beat of channel D, which completes its message or not.
-fn releasing_answered<const W: usize>(
-    before: Option<Releasing>,
-    x: &BeatD<W>,
-    completes: bool,
-) -> Option<Releasing>
-    ensures { result
-        ≡ (if completes && is_release_ack x.now.opcode then early.released before x.now.source else before) }
-{
-    if completes && is_release_ack(x.opcode) {
-        released(before, x.source)
-    } else {
-        before
-    }
-}
-
-/// The unfinished Grant after a beat of channel D, which completes it or not. `block` is the block that the beat
-/// concerns.
-fn granting_after<const W: usize>(
-    before: Option<Granting>,
-    x: &BeatD<W>,
-    block: Option<u32>,
-    completes: bool,
-) -> Option<Granting>
-    ensures { result ≡ early.granting_after before x.now block completes }
-{
-    if completes || !is_grant(x.opcode) {
-        return None;
-    }
-    match before {
-        Some(granting) => Some(granting),
-        None => {
-            let block = block?;
-            Some(Granting {
-                sink: x.sink,
-                block,
-                doubt: Doubt::Unacknowledged,
-            })
-        }
-    }
-}
-
-/// The unfinished Grant after a GrantAck with this sink.
-fn acknowledged(before: Option<Granting>, sink: u8) -> Option<Granting>
-    ensures { result ≡ early.acknowledged before sink }
-{
-    match before {
-        Some(granting) if granting.sink == sink => Some(Granting {
-            doubt: Doubt::Acknowledged,
-            ..granting
-        }),
-        _ => before,
-    }
-}
-
-/// The unfinished Grant after a report of this block is complete.
-fn overtaken(before: Option<Granting>, block: u32) -> Option<Granting>
-    ensures { result ≡ early.overtaken before block }
-{
-    match before {
-        Some(granting) if granting.block == block && granting.doubt == Doubt::Acknowledged => {
-            Some(Granting {
-                doubt: Doubt::Overtaken,
-                ..granting
-            })
-        }
-        _ => before,
-    }
 }
 
 impl LinkMessages {

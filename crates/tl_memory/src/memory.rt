@@ -7,7 +7,7 @@ ghost use Rattle.tl_beat.specs.declared.beat.BeatD.{BeatD};
 ghost use Rattle.tl_beat.specs.declared.beat.Link.{Link};
 ghost use Rattle.tl_beat.specs.declared.channel.Channel.TheVariants as channel;
 ghost use Rattle.tl_beat.specs.statement.Width.{IsWidth};
-ghost use Rattle.tl_burst.specs.statement.Messages.{History, unfinished};
+ghost use Rattle.tl_burst.specs.statement.Messages.{unfinished};
 ghost use Rattle.tl_burst.specs.statement.Part;
 ghost use Rattle.tl_params.specs.declared.level.Level.{Level};
 ghost use Rattle.tl_rules.specs.statement.Conformance.{Trace, on_link};
@@ -18,13 +18,13 @@ ghost use Rattle.tl_memory.specs.code.Lines.{told_by};
 ghost use Rattle.tl_memory.specs.code.Taking.{IsLegalBeat, request_answered};
 ghost use Rattle.tl_memory.specs.statement.ByteChanges.{AreByteChanges, IsByteChange};
 ghost use Rattle.tl_memory.specs.statement.Links.{KnowsMessages};
-ghost use Rattle.tl_rules.specs.code.Open.{open_request};
 
 use crate::begun::begun_with;
 use crate::block::BlockState;
 use crate::blocks::Blocks;
 use crate::boxed::value_of;
 use crate::byte_change::{ByteChange, byte_change};
+use crate::concerned::block_borne;
 use crate::expected::Expected;
 use crate::free::Freedom;
 use crate::link::LinkMessages;
@@ -37,57 +37,8 @@ use crate::typed::prove_typed;
 use std::alloc::{AllocError, Global};
 use tl_beat::beat::{Beat, BeatD, Link};
 use tl_bytes::write::Write;
-use tl_rules::key::block_at;
-use tl_rules::kind::is_release_ack;
 use tl_rules::past::Request;
 use tl_rules::perm::Perm;
-
-/// The block of a request, if there is one.
-fn block_asked(asked: Option<Request>) -> Option<u32>
-    ensures { result ≡ elsewhere.block_asked asked }
-{
-    match asked {
-        Some(asked) => Some(asked.block),
-        None => None,
-    }
-}
-
-/// The block of the message that a response answers: of a Release only if the Release isn't complete.
-fn block_answered<const W: usize>(
-    x: &BeatD<W>,
-    asked: Option<Request>,
-    messages: &LinkMessages,
-) -> Option<u32>
-    ensures { (past : History W) → KnowsMessages messages.now past → asked ≡ open_request x.now.source past →
-        result ≡ elsewhere.block_borne (beat.D x.now) past }
-{
-    if is_release_ack(x.opcode) {
-        return messages.releases_with(x.source);
-    }
-    match messages.asks_with(x.source) {
-        Some(asking) => Some(block_at(asking.address)),
-        None => block_asked(asked),
-    }
-}
-
-/// The block that a beat concerns: that of its address, for a response that of the message that it answers, and for a
-/// GrantAck that of the Grant if that isn't complete. `messages` are the unfinished messages of its link.
-fn block_borne<const W: usize>(
-    beat: &Beat<W>,
-    asked: Option<Request>,
-    messages: &LinkMessages,
-) -> Option<u32>
-    ensures { (past : History W) → KnowsMessages messages.now past → asked ≡ request_answered beat.now past →
-        result ≡ elsewhere.block_borne beat.now past }
-{
-    match beat {
-        Beat::A(x) => Some(block_at(x.address)),
-        Beat::C(x) => Some(block_at(x.address)),
-        Beat::D(x) => block_answered(x, asked, messages),
-        Beat::E(x) => messages.grants_with(x.sink),
-        Beat::B(_) => None,
-    }
-}
 
 /// The block that a beat concerns, if the beat may change the permission that its link holds of it.
 fn held_of(block: u32, changes: bool) -> Option<u32>

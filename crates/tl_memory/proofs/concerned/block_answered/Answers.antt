@@ -6,7 +6,7 @@ use Rattle.tl_rules.specs.statement.{Conformance.comes_in_request, History.is_re
 use Rattle.tl_memory.specs.code.Early.{asks_with}
 use Rattle.tl_memory.specs.code.Elsewhere.{block_asked}
 use Rattle.tl_memory.proofs.messages.EarlyMessages.{asked-with, asks-with, picked, releases-block}
-use Rattle.tl_memory.proofs.memory.block_answered.Goals as goal
+use Rattle.tl_memory.proofs.concerned.block_answered.Goals as goal
 
 pub returns-then-is_release_ack : goal.returns-then-is_release_ack
 returns-then-is_release_ack g c = λ past k opened.

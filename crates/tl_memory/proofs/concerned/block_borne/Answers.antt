@@ -1,6 +1,6 @@
 use Rattle.std.proofs.Common.{◌∙◌}
 use Rattle.tl_memory.proofs.messages.EarlyMessages.{grants-block}
-use Rattle.tl_memory.proofs.memory.block_borne.Goals as goal
+use Rattle.tl_memory.proofs.concerned.block_borne.Goals as goal
 
 pub returns-in-D : goal.returns-in-D
 returns-in-D g c = λ past k asked.

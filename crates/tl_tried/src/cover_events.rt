@@ -194,8 +194,11 @@ impl CoverEvents {
         }
     }
 
-    /// Judges the next line, if no header of a trace with commits has been read.
-    fn take_other(&mut self, line: &[u8], out: &mut Vec<u8>) -> Result<Option<Fault>, AllocError>
+    /// Judges the first line, which may be the header of a trace with commits. It is called for no other line, since it
+    /// makes room for a covering.
+    #[cold]
+    #[inline(never)]
+    fn start(&mut self, line: &[u8], out: &mut Vec<u8>) -> Result<Option<Fault>, AllocError>
         requires { self.old.events ≡ None }
         ensures judges { IfOk result (Judges KnowsCommits (JudgedAny false self.old.plain.narrow.allow) self.old
             self.new line.now out.old.items out.new.items) }
@@ -209,6 +212,21 @@ impl CoverEvents {
                 drop(mem::replace(&mut self.events, Some(following)));
                 Ok(None)
             }
+        }
+    }
+
+    /// Judges the next line, if no header of a trace with commits has been read.
+    fn take_other(&mut self, line: &[u8], out: &mut Vec<u8>) -> Result<Option<Fault>, AllocError>
+        requires { self.old.events ≡ None }
+        ensures judges { IfOk result (Judges KnowsCommits (JudgedAny false self.old.plain.narrow.allow) self.old
+            self.new line.now out.old.items out.new.items) }
+        ensures purpose { IfOk result (λ _. self.new.plain.narrow.allow ≡ self.old.plain.narrow.allow) }
+        ensures ends { (fault : Fault) → result ≡ Ok (Some fault) →
+            Ends KnowsCommits EndsCommits self.old self.new line.now }
+    {
+        match self.plain.waiting() {
+            Some(_) => self.start(line, out),
+            None => self.plain.handle_line(line, out),
         }
     }
 }

@@ -18,11 +18,6 @@ use crate::params::{name_on_a, name_on_b, name_on_c, name_on_d};
 use std::alloc::AllocError;
 use tl_beat::beat::Beat;
 
-/// The uses of `append_text`: for each line of an input that is decoded, and for lines that are cited.
-pub const DECODED: usize = 0;
-
-pub const CITED: usize = 1;
-
 /// Room for a readable line, at least.
 const ROOM: usize = 128;
 
@@ -351,10 +346,9 @@ fn put_beat<const W: usize>(room: &mut [u8], line: &[u8], beat: &Beat<W>) -> usi
     }
 }
 
-/// Appends the readable line of the beat that a line spells. `USE` has no meaning: the compiler makes the code of each
-/// use by itself, and leaves out the fields of the beat that the use doesn't read.
+/// Appends the readable line of the beat that a line spells.
 #[inline(always)]
-pub fn append_text<const W: usize, const USE: usize>(
+pub fn append_text<const W: usize>(
     line: &[u8],
     beat: &Beat<W>,
     out: &mut Vec<u8>,

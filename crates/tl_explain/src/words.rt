@@ -8,7 +8,7 @@ ghost use Rattle.tl_beat.specs.statement.Width.{IsWidth};
 ghost use Rattle.tl_explain.specs.statement.Spelled.{spelled};
 ghost use Rattle.tl_explain.specs.statement.Sentences.{beat_line, perm_name};
 
-use crate::text::{CITED, append_text};
+use crate::text::append_text;
 use crate::told::Told;
 use crate::wording::Wording;
 use itoa::Buffer;
@@ -95,7 +95,7 @@ pub fn append_beat_line<const W: usize>(
     out.extend_from_slice(digits.format(number).as_bytes())?;
     out.extend_from_slice(b": ")?;
     match read_line::<W>(line) {
-        Ok((_, beat)) => append_text::<W, CITED>(line, &beat, out)?,
+        Ok((_, beat)) => append_text(line, &beat, out)?,
         Err(_) => out.push(b'\n')?,
     }
     Ok(())

@@ -12,7 +12,7 @@ use std::alloc::AllocError;
 use tl_beat::beat::{Beat, BeatE};
 use tl_beat::fault::LineFault;
 use tl_beat::read::{read_line, read_spelled};
-use tl_explain::text::{DECODED, append_text};
+use tl_explain::text::append_text;
 
 /// Judges lines of beats of `W` bytes (4, 8 or 16), each by itself. A line that spells a beat has a readable line.
 #[derive(Clone, Copy)]
@@ -61,7 +61,7 @@ impl<const W: usize> LineHandler for Decoder<W> {
     fn handle_line(&mut self, line: &[u8], out: &mut Vec<u8>) -> Result<Option<Fault>, AllocError> {
         match beat_of::<W>(line) {
             Ok(beat) => {
-                append_text::<W, DECODED>(line, &beat, out)?;
+                append_text(line, &beat, out)?;
                 Ok(None)
             }
             Err(fault) => Ok(Some(Fault::Line(fault))),

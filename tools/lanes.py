@@ -15,12 +15,14 @@ SHARE = 0.4
 
 @dataclasses.dataclass(frozen=True)
 class Task:
-    """A command that may have several jobs: the names of those that it waits for, its processor seconds and its bytes of memory."""
+    """A command that may have several jobs: the names of those that it waits for, its processor seconds, its bytes of memory, and the
+    most jobs that make it faster."""
 
     name: str
     waits: frozenset[str]
     seconds: float
     memory: int
+    most_jobs: int = MOST_JOBS
 
     def needs(self, jobs: int) -> float:
         """The bytes of memory that it takes with so many jobs."""
@@ -74,7 +76,7 @@ def choose(ready: list[Task], running: list[Running], cores: int, memory: float)
         idle = cores - used
         if idle <= 0:
             break
-        jobs = min(max(1, idle // (len(ready) - at)), MOST_JOBS)
+        jobs = min(max(1, idle // (len(ready) - at)), task.most_jobs)
         while jobs > 1 and task.needs(jobs) > free:
             jobs -= 1
         if task.needs(jobs) <= free or not (running or chosen):

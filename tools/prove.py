@@ -24,7 +24,8 @@ from verdicts import BUILT, ROOT, below, crates, faults, noted, sources
 CORES = int(os.environ.get("RT_JOBS") or 0) or len(os.sched_getaffinity(0))
 # What checks may take of the free memory.
 SPARED = 0.85
-# The processor seconds and the gigabytes of each crate's check. A crate that isn't listed counts by its lines.
+# The processor seconds and the gigabytes of each crate's check, and the most jobs that make it faster where these are fewer than
+# lanes.MOST_JOBS. A crate that isn't listed counts by its lines.
 COSTS = pathlib.Path(__file__).with_name("costs.txt")
 SECONDS_OF_A_LINE = 0.2
 BYTES = 3_000_000_000
@@ -84,7 +85,9 @@ def link(made, kit):
 def tasks(todo):
     """The checks of crates, with what each is likely to take."""
     lines = (line.split() for line in COSTS.read_text().splitlines() if line and not line.startswith("#"))
-    known = {crate: (float(seconds), int(float(gigabytes) * 1e9)) for crate, seconds, gigabytes in lines}
+    known = {
+        crate: (float(seconds), int(float(gigabytes) * 1e9), *map(int, most)) for crate, seconds, gigabytes, *most in lines
+    }
     for crate in sorted(todo):
         count = sum(it.read_bytes().count(b"\n") for it in (ROOT / "crates" / crate / "src").rglob("*.rt"))
         yield lanes.Task(crate, frozenset(todo & below(crate) - {crate}), *known.get(crate, (SECONDS_OF_A_LINE * count, BYTES)))

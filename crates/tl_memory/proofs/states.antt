@@ -14,3 +14,4 @@ pub mod Settling
 pub mod States
 pub mod Tables
 pub mod Taken
+pub mod Trees

@@ -1,4 +1,5 @@
 pub mod Allowed
+pub mod BlockMap
 pub mod Boxed
 pub mod ByteSet
 pub mod Changing

@@ -1,3 +1,4 @@
+pub mod BlockMap
 pub mod Blocks
 pub mod ByteChanges
 pub mod Expecting

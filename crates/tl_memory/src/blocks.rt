@@ -8,10 +8,10 @@ ghost use Rattle.tl_rules.specs.statement.Conformance.{Trace};
 ghost use Rattle.tl_memory.specs.declared.block.BlockState.{BlockState};
 
 use crate::block::BlockState;
+use crate::block_map::BlockMap;
 use crate::free::Freedom;
 use crate::next_state::NextState;
 use std::alloc::{AllocError, Global};
-use std::collections::BTreeMap;
 
 /// The states of blocks. There is none for a block that no beat concerned.
 #[derive(Drop)]
@@ -19,7 +19,7 @@ pub struct Blocks<const W: usize> {
     /// The states, in the order in which beats first concerned their blocks.
     states: Vec<BlockState<W>>,
     /// The place of each block among the states.
-    places: BTreeMap<u32, u32>,
+    places: BlockMap<u32>,
     /// The block that was met last, and its place.
     last: Option<(u32, usize)>,
 }
@@ -35,7 +35,7 @@ impl<const W: usize> Blocks<W> {
     {
         Blocks {
             states: Vec::new(alloc),
-            places: BTreeMap::new(alloc),
+            places: BlockMap::new(alloc),
             last: None,
         }
     }
@@ -44,9 +44,9 @@ impl<const W: usize> Blocks<W> {
     pub fn get(&self, block: u32) -> Option<&BlockState<W>>
         ensures { option_copied result ≡ state_in self.now block }
     {
-        match self.places.get(&block) {
+        match self.places.get(block) {
             None => None,
-            Some(place) => self.at(*place as usize),
+            Some(place) => self.at(place as usize),
         }
     }
 
@@ -62,8 +62,8 @@ impl<const W: usize> Blocks<W> {
         ensures known { (n : ℕ) (t : Trace W) → KnowsBlocks self.old n t → KnowsBlocks self.new n t }
         ensures found { IfOk result (λ place. place_in self.new block ≡ Some place) }
     {
-        if let Some(place) = self.places.get(&block) {
-            return Ok(*place as usize);
+        if let Some(place) = self.places.get(block) {
+            return Ok(place as usize);
         }
         let place = self.states.len();
         let Ok(number) = u32::try_from(place) else {

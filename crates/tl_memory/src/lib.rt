@@ -5,6 +5,7 @@ pub mod access;
 pub mod accesses;
 pub mod begun;
 pub mod block;
+pub mod block_map;
 pub mod blocks;
 mod boxed;
 pub mod byte_change;

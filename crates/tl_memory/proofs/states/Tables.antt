@@ -4,13 +4,13 @@ use Rattle.tl_memory.proofs.Imports.{Freedom, freedom}
 use Rattle.std.proofs.Common.{◌≡◌, ◌<◌, ℕ, zero, suc, true, false, [], ◌∷◌, ◌++◌, List, length, refl, sym, ap}
 use Rattle.std.proofs.Common.{◌∙◌, ◌⊎◌, arith, inl, inr, length-append}
 use Rattle.std.specs.Prelude.{if◌then◌else◌, None, Option, slice_get, slice_set, Some, ◌==◌}
-use Rattle.std.{specs.BTreeMap.get, specs.BTreeMap.is_at, specs.Map.lookup, specs.Ordering.nat_cmp}
 use Rattle.std.{proofs.lemmas.List.length-set, proofs.lemmas.Option.none-some, proofs.lemmas.Option.same_Some}
 use Rattle.std.proofs.lemmas.Bool.{cases_Bool, eq-eqb, eqb-true}
 use Rattle.tl_memory.{specs.code.Taking.IsNext, specs.code.Taking.put_next, specs.declared.next_state.NextState.NextState}
 use Rattle.tl_memory.{specs.declared.blocks.Blocks.Blocks, proofs.states.Elsewhere.byte-kept}
 use Rattle.tl_memory.{proofs.states.Elsewhere.stays}
 unfoldable use Rattle.tl_bytes.specs.statement.Early.{outrun_accesses}
+use Rattle.tl_memory.specs.statement.BlockMap.{value_in}
 use Rattle.tl_memory.specs.statement.Known.{AreInside}
 use Rattle.tl_memory.specs.statement.Blocks.{KnowsBlocks, KnowsKept, place_in, state_at, state_in}
 
@@ -39,9 +39,10 @@ next-unseen old next (Some v) n block x t none is = absurd (none v refl)
 
 -- ---- all states
 
-pub blocks-first : {w : ℕ} (b : Blocks w) (n : ℕ) → b.places.entries ≡ [] → b.last ≡ None → KnowsBlocks b n []
+pub blocks-first : {w : ℕ} (b : Blocks w) (n : ℕ) → ((block : ℕ) → place_in b block ≡ None) → b.last ≡ None
+    → KnowsBlocks b n []
 unfolding pending_accesses outrun_accesses
-blocks-first {w} b n none unmet = record {
+blocks-first {w} b n nowhere unmet = record {
   table_is = record {
     stand = λ block place e. absurd (none-some place (sym (nowhere block) ∙ e));
     apart = λ block other place e f. absurd (none-some place (sym (nowhere block) ∙ e));
@@ -50,9 +51,6 @@ blocks-first {w} b n none unmet = record {
   states_are = λ block. rw (nowhere block) (λ place lt. refl, λ s new. new);
   inside = record { inside = tt; reach_inside = tt };
 }
-  where
-    nowhere : (block : ℕ) → place_in b block ≡ None
-    nowhere block = ap (lookup (is_at (nat_cmp block))) none
 
 -- a state that is kept of another block, or none
 kept-stays : {w : ℕ} (o : Option (BlockState w)) (n block : ℕ) (x : Link × Beat w) (t : Trace w)
@@ -216,7 +214,7 @@ blocks-taken b new s next n block place x t items places last found at taken pas
 }
   where
     same : (other : ℕ) → place_in new other ≡ place_in b other
-    same other = ap (λ m. get nat_cmp m other) places
+    same other = ap (λ m. value_in m other) places
 
     there : state_in b block ≡ Some s
     there = ap (state_at b) at ∙ found

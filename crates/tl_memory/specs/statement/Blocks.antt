@@ -1,11 +1,10 @@
 -- The states of all blocks, after the beats of all links of a manager.
 use Rattle.std.specs.Prelude.{ℕ, [], ◌≡◌, ◌<◌, ◌+◌, ◌*◌, length, Option, Some, None, slice_get}
-use Rattle.std.specs.BTreeMap.{get}
-use Rattle.std.specs.Ordering.{nat_cmp}
 use Rattle.tl_rules.specs.statement.Conformance.{Trace}
 use Rattle.tl_bytes.specs.statement.Bytes.{may_be}
 use Rattle.tl_memory.specs.declared.block.BlockState.{BlockState}
 use Rattle.tl_memory.specs.declared.blocks.Blocks.{Blocks}
+use Rattle.tl_memory.specs.statement.BlockMap.{value_in}
 use Rattle.tl_memory.specs.statement.Known.{AreInside, KnowsState}
 
 -- the possible values of each byte of the block are those from before the trace
@@ -21,7 +20,7 @@ KnowsKept (Some s) n block t = KnowsState s n block t
 
 -- the place of a block among the states, if a state is kept
 abbrev pub place_in : {w : ℕ} → Blocks w → ℕ → Option ℕ
-place_in b block = get nat_cmp b.places block
+place_in b block = value_in b.places block
 
 -- the state at a place, if there is one
 abbrev pub state_at : {w : ℕ} → Blocks w → Option ℕ → Option (BlockState w)

@@ -3,4 +3,4 @@ use Rattle.tl_memory.proofs.states.Tables.{blocks-first}
 use Rattle.tl_memory.proofs.blocks.Blocks.new.Goals as goal
 
 pub returns : goal.returns
-returns g c = λ n. blocks-first _ n c.new-2.ensures.empty refl
+returns g c = λ n. blocks-first _ n c.new-2.ensures refl

@@ -31,9 +31,8 @@ use Rattle.tl_together.specs.statement.Coherence.{broken_beginning, broken_bytes
 use Rattle.tl_memory.specs.code.Taking.{request_answered}
 use Rattle.tl_params.specs.declared.memory_rule.MemoryRule.{MemoryRule}
 use Rattle.tl_params.specs.declared.memory_rule.MemoryRule.TheVariants.{M1, M4}
-use Rattle.tl_together.specs.declared.windows.Window.{Window}
 use Rattle.tl_together.specs.statement.Asked.{asked_at}
-use Rattle.tl_together.specs.code.Windows.{window_at, last_in, window_in, KnowsWindows}
+use Rattle.tl_together.specs.code.Windows.{Moments, window_at, last_in, window_in, KnowsWindows}
 use Rattle.tl_together.proofs.Windowed.{free_window, window-is}
 
 -- one link more
@@ -81,7 +80,7 @@ window_free links n link source given block t r links_is asked r_is free =
     ∙ free))
 
 pub window_asked : {w : ℕ} (links n link source : ℕ) (given : Perm) (block : ℕ) (t : Trace w) (r : Bool) (a last : ℕ)
-    (entries : List (ℕ × Window)) (noted : Option ℕ) → links ≡ n
+    (entries : Moments) (noted : Option ℕ) → links ≡ n
     → is_some (open_request source (on_link link t)) ≡ true
     → r ≡ is_free links given block t → r ≡ false → Some a ≡ noted → noted ≡ Some (asked_at link source t)
     → last ≡ last_in given (window_in entries block)

@@ -11,9 +11,9 @@ use Rattle.tl_params.specs.declared.rule.Rule.{Rule}
 use Rattle.tl_params.specs.declared.perm.Perm.TheVariants as perm
 use Rattle.tl_rules.specs.statement.Conformance.{Trace, on_link}
 use Rattle.tl_rules.specs.statement.Liberties.{broken_on_link_under}
+use Rattle.tl_memory.specs.statement.BlockMap.{value_in}
 use Rattle.tl_memory.specs.statement.Links.{KeepsRules}
 use Rattle.tl_rules.specs.statement.History.{pending}
-use Rattle.tl_together.specs.declared.windows.Window.{Window}
 use Rattle.tl_monitor.specs.statement.Knows as of_link
 use Rattle.tl_monitor.specs.declared.fault.MonitorFault.{MonitorFault}
 use Rattle.tl_monitor.specs.declared.fault.MonitorFault.TheVariants as monitor
@@ -27,7 +27,7 @@ use Rattle.tl_memory.specs.declared.free.Freedom.{Freedom}
 use Rattle.tl_memory.specs.statement.Memory.{KnowsMemory}
 use Rattle.tl_together.specs.statement.Coherence.{broken_memory, first_broken}
 use Rattle.tl_together.specs.statement.Knows.{Knows, KnowsTrace, Answers, fault_of, broken, closed_after}
-use Rattle.tl_together.specs.code.Windows.{NotesRequest, NotesWindow, KnowsAsked, KnowsWindows}
+use Rattle.tl_together.specs.code.Windows.{Moments, NotesRequest, NotesWindow, KnowsAsked, KnowsWindows}
 use Rattle.tl_together.specs.code.Windows.{fault_of_monitor, window_at, IsSaid, IsShown, LeavesOthers}
 use Rattle.tl_together.specs.code.Following.{Follows}
 use Rattle.tl_together.specs.code.Judged.{fault_but, judged}
@@ -96,7 +96,7 @@ still j j' levels may t closed link x next said before held k e e' links moment 
 
 -- a beat was taken
 pub taken : {w : ℕ} (j j' : Judge w) (levels : List Level) (may : Liberties) (t : Trace w) (closed : Bool) (link : Link)
-    (x : Beat w) (next : ℕ) (said : Option ℕ) (before : Freedom) (held : Option ℕ) (noted : List (ℕ × Window))
+    (x : Beat w) (next : ℕ) (said : Option ℕ) (before : Freedom) (held : Option ℕ) (noted : Moments)
     → Knows j levels may t closed
     → j.closed ≡ false → j'.closed ≡ false → j'.links ≡ j.links → next ≡ j.moment + 1 → j'.moment ≡ next
     → Follows j'.monitor levels may ((link, x) ∷ t)
@@ -213,11 +213,12 @@ refused_knows j j' levels may t closed judge.Levels k e links moment m asked win
 refused_knows j j' levels may t closed judge.Closed k e links moment m asked windows memory = shut j' levels may t e
 refused_knows j j' levels may t closed (judge.Broken b) k e links moment m asked windows memory = shut j' levels may t e
 
-none_yet : (w : ℕ) (entries : List (ℕ × Window)) (n : ℕ) → entries ≡ [] → KnowsWindows {w = w} entries n []
+none_yet : (w : ℕ) (entries : Moments) (n : ℕ) → ((k : ℕ) → value_in entries k ≡ None)
+    → KnowsWindows {w = w} entries n []
 unfolding window_at
-none_yet w entries n e perm.None b closed = rw e refl
-none_yet w entries n e perm.Branch b closed = rw e refl
-none_yet w entries n e perm.Trunk b closed = rw e refl
+none_yet w entries n e perm.None b closed = rw (e b) refl
+none_yet w entries n e perm.Branch b closed = rw (e b) refl
+none_yet w entries n e perm.Trunk b closed = rw (e b) refl
 
 none_asked : (w : ℕ) (tables : List (List (Option ℕ))) (n : ℕ) → KnowsAsked {w = w} tables n []
 unfolding pending on_link
@@ -225,7 +226,7 @@ none_asked w tables n link source lt some = absurd cc
 
 pub new_knows : {w : ℕ} (j : Judge w) (levels : List Level) (may : Liberties) → j.closed ≡ false → j.links ≡ length levels
     → j.moment ≡ 0 → Follows j.monitor levels may []
-    → length j.asked.items ≡ length levels → j.windows ≡ [] → KnowsMemory {w = w} j.memory (length levels) []
+    → length j.asked.items ≡ length levels → ((k : ℕ) → value_in j.windows k ≡ None) → KnowsMemory {w = w} j.memory (length levels) []
     → Knows j levels may [] false
 new_knows {w} j levels may e links moment m tables entries memory = record {
   closed_is = e;

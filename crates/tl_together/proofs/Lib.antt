@@ -3,6 +3,7 @@ pub mod Beside
 pub mod Examples
 pub mod Judging
 pub mod Noted
+pub mod Moments
 pub mod NotedWindows
 pub mod Stale
 pub mod Tracing

@@ -18,7 +18,7 @@ use Rattle.tl_together.specs.code.Following.{Follows}
 use Rattle.tl_monitor.specs.declared.monitor.Monitor.{Monitor}
 use Rattle.tl_bytes.specs.statement.Free.{is_free, may_hold}
 use Rattle.tl_together.specs.declared.windows.Window.{Window}
-use Rattle.tl_together.specs.code.Windows.{is_noted, last_in, window_at, window_in, HasNoted, IsShown}
+use Rattle.tl_together.specs.code.Windows.{Moments, is_noted, last_in, window_at, window_in, HasNoted, IsShown}
 use Rattle.tl_together.specs.code.Windows.{IsSaid, KnowsWindows, LeavesOthers, NotesWindow}
 use Rattle.tl_bytes.specs.statement.Shown.{shows}
 use Rattle.tl_monitor.proofs.OnLink.{other_link, own_link}
@@ -36,7 +36,7 @@ same_after block link x t b leaves' apart l = elim (cases_eq link.0 l) [
 ]
 
 -- the table of windows with one more beat, and its moment where that shows the bytes of a block
-pub windows_more : {w : ℕ} (n : ℕ) (block : Option ℕ) (entries shown : List (ℕ × Window)) (link : Link) (x : Beat w)
+pub windows_more : {w : ℕ} (n : ℕ) (block : Option ℕ) (entries shown : Moments) (link : Link) (x : Beat w)
     (t : Trace w) → KnowsWindows entries n t
     → LeavesOthers block x (on_link link.0 t)
     → IsShown (suc (length t)) x (on_link link.0 t) entries shown
@@ -69,7 +69,7 @@ windows_more {w} n block entries shown link x t still leaves' is noted given b g
 
 -- the window of a block, set anew
 pub notes_window : {w : ℕ} (m : Monitor w) (links moment b r v : ℕ) (said : Option ℕ) (before : Freedom)
-    (old new : List (ℕ × Window))
+    (old new : Moments)
     (rf wf : Bool)
     → ((levels : List Level) (may : Liberties) (t : Trace w) → Follows m levels may t → links ≡ length levels
     → IsSaid said before (length levels) t → rf ≡ is_free (length levels) perm.Branch b t)
@@ -141,7 +141,7 @@ notes_window {w} m links moment b r v said before old new rf wf reads writes r_i
     ]
 
 pub notes_no_window : {w : ℕ} (m : Monitor w) (links moment : ℕ) (said : Option ℕ) (before : Freedom)
-    (old : List (ℕ × Window))
+    (old : Moments)
     → NotesWindow m links moment said before None old old
 notes_no_window m links moment said before old levels may t k links_is moment_is known still = (
   still,
@@ -149,5 +149,5 @@ notes_no_window m links moment said before old levels may t k links_is moment_is
       (λ given c here free some. true_false (sym here)),
 )
 
-pub has_noted : (b : ℕ) (entries : List (ℕ × Window)) → is_noted entries b ≡ true → HasNoted (Some b) entries
+pub has_noted : (b : ℕ) (entries : Moments) → is_noted entries b ≡ true → HasNoted (Some b) entries
 has_noted b entries noted c here = ap (is_noted entries) (eqb-true c b here) ∙ noted

@@ -23,8 +23,7 @@ use Rattle.tl_monitor.specs.statement.Knows.{begins_on}
 use Rattle.tl_params.specs.declared.level.Level.{Level}
 use Rattle.tl_rules.specs.statement.Conformance.{Trace, on_link}
 use Rattle.tl_rules.specs.statement.History.{block_at, ends, is_probe_ack, is_release}
-use Rattle.tl_together.specs.code.Windows.{is_noted, shown_window, window_in, HasNoted, IsShown, LeavesOthers, MayShow}
-use Rattle.tl_together.specs.declared.windows.Window.{Window}
+use Rattle.tl_together.specs.code.Windows.{Moments, is_noted, shown_window, window_in, HasNoted, IsShown, LeavesOthers, MayShow}
 use Rattle.tl_monitor.proofs.Within.{ends_within}
 
 -- ---- the beat
@@ -52,7 +51,7 @@ either_leaves None held x past own others = others
 either_leaves (Some k) held x past own others = own k refl
 
 -- where one of the two is noted, the first is
-pub first_noted : (shown held : Option ℕ) (entries : List (ℕ × Window)) → HasNoted (option_or shown held) entries
+pub first_noted : (shown held : Option ℕ) (entries : Moments) → HasNoted (option_or shown held) entries
     → HasNoted shown entries
 first_noted None held entries noted b here = absurd cc
 first_noted (Some k) held entries noted b here = noted b here
@@ -65,17 +64,17 @@ complete_is levels link x t b lt b_is =
     b_is ∙ ends_within levels link lt x t
 
 -- no block is shown
-pub shown_none : {w : ℕ} (moment : ℕ) (x : Beat w) (past : History w) (entries : List (ℕ × Window))
+pub shown_none : {w : ℕ} (moment : ℕ) (x : Beat w) (past : History w) (entries : Moments)
     → MayShow None x past → IsShown moment x past entries entries
 shown_none moment x past entries may block =
     rw (may block ∙ and-false (ends x past)) refl
 
 -- none yet
-pub shown_later : {w : ℕ} (moment : ℕ) (x : Beat w) (past : History w) (shown : Option ℕ) (entries : List (ℕ × Window))
+pub shown_later : {w : ℕ} (moment : ℕ) (x : Beat w) (past : History w) (shown : Option ℕ) (entries : Moments)
     → MayShow shown x past → ends x past ≡ false → IsShown moment x past entries entries
 shown_later moment x past shown entries may goes_on block = rw (may block, goes_on) refl
 
-pub shown_now : {w : ℕ} (moment k : ℕ) (x : Beat w) (past : History w) (old new : List (ℕ × Window))
+pub shown_now : {w : ℕ} (moment k : ℕ) (x : Beat w) (past : History w) (old new : Moments)
     → MayShow (Some k) x past → ends x past ≡ true → HasNoted (Some k) old
     → ((b : ℕ) → window_in new b
     ≡ (if (b == k) && is_noted old b then shown_window moment (window_in old b) else window_in old b))

@@ -1,11 +1,12 @@
 //! The last moments at which blocks could be accessed.
 
-ghost use Rattle.std.specs.Prelude.{ℕ, [], true, OnOk, OnErr, if◌then◌else◌, ◌==◌, ◌&&◌, ◌≡◌};
+ghost use Rattle.std.specs.Prelude.{ℕ, None, true, OnOk, OnErr, if◌then◌else◌, ◌==◌, ◌&&◌, ◌≡◌};
+ghost use Rattle.tl_memory.specs.statement.BlockMap.{value_in};
 ghost use Rattle.tl_together.specs.code.Windows.{latest_window};
 
 use std::alloc::{AllocError, Global};
-use std::collections::BTreeMap;
 use std::marker::Model;
+use tl_memory::block_map::BlockMap;
 use tl_memory::free::Freedom;
 
 /// The last moments at which a block could be read and written: the numbers of beats taken by then.
@@ -41,16 +42,16 @@ fn latest_window(free: Freedom, moment: u64, before: Window) -> Window
 /// The last moments at which blocks could be accessed. None is kept for a block that was always free.
 #[derive(Drop)]
 pub struct Windows {
-    moments: BTreeMap<u32, Window>,
+    moments: BlockMap<Window>,
 }
 
 impl Model for Windows {
     ghost use Rattle.std.specs.Prelude.{ℕ, List};
     ghost use Rattle.tl_together.specs.declared.windows.Window.{Window};
 
-    ghost Value = { List (ℕ × Window) };
+    ghost Value = { List (List (ℕ × Window)) };
 
-    ghost view = { λ w. w.moments.entries };
+    ghost view = { λ w. w.moments };
 }
 
 impl Windows {
@@ -58,10 +59,10 @@ impl Windows {
 
     /// No moment of any block.
     pub fn new(alloc: Global) -> Self
-        ensures { result ≡ [] }
+        ensures { (k : ℕ) → value_in result k ≡ None }
     {
         Windows {
-            moments: BTreeMap::new(alloc),
+            moments: BlockMap::new(alloc),
         }
     }
 
@@ -69,9 +70,9 @@ impl Windows {
     pub fn get(&self, block: u32) -> Window
         ensures { result ≡ window_in self.now block }
     {
-        match self.moments.get(&block) {
+        match self.moments.get(block) {
             None => NONE_NOTED,
-            Some(window) => *window,
+            Some(window) => window,
         }
     }
 
@@ -83,26 +84,29 @@ impl Windows {
         ensures noted { OnOk result (is_noted self.new block ≡ true) }
         ensures unchanged { OnErr result (self.new ≡ self.old) }
     {
-        if let Some(window) = self.moments.get_mut(&block) {
-            *window = latest_window(free, moment, *window);
-            return Ok(());
-        }
-        let window = latest_window(free, moment, NONE_NOTED);
-        match self.moments.insert(block, window) {
-            Ok(_) => Ok(()),
-            Err(_) => Err(AllocError),
+        match self.moments.get(block) {
+            None => self
+                .moments
+                .insert(block, latest_window(free, moment, NONE_NOTED)),
+            Some(window) => {
+                self.moments
+                    .replace(block, latest_window(free, moment, window));
+                Ok(())
+            }
         }
     }
+
     /// Notes that the bytes of a block are shown at this moment, if a moment of the block was noted.
     pub fn show(&mut self, block: u32, moment: u64)
         ensures { (k : ℕ) → window_in self.new k ≡ (if (k == block) && is_noted self.old k
             then shown_window moment (window_in self.old k) else window_in self.old k) }
     {
-        if let Some(window) = self.moments.get_mut(&block) {
-            *window = Window {
+        if let Some(window) = self.moments.get(block) {
+            let shown = Window {
                 reading: moment,
                 writing: window.writing,
             };
+            self.moments.replace(block, shown);
         }
     }
 }

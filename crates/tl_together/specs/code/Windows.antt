@@ -1,9 +1,6 @@
 -- When blocks could last be accessed, and requests were complete, counted in beats, and the tables of it.
 use Rattle.std.specs.Prelude.{ℕ, suc, Bool, true, false, [], ◌∷◌, ◌&&◌, ◌≡◌, ◌<◌, if◌then◌else◌, List}
 use Rattle.std.specs.Prelude.{length, Option, Some, None, is_some, slice_index_or, ⊤}
-use Rattle.std.specs.BTreeMap.{is_at}
-use Rattle.std.specs.Map.{lookup}
-use Rattle.std.specs.Ordering.{nat_cmp}
 use Rattle.tl_params.specs.declared.perm.Perm.{Perm}
 use Rattle.tl_params.specs.declared.perm.Perm.TheVariants as perm
 use Rattle.tl_rules.specs.statement.OpenMessages.{open_request}
@@ -13,6 +10,7 @@ use Rattle.tl_beat.specs.declared.beat.Link.{Link}
 use Rattle.tl_params.specs.declared.level.Level.{Level}
 use Rattle.tl_params.specs.declared.liberties.Liberties.{Liberties}
 use Rattle.tl_monitor.specs.declared.monitor.Monitor.{Monitor}
+use Rattle.tl_memory.specs.statement.BlockMap.{value_in}
 use Rattle.tl_memory.specs.statement.Links.{KeepsRules}
 use Rattle.tl_together.specs.code.Following.{Follows}
 use Rattle.tl_monitor.specs.code.LinkState.{is_block}
@@ -41,16 +39,20 @@ window_at n given block (x ∷ t) = if is_window n given block x t then suc (len
 abbrev pub asked_in : List (List (Option ℕ)) → ℕ → ℕ → Option ℕ
 asked_in tables link source = at (slice_index_or tables link []) source
 
+-- the last moments of blocks, as a map of blocks keeps them
+abbrev pub Moments : Type 0
+Moments = List (List (ℕ × Window))
+
 -- something is noted of the block
-abbrev pub is_noted : List (ℕ × Window) → ℕ → Bool
-is_noted entries block = is_some (lookup (is_at (nat_cmp block)) entries)
+abbrev pub is_noted : Moments → ℕ → Bool
+is_noted entries block = is_some (value_in entries block)
 
 abbrev pub window_or_none : Option Window → Window
 window_or_none None = record { reading = 0; writing = 0 }
 window_or_none (Some window) = window
 
-abbrev pub window_in : List (ℕ × Window) → ℕ → Window
-window_in entries block = window_or_none (lookup (is_at (nat_cmp block)) entries)
+abbrev pub window_in : Moments → ℕ → Window
+window_in entries block = window_or_none (value_in entries block)
 
 -- the last moments of a block with this one, for which it is free now
 abbrev pub latest_window : Freedom → ℕ → Window → Window
@@ -74,7 +76,7 @@ KnowsAsked tables n t = (link source : ℕ) → link < n → is_some (open_reque
     → asked_in tables link source ≡ Some (asked_at link source t)
 
 -- of each block that isn't free the table has the last moment at which one could access it
-abbrev pub KnowsWindows : {w : ℕ} → List (ℕ × Window) → ℕ → Trace w → Type 0
+abbrev pub KnowsWindows : {w : ℕ} → Moments → ℕ → Trace w → Type 0
 KnowsWindows entries n t = (given : Perm) (block : ℕ) → is_free n given block t ≡ false
     → last_in given (window_in entries block) ≡ window_at n given block t
 
@@ -97,7 +99,7 @@ NotesRequest {w} m old new link x next = (length new ≡ length old)
     → KnowsAsked new (length levels) ((link, x) ∷ t)))
 
 -- the table with the moment of a beat, if that shows the bytes of a block
-abbrev pub IsShown : {w : ℕ} → ℕ → Beat w → History w → List (ℕ × Window) → List (ℕ × Window) → Type 0
+abbrev pub IsShown : {w : ℕ} → ℕ → Beat w → History w → Moments → Moments → Type 0
 IsShown moment x past old new = (block : ℕ) → window_in new block
     ≡ (if shows block x past then shown_window moment (window_in old block) else window_in old block)
 
@@ -122,17 +124,17 @@ IsSaid held free n t = (block : ℕ) → held ≡ Some block → IsFreeFor free 
 
 -- The same of the table of windows, with a beat that changes what is held of no other block; before it a block was free
 -- for these, if there is one.
-abbrev pub NotesWindow : {w : ℕ} → Monitor w → ℕ → ℕ → Option ℕ → Freedom → Option ℕ → List (ℕ × Window)
-    → List (ℕ × Window) → Type 0
+abbrev pub NotesWindow : {w : ℕ} → Monitor w → ℕ → ℕ → Option ℕ → Freedom → Option ℕ → Moments
+    → Moments → Type 0
 NotesWindow {w} m links moment said free held old new =
     (levels : List Level) (l : Liberties) (t : Trace w) → Follows m levels l t → links ≡ length levels
     → moment ≡ length t → IsSaid said free (length levels) t → KnowsWindows old (length levels) t
     → KnowsWindows new (length levels) t
-    × ((link : Link) (x : Beat w) (shown : List (ℕ × Window)) → LeavesOthers held x (on_link link.0 t)
+    × ((link : Link) (x : Beat w) (shown : Moments) → LeavesOthers held x (on_link link.0 t)
     → IsShown (suc (length t)) x (on_link link.0 t) new shown → KnowsWindows shown (length levels) ((link, x) ∷ t))
 
 -- something is noted of this block, if there is one
-abbrev pub HasNoted : Option ℕ → List (ℕ × Window) → Type 0
+abbrev pub HasNoted : Option ℕ → Moments → Type 0
 HasNoted held entries = (block : ℕ) → is_block block held ≡ true → is_noted entries block ≡ true
 
 -- the beat shows the bytes of this block, if there is one, if its message is complete
@@ -140,7 +142,7 @@ abbrev pub MayShow : {w : ℕ} → Option ℕ → Beat w → History w → Type 
 MayShow shown x past = (block : ℕ) → shows block x past ≡ (ends x past && is_block block shown)
 
 -- the moment of a beat that was taken is noted, if that shows the bytes of a block of which something is noted
-abbrev pub NotesShown : {w : ℕ} → Monitor w → Option ℕ → Link → Beat w → ℕ → List (ℕ × Window) → List (ℕ × Window)
+abbrev pub NotesShown : {w : ℕ} → Monitor w → Option ℕ → Link → Beat w → ℕ → Moments → Moments
     → Type 0
 NotesShown {w} m shown link x moment old new =
     (levels : List Level) (l : Liberties) (t : Trace w) → Follows m levels l ((link, x) ∷ t)

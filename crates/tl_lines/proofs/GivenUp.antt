@@ -16,10 +16,10 @@ use Rattle.tl_lines.specs.statement.Run.{GivesUpFor}
 use Rattle.tl_lines.specs.statement.Lines.{lines_ended, lines_of, ended_lines}
 use Rattle.tl_lines.specs.code.Judging.{KnowsFor}
 use Rattle.tl_lines.specs.statement.Parts.{AppendsShort}
-use Rattle.tl_lines.specs.code.Progress.{Feeds, FinishesInput, GivesUp, GivesUpWithin, Progress}
+use Rattle.tl_lines.specs.code.Progress.{Continues, Feeds, FinishesInput, GivesUp, GivesUpWithin, Progress}
 use Rattle.tl_lines.specs.code.Progress.{lines_judged}
 use Rattle.tl_lines.proofs.InputLines.{ended_lines-append}
-use Rattle.tl_lines.proofs.Progress.{all_lines}
+use Rattle.tl_lines.proofs.Progress.{LeadsTo, all_lines}
 use Rattle.tl_lines.proofs.Runs.{same_text}
 
 numbers_end : (last whole first rest judged count : ℕ) → whole ≡ first + rest → first ≡ judged → count ≡ judged
@@ -72,6 +72,14 @@ module _ {H : Type 0} (knows : H → List (List ℕ) → List ℕ → Type 0) (t
     gives_up_last (Ok status) a b taken rest piece was mid cut feeds gives = tt
     gives_up_last (Err fault) a b taken rest piece was mid cut feeds gives =
         gives_up_within a b taken rest piece was mid fault cut feeds gives
+
+    pub gives_up_after : (old state : Lines H) (first after line rest was mid : List ℕ) (fault : ToolFault)
+        → LeadsTo knows tells old first after state line rest was mid → GivesUp state.count fault
+        → (begun : Lines H) (part : List ℕ) → Continues begun old part first
+        → GivesUpWithin knows begun (part ++ after) was fault
+    gives_up_after old state first after line rest was mid fault leads gives = λ begun part first_is.
+        let (now, taken, ended, there, cut, feeds) = leads begun part first_is in
+        gives_up_within begun now taken (ended ++ rest) (part ++ after) was mid fault cut feeds (rw there.3 gives)
 
     -- nothing was written
     pub unjudged : (fault : ToolFault) (state : Lines H) (piece : List ℕ) (held : Option (List ℕ))

@@ -13,7 +13,8 @@ use Rattle.tl_lines.specs.declared.status.Status.TheVariants.{Clean, Broken}
 use Rattle.tl_lines.specs.statement.Fault.{fault_text}
 use Rattle.tl_lines.specs.code.Judging.{Ends, EndsHere, Finishes}
 use Rattle.tl_lines.specs.statement.Lines.{lines_of, LacksLf, IsLine, IsOpen}
-use Rattle.tl_lines.specs.code.Progress.{Progress, StopsAt, CountsLine, EndsWithin, Feeds, FinishesInput, HasAll}
+use Rattle.tl_lines.specs.code.Progress.{Continues, Progress, StopsAt, CountsLine, EndsWithin, Feeds, FinishesInput}
+use Rattle.tl_lines.specs.code.Progress.{HasAll}
 use Rattle.tl_lines.proofs.InputLines.{lines_of-line, lines_of-begun, lines_of-rest, ends-lacks, open_from}
 use Rattle.tl_lines.proofs.InputLines.{ended_lines-append, ended_lines-lacks, ended_lines-line}
 
@@ -153,6 +154,57 @@ module _ {H : Type 0} (knows : H → List (List ℕ) → List ℕ → Type 0) (t
     feeds_last (Ok Broken) a b c taken next piece was mid is cut first second =
         feeds_until a b c taken next [] next piece was mid is cut (append-nil next) first second
 
+    -- The lines that are judged from a whole line on. The first may have begun earlier, when the lines stood as `begun` says.
+    abbrev pub LeadsTo : Lines H → List ℕ → List ℕ → Lines H → List ℕ → List ℕ → List ℕ → List ℕ → Type 0
+    LeadsTo old first after state line rest was is =
+        (begun : Lines H) (part : List ℕ) → Continues begun old part first
+        → (now : Lines H) × (taken ended : List ℕ) × Continues now state ended line
+        × (taken ++ (ended ++ rest) ≡ part ++ after) × Feeds knows tells begun now taken was is Clean
+
+    pub leads_start : (old : Lines H) (first after was : List ℕ) → LeadsTo old first after old first after was was
+    leads_start old first after was = λ begun part first_is.
+        (begun, [], part, first_is, refl, λ read before p. rw append-nil p)
+
+    -- the last of them was judged
+    feeds_ended : (now state new : Lines H) (ended line was is : List ℕ) (status : Status)
+        → Continues now state ended line → new.begun.items ≡ []
+        → CountsLine knows tells state.handler new.handler state.count new.count line was is status
+        → Feeds knows tells now new ended was is status
+    feeds_ended now state new ended line was is status there none counts =
+        feeds_line now new ended was is status there.0 none (rw (there.1, there.2, there.3) counts)
+
+    pub leads_past : (old state new : Lines H) (first after line rest was mid is : List ℕ)
+        → LeadsTo old first after state line rest was mid → new.begun.items ≡ []
+        → CountsLine knows tells state.handler new.handler state.count new.count line mid is Clean
+        → (begun : Lines H) (part : List ℕ) → Continues begun old part first
+        → (taken : List ℕ) × (taken ++ rest ≡ part ++ after) × Feeds knows tells begun new taken was is Clean
+    leads_past old state new first after line rest was mid is leads none counts = λ begun part first_is.
+        let (now, taken, ended, there, cut, feeds) = leads begun part first_is in (
+          taken ++ ended,
+          append_assoc taken ended rest ∙ cut,
+          feeds_then begun now new taken ended (taken ++ ended) was mid is refl feeds
+              (feeds_ended now state new ended line mid is Clean there none counts),
+        )
+
+    pub leads_on : (old state new : Lines H) (first after line rest next more was mid is : List ℕ)
+        → LeadsTo old first after state line rest was mid → new.begun.items ≡ []
+        → CountsLine knows tells state.handler new.handler state.count new.count line mid is Clean
+        → IsLine next → next ++ more ≡ rest → LeadsTo old first after new next more was is
+    leads_on old state new first after line rest next more was mid is leads none counts ends cut = λ begun part first_is.
+        let (taken, all, feeds) =
+        leads_past old state new first after line rest was mid is leads none counts begun part first_is in
+        (new, taken, next, (ends, rw none refl, refl, refl), rw cut all, feeds)
+
+    pub leads_until : (old state new : Lines H) (first after line rest was mid is : List ℕ)
+        → LeadsTo old first after state line rest was mid → new.begun.items ≡ []
+        → CountsLine knows tells state.handler new.handler state.count new.count line mid is Broken
+        → (begun : Lines H) (part : List ℕ) → Continues begun old part first
+        → Feeds knows tells begun new (part ++ after) was is Broken
+    leads_until old state new first after line rest was mid is leads none counts = λ begun part first_is.
+        let (now, taken, ended, there, cut, feeds) = leads begun part first_is in
+        feeds_until begun now new taken ended rest (ended ++ rest) (part ++ after) was mid is cut refl feeds
+        (feeds_ended now state new ended line mid is Broken there none counts)
+
     -- nothing more comes
     pub all_lines : (state : Lines H) (read text : List ℕ) (p : Progress knows state read text)
         → lines_of read ≡ p.lines ++ lines_of state.begun.items
@@ -249,6 +301,16 @@ module _ {H : Type 0} (knows : H → List (List ℕ) → List ℕ → Type 0) (e
       → EndsWithin knows ends a c piece was
   ends_until tells a b c taken line after rest piece was mid cut behind first has =
       feeds_until knows (Has c) a b b taken line after rest piece was mid mid cut behind first has
+
+  -- in a line that is judged after others
+  pub ends_after : (tells : List (List ℕ) → List ℕ → Status → Type 0) (old state : Lines H) (new : H)
+      (first after line rest was mid : List ℕ) → LeadsTo knows tells old first after state line rest was mid
+      → Ends knows ends state.handler new line → (begun : Lines H) (part : List ℕ) → Continues begun old part first
+      → EndsWithin knows ends begun new (part ++ after) was
+  ends_after tells old state new first after line rest was mid leads has = λ begun part first_is.
+      let (now, taken, ended, there, cut, feeds) = leads begun part first_is in
+      ends_until tells begun now new taken ended rest (ended ++ rest) (part ++ after) was mid cut refl feeds
+      (ends_line now new ended mid there.0 (rw (there.1, there.2) has))
 
   -- at the end of the input
   pub has_open : (r : Result Status ToolFault) (state : Lines H) → (length state.begun.items == 0) ≡ false

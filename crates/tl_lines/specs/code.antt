@@ -1,3 +1,4 @@
+pub mod FirstLine
 pub mod GivenUp
 pub mod HeadReading
 pub mod Judging

@@ -1,13 +1,13 @@
 //! Splits an input that comes in pieces into its lines.
 
-ghost use Rattle.std.specs.Prelude.{◌≡◌, ◌+◌, ◌++◌, [], ◌≤◌, ◌<◌, ◌^◌, ◌-◌, ◌==◌, not, ℕ, List, length, if◌then◌else◌};
-ghost use Rattle.std.specs.Prelude.{IfOk, IfErr, MatchOption, Ok};
-ghost use Rattle.std.specs.List.{prefix_len};
+ghost use Rattle.std.specs.Prelude.{◌≡◌, ◌+◌, ◌++◌, [], ◌≤◌, ◌<◌, ◌^◌, ◌-◌, ℕ, List, length, if◌then◌else◌};
+ghost use Rattle.std.specs.Prelude.{IfOk, IfErr, MatchOption, Ok, take};
 ghost use Rattle.memchr.specs.Find.{IsFirstByte, is_byte};
 ghost use Rattle.tl_lines.specs.statement.Fault.{fault_text};
 ghost use Rattle.tl_lines.specs.code.Judging.{Ends};
 ghost use Rattle.tl_lines.specs.statement.Lines.{IsLine, IsOpen, LacksLf, lines_of};
-ghost use Rattle.tl_lines.specs.code.Progress.{CountsLine, EndsWithin, Feeds, FinishesInput, GivesUp, HasAll};
+ghost use Rattle.tl_lines.specs.code.FirstLine.{marks};
+ghost use Rattle.tl_lines.specs.code.Progress.{Continues, CountsLine, EndsWithin, Feeds, FinishesInput, GivesUp, HasAll};
 ghost use Rattle.tl_lines.specs.code.Progress.{GivesUpWithin, Progress, StopsAt, lines_judged};
 
 use crate::fault::{Fault, append_fault};
@@ -16,7 +16,8 @@ use crate::status::{Status, ToolFault};
 use arrayvec::ArrayVec;
 use memchr::memchr;
 use std::alloc::AllocError;
-use std::simd::u8x64;
+use std::mem;
+use std::simd::u8x16;
 
 /// A handler, the number of lines that it has judged, and the beginning of a line whose end hasn't come.
 #[derive(Drop)]
@@ -36,30 +37,42 @@ impl From<AllocError> for ToolFault {
     }
 }
 
-/// The number of these bytes before the first LF.
+/// Which of the first 16 bytes are LF: a bit each, that of the first byte the lowest.
 #[inline(always)]
-fn near_end(bytes: &[u8; 64]) -> usize
-    ensures { result ≡ prefix_len (λ b. not (b == 10)) bytes.now }
+fn ends_among(bytes: &[u8]) -> u64
+    requires { 16 ≤ length bytes.now }
+    ensures { result ≡ marks (take 16 bytes.now) }
 {
-    let ends = u8x64::from_array(*bytes)
-        .simd_eq(u8x64::splat(b'\n'))
-        .to_bitmask();
-    if ends == 0 {
-        64
-    } else {
-        ends.trailing_zeros() as usize
-    }
+    u8x16::from_slice(bytes)
+        .simd_eq(u8x16::splat(b'\n'))
+        .to_bitmask()
 }
 
-/// The place of the first LF, which is mostly among the first 64 bytes.
+/// Which of the first 48 bytes are LF.
+#[inline(always)]
+fn near_ends(bytes: &[u8]) -> u64
+    requires { 48 ≤ length bytes.now }
+    ensures { result ≡ marks (take 48 bytes.now) }
+{
+    let front = ends_among(bytes);
+    let middle = ends_among(&bytes[16..]);
+    let back = ends_among(&bytes[32..]);
+    front + (middle << 16) + (back << 32)
+}
+
+/// The place of the first LF, which is mostly among the first 48 bytes, and else among the next 16.
 #[inline(always)]
 fn line_end(bytes: &[u8]) -> Option<usize>
     ensures { IsFirstByte (is_byte 10) bytes.now result }
 {
-    if let Some(front) = bytes.first_chunk::<64>() {
-        let end = near_end(front);
-        if end < 64 {
-            return Some(end);
+    if bytes.len() >= 64 {
+        let near = near_ends(bytes);
+        if near != 0 {
+            return Some(near.trailing_zeros() as usize);
+        }
+        let far = ends_among(&bytes[48..]);
+        if far != 0 {
+            return Some(48 + far.trailing_zeros() as usize);
         }
     }
     memchr(b'\n', bytes)
@@ -83,6 +96,19 @@ fn number_after(count: u64) -> Result<u64, ToolFault>
     count.checked_add(1).ok_or(ToolFault::Read)
 }
 
+/// Counts a line that was judged; `Read` after line 2^64 - 1, the last.
+#[inline(always)]
+fn count_line(count: &mut u64) -> Result<(), ToolFault>
+    ensures next { IfOk result (λ _. count.new ≡ count.old + 1) }
+    ensures fault { IfErr result (λ fault. (fault ≡ ToolFault.Read) × (count.old ≡ 2 ^ 64 - 1)) }
+{
+    *count = count.wrapping_add(1);
+    if *count == 0 {
+        return Err(ToolFault::Read);
+    }
+    Ok(())
+}
+
 /// Judges the line after these, and appends its text or its fault.
 #[inline(always)]
 fn handle_counted_line<H: LineHandler>(
@@ -97,27 +123,26 @@ fn handle_counted_line<H: LineHandler>(
     ensures ends { result ≡ Ok Status.Broken → Ends H.knows H.ends handler.old handler.new line.now }
     ensures fault { IfErr result (GivesUp count.old) }
 {
-    let number = number_after(*count)?;
     match handler.handle_line(line, out)? {
         None => {
-            *count = number;
+            count_line(count)?;
             Ok(Status::Clean)
         }
         Some(fault) => {
-            append_fault(number, fault, out)?;
+            append_fault(number_after(*count)?, fault, out)?;
             Ok(Status::Broken)
         }
     }
 }
 
-/// Joins a line to the beginning that has come, and returns false. A line without such a beginning is at hand if it
-/// isn't too long: nothing changes, and true is returned. None if the whole line has more than 256 bytes.
+/// Joins a line to the beginning that has come, and returns false. A line without such a beginning is at hand: nothing
+/// changes, and true is returned. None if a joined line has more than 256 bytes.
 #[inline(always)]
 fn join(begun: &mut ArrayVec<u8, 256>, line: &[u8]) -> Option<bool>
     ensures { MatchOption result (256 < length begun.old.items + length line.now) (λ at_hand.
         (if at_hand then line.now else begun.new.items) ≡ begun.old.items ++ line.now) }
 {
-    if begun.is_empty() && line.len() <= 256 {
+    if begun.is_empty() {
         return Some(true);
     }
     if begun.try_extend_from_slice(line).is_err() {
@@ -214,6 +239,43 @@ impl<H: LineHandler> Lines<H> {
         Ok(Status::Clean)
     }
 
+    /// Judges a whole line and the lines that end in the bytes after it, and keeps the beginning of the next. Only the
+    /// first line can have begun in an earlier piece, so that no other one is joined.
+    #[inline(always)]
+    fn judge_lines<'a>(
+        &mut self,
+        first: &'a [u8],
+        after: &'a [u8],
+        out: &mut Vec<u8>,
+    ) -> Result<Status, ToolFault>
+        requires { self.old.begun.items ≡ [] }
+        ensures feeds { (begun : Lines H) (part : List ℕ) → Continues begun self.old part first.now →
+            IfOk result (Feeds H.knows (H.tells (H.purpose self.old.handler)) begun self.new (part ++ after.now)
+            out.old.items out.new.items) }
+        ensures purpose { IfOk result (λ _. H.purpose self.new.handler ≡ H.purpose self.old.handler) }
+        ensures ends { (begun : Lines H) (part : List ℕ) → Continues begun self.old part first.now →
+            result ≡ Ok Status.Broken → EndsWithin H.knows H.ends begun self.new.handler (part ++ after.now)
+            out.old.items }
+        ensures fault { (begun : Lines H) (part : List ℕ) → Continues begun self.old part first.now →
+            IfErr result (GivesUpWithin H.knows begun (part ++ after.now) out.old.items) }
+    {
+        let mut line = first;
+        let mut rest = after;
+        loop {
+            match handle_counted_line(&mut self.handler, &mut self.count, line, out)? {
+                Status::Clean => {}
+                Status::Broken => return Ok(Status::Broken),
+            }
+            match first_line(rest) {
+                Some((next, after)) => {
+                    line = next;
+                    rest = after;
+                }
+                None => return self.keep(rest, out),
+            }
+        }
+    }
+
     /// Judges the lines that end in a piece of the input, and keeps the beginning of the next.
     pub fn feed(&mut self, piece: &[u8], out: &mut Vec<u8>) -> Result<Status, ToolFault>
         ensures feeds { IfOk result (Feeds H.knows (H.tells (H.purpose self.old.handler)) self.old self.new piece.now
@@ -223,14 +285,15 @@ impl<H: LineHandler> Lines<H> {
             out.old.items }
         ensures fault { IfErr result (GivesUpWithin H.knows self.old piece.now out.old.items) }
     {
-        let mut rest = piece;
-        while let Some((line, after)) = first_line(rest) {
-            match self.take_line(line, out)? {
-                Status::Clean => rest = after,
-                Status::Broken => return Ok(Status::Broken),
-            }
-        }
-        self.keep(rest, out)
+        let Some((line, rest)) = first_line(piece) else {
+            return self.keep(piece, out);
+        };
+        let mut begun = mem::replace(&mut self.begun, ArrayVec::new());
+        let Some(at_hand) = join(&mut begun, line) else {
+            return self.stop(out);
+        };
+        let whole = whole_line(at_hand, line, begun.as_slice());
+        self.judge_lines(whole, rest, out)
     }
 
     /// Judges the end of the input. A rest without an LF is a line too.

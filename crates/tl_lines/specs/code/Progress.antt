@@ -6,7 +6,7 @@ use Rattle.tl_lines.specs.declared.status.Status.{Status}
 use Rattle.tl_lines.specs.declared.status.Status.TheVariants.{Clean, Broken}
 use Rattle.tl_lines.specs.declared.status.ToolFault.{ToolFault}
 use Rattle.tl_lines.specs.declared.status.ToolFault.TheVariants.{Memory, Read, Write}
-use Rattle.tl_lines.specs.statement.Lines.{lines_of, ended_lines, AreWhole, LacksLf, RunsOut}
+use Rattle.tl_lines.specs.statement.Lines.{lines_of, ended_lines, AreWhole, IsLine, LacksLf, RunsOut}
 use Rattle.tl_lines.specs.statement.Run.{StopsAtRest}
 use Rattle.tl_lines.specs.code.Judging.{GoesOn}
 
@@ -49,6 +49,12 @@ Feeds knows tells old new piece was is Clean =
 Feeds knows tells old new piece was is Broken =
     (read before : List ℕ) → Progress knows old read (before ++ was) → (more : List ℕ)
     → tells (lines_of ((read ++ piece) ++ more)) (before ++ is) Broken
+
+-- The piece that ends this whole line is `part`: the line began when the lines stood as `begun` says. Since then only
+-- the beginning was taken from them.
+abbrev pub Continues : {H : Type 0} → Lines H → Lines H → List ℕ → List ℕ → Type 0
+Continues begun lines part line = IsLine part × (begun.begun.items ++ part ≡ line) × (begun.handler ≡ lines.handler)
+    × (begun.count ≡ lines.count)
 
 -- the end of the input was judged
 abbrev pub FinishesInput : {H : Type 0} → (H → List (List ℕ) → List ℕ → Type 0)

@@ -2,8 +2,8 @@ use Rattle.std.proofs.Common.{rules, ◌≡◌, [], refl}
 use Rattle.tl_lines.proofs.Progress.{empty_is, refused}
 use Rattle.tl_lines.proofs.lines.join.Goals as goal
 
-pub returns-then-line-le256 : goal.returns-then-line-le256
-returns-then-line-le256 c =
+pub returns-then-is_empty : goal.returns-then-is_empty
+returns-then-is_empty c =
     let none : c.args.begun.now.items ≡ [] = empty_is c.args.begun.now.items (search rules) in
     rw none refl
 

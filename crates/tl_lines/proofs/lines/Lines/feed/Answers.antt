@@ -1,59 +1,61 @@
-use Rattle.std.proofs.Common.{◌≡◌, ◌++◌, [], refl, ◌∙◌, ap, append_assoc}
-use Rattle.std.specs.Prelude.{List, ℕ, Ok}
-use Rattle.std.proofs.lemmas.List.{append-nil}
-use Rattle.std.proofs.lemmas.Result.{err_from_is_err_and}
-use Rattle.tl_lines.proofs.GivenUp.{gives_up_last, gives_up_within}
-use Rattle.tl_lines.proofs.Progress.{ends_until, feeds_then, feeds_until, feeds_last}
+use Rattle.std.proofs.Common.{rules, arith, ◌≡◌, ◌≤◌, ◌<◌, ◌+◌, ◌∷◌, ◌++◌, ◌∙◌, [], List, ℕ, length, refl, ap, sym}
+use Rattle.std.proofs.Common.{append_assoc, length-append}
+use Rattle.tl_lines.proofs.Progress.{ends_open, feeds_stopped}
 use Rattle.tl_lines.proofs.lines.Lines.feed.Goals as goal
 
-pub loop-line-init : goal.loop-line-init
-loop-line-init g c = ([], refl, λ read before p. rw append-nil p, refl)
+pub returns-in_default-join-clause-feeds : goal.returns-in_default-join-clause-feeds
+returns-in_default-join-clause-feeds g c =
+    let front = c.in-Some.ensures.0.0 in
+    let split : c.in-Some.line.now ++ c.in-Some.rest.now ≡ front ++ 10 ∷ c.in-Some.rest.now =
+    rw c.in-Some.ensures.0.2 (append_assoc front (10 ∷ []) c.in-Some.rest.now) in
+    let size : length c.in-Some.line.now ≡ length front + 1 = rw c.in-Some.ensures.0.2 (length-append front (10 ∷ [])) in
+    let same : c.replace-begun.result.items ≡ c.args.self.now.begun.items = rw c.replace-begun.ensures.value refl in
+    let past : 256 < length c.replace-begun.result.items + length c.in-Some.line.now = search rules in
+    let long : 256 ≤ length c.args.self.now.begun.items + length front =
+    omega (arith, size, past, ap (λ (begun : List ℕ). length begun) same) in
+    feeds_stopped g.H.LineHandler.knows (g.H.LineHandler.tells (g.H.LineHandler.purpose c.args.self.now.handler)) _
+    c.args.self.now _ _ _ _ front (10 ∷ c.in-Some.rest.now) (sym c.in-Some.ensures.1 ∙ split) c.in-Some.ensures.0.1 long
+    c.stop.ensures.broken c.stop.ensures.stops
 
-pub returns-in-Broken-clause-feeds : goal.returns-in-Broken-clause-feeds
-returns-in-Broken-clause-feeds g c =
-    let so_far = c.loop-line.invariant in
-    feeds_until g.H.LineHandler.knows (g.H.LineHandler.tells (g.H.LineHandler.purpose c.args.self.now.handler)) _ _ c.take_line.new.self so_far.0 c.in-Some.line.now
-    c.in-Some.after.now c.loop-line.rest.now _ _ _ _ so_far.1
-    c.in-Some.ensures.1 so_far.2 (rw (c.in-Broken.is, so_far.3) at c.in_ok-take_line.ensures.feeds)
-
-pub loop-line-preserved : goal.loop-line-preserved
-loop-line-preserved g c =
-    let so_far = c.loop-line.invariant in
-    let cut : (so_far.0 ++ c.in-Some.line.now) ++ c.in-Some.after.now ≡ c.args.piece.now =
-    append_assoc so_far.0 c.in-Some.line.now c.in-Some.after.now ∙ ap (λ (rest : List ℕ). so_far.0 ++ rest)
-    c.in-Some.ensures.1 ∙ so_far.1 in (
-      so_far.0 ++ c.in-Some.line.now,
-      cut,
-      feeds_then g.H.LineHandler.knows (g.H.LineHandler.tells (g.H.LineHandler.purpose c.args.self.now.handler)) _ _ _ so_far.0
-          c.in-Some.line.now _ _ _ _ refl so_far.2 (rw c.in-Clean.is at c.in_ok-take_line.ensures.feeds),
-      c.in_ok-take_line.ensures.purpose ∙ so_far.3,
-    )
+pub returns-in_default-join-clause-ends : goal.returns-in_default-join-clause-ends
+returns-in_default-join-clause-ends g c = λ broken.
+    let front = c.in-Some.ensures.0.0 in
+    let split : c.in-Some.line.now ++ c.in-Some.rest.now ≡ front ++ 10 ∷ c.in-Some.rest.now =
+    rw c.in-Some.ensures.0.2 (append_assoc front (10 ∷ []) c.in-Some.rest.now) in
+    let size : length c.in-Some.line.now ≡ length front + 1 = rw c.in-Some.ensures.0.2 (length-append front (10 ∷ [])) in
+    let same : c.replace-begun.result.items ≡ c.args.self.now.begun.items = rw c.replace-begun.ensures.value refl in
+    let past : 256 < length c.replace-begun.result.items + length c.in-Some.line.now = search rules in
+    let long : 256 ≤ length c.args.self.now.begun.items + length front =
+    omega (arith, size, past, ap (λ (begun : List ℕ). length begun) same) in
+    ends_open g.H.LineHandler.knows g.H.LineHandler.ends c.args.self.now _ _ _ front (10 ∷ c.in-Some.rest.now)
+    (sym c.in-Some.ensures.1 ∙ split) c.in-Some.ensures.0.1 long (rw broken at c.stop.ensures.ends)
 
 pub returns-clause-feeds : goal.returns-clause-feeds
-returns-clause-feeds g c = feeds_last g.H.LineHandler.knows (g.H.LineHandler.tells (g.H.LineHandler.purpose c.args.self.now.handler)) _ _ _ _ c.loop-line.invariant.0
-    c.loop-line.rest.now _ _ _ _ c.loop-line.invariant.1 c.loop-line.invariant.2
-    (rw c.loop-line.invariant.3 at c.keep.ensures.feeds)
-
-pub returns-in_err-take_line-clause-fault : goal.returns-in_err-take_line-clause-fault
-returns-in_err-take_line-clause-fault g c =
-    let p = err_from_is_err_and c.from_residual.result c.from_residual.ensures.1 in
-    let so_far = c.loop-line.invariant in
-    rw (p.1, p.2) (gives_up_within g.H.LineHandler.knows (g.H.LineHandler.tells (g.H.LineHandler.purpose c.args.self.now.handler)) _ _ so_far.0 c.loop-line.rest.now _ _ _ _
-    so_far.1 so_far.2 c.in_err-take_line.ensures.fault)
-
-pub returns-clause-fault : goal.returns-clause-fault
-returns-clause-fault g c = gives_up_last g.H.LineHandler.knows (g.H.LineHandler.tells (g.H.LineHandler.purpose c.args.self.now.handler)) _ _ _ c.loop-line.invariant.0
-    c.loop-line.rest.now _ _ _ c.loop-line.invariant.1 c.loop-line.invariant.2 c.keep.ensures.fault
-
-pub returns-in-Broken-clause-ends : goal.returns-in-Broken-clause-ends
-returns-in-Broken-clause-ends g c = λ broken.
-    let so_far = c.loop-line.invariant in
-    ends_until g.H.LineHandler.knows g.H.LineHandler.ends (g.H.LineHandler.tells (g.H.LineHandler.purpose c.args.self.now.handler)) _ _ _ so_far.0
-    c.in-Some.line.now c.in-Some.after.now c.loop-line.rest.now _ _ _ so_far.1 c.in-Some.ensures.1 so_far.2
-    (c.in_ok-take_line.ensures.ends (ap Ok c.in-Broken.is))
+returns-clause-feeds g c =
+    let same : c.replace-begun.result.items ≡ c.args.self.now.begun.items = rw c.replace-begun.ensures.value refl in
+    let joined : c.whole_line-whole.result.now ≡ c.replace-begun.result.items ++ c.in-Some.line.now =
+    c.whole_line-whole.ensures ∙ rw c.as_slice.ensures.value c.in-Some-join.ensures in
+    let whole : c.args.self.now.begun.items ++ c.in-Some.line.now ≡ c.whole_line-whole.result.now =
+    ap (λ (begun : List ℕ). begun ++ c.in-Some.line.now) (sym same) ∙ sym joined in
+    rw c.in-Some.ensures.1 at (c.judge_lines.ensures.feeds c.args.self.now c.in-Some.line.now
+    (c.in-Some.ensures.0, whole, refl, refl))
 
 pub returns-clause-ends : goal.returns-clause-ends
 returns-clause-ends g c = λ broken.
-    let so_far = c.loop-line.invariant in
-    ends_until g.H.LineHandler.knows g.H.LineHandler.ends (g.H.LineHandler.tells (g.H.LineHandler.purpose c.args.self.now.handler)) _ _ _ so_far.0
-    c.loop-line.rest.now [] c.loop-line.rest.now _ _ _ so_far.1 (append-nil _) so_far.2 (c.keep.ensures.ends broken)
+    let same : c.replace-begun.result.items ≡ c.args.self.now.begun.items = rw c.replace-begun.ensures.value refl in
+    let joined : c.whole_line-whole.result.now ≡ c.replace-begun.result.items ++ c.in-Some.line.now =
+    c.whole_line-whole.ensures ∙ rw c.as_slice.ensures.value c.in-Some-join.ensures in
+    let whole : c.args.self.now.begun.items ++ c.in-Some.line.now ≡ c.whole_line-whole.result.now =
+    ap (λ (begun : List ℕ). begun ++ c.in-Some.line.now) (sym same) ∙ sym joined in
+    rw c.in-Some.ensures.1 at (c.judge_lines.ensures.ends c.args.self.now c.in-Some.line.now
+    (c.in-Some.ensures.0, whole, refl, refl) broken)
+
+pub returns-clause-fault : goal.returns-clause-fault
+returns-clause-fault g c =
+    let same : c.replace-begun.result.items ≡ c.args.self.now.begun.items = rw c.replace-begun.ensures.value refl in
+    let joined : c.whole_line-whole.result.now ≡ c.replace-begun.result.items ++ c.in-Some.line.now =
+    c.whole_line-whole.ensures ∙ rw c.as_slice.ensures.value c.in-Some-join.ensures in
+    let whole : c.args.self.now.begun.items ++ c.in-Some.line.now ≡ c.whole_line-whole.result.now =
+    ap (λ (begun : List ℕ). begun ++ c.in-Some.line.now) (sym same) ∙ sym joined in
+    rw c.in-Some.ensures.1 at (c.judge_lines.ensures.fault c.args.self.now c.in-Some.line.now
+    (c.in-Some.ensures.0, whole, refl, refl))

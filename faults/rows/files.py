@@ -1,0 +1,70 @@
+"""Files and devices, the first line of an input, and the form of its lines."""
+from rows.shell import F1, F2, F3, F7, F8
+
+# The first beat of a trace.
+HEAD = "tail -n +2 two_caches.trace | head -1"
+
+ROWS = [
+    # files and devices
+    ("tltool monitor nope.trace", 3, "", "tltool: cannot open nope.trace\n"),
+    ("tltool coherent nope.trace", 3, "", "tltool: cannot open nope.trace\n"),
+    ("tltool coherent rules", 3, "", "tltool: read failed\n"),
+    ("tltool decode nope.txt", 3, "", "tltool: cannot open nope.txt\n"),
+    ("tltool run nope.schedule", 3, "", "tltool: cannot open nope.schedule\n"),
+    ("tltool explain nope.trace", 3, "", "tltool: cannot open nope.trace\n"),
+    ("tltool explain h12", 3, "", "tltool: cannot open h12\n"),
+    ("tltool explain H14", 3, "", "tltool: cannot open H14\n"),
+    ("tltool monitor -", 3, "", "tltool: cannot open -\n"),
+    ("tltool monitor ''", 3, "", "tltool: cannot open \n"),
+    ("tltool monitor rules", 3, "", "tltool: read failed\n"),
+    ("tltool decode <&-", 3, "", "tltool: read failed\n"),
+    ("tltool decode beats.txt >/dev/full", 3, "", "tltool: write failed\n"),
+    ("tltool --help >/dev/full", 3, "", "tltool: write failed\n"),
+    ("tltool monitor $'\\xff.trace'", 3, "", "tltool: no memory\n"),
+    ("mkfifo pipe; cat two_caches.trace >pipe & tltool monitor pipe", 0, "clean 29\n", ""),
+    ("mkfifo once; (timeout 5 cat two_caches.trace >once &); tltool explain once", 3, "", "tltool: once can't be read twice, as explain does: write it to a file\n"),
+    ("cat two_caches.trace | tltool explain /dev/stdin", 3, "", "tltool: /dev/stdin can't be read twice, as explain does: write it to a file\n"),
+    ("tltool monitor /dev/stdin <two_caches.trace", 0, "clean 29\n", ""),
+    # the first line
+    ("tltool monitor </dev/null", 1, F7.format(1), ""),
+    ("tltool coherent </dev/null", 1, F7.format(1), ""),
+    ("tltool run </dev/null", 1, F7.format(1), ""),
+    ("tltool decode </dev/null", 0, "", ""),
+    ("sed 's/$/\\r/' two_caches.trace | tltool monitor", 1, F7.format(1), ""),
+    ("sed 's/$/\\r/' beats.txt | tltool decode", 1, F3.format(1), ""),
+    ("(printf '\\xef\\xbb\\xbf'; cat two_caches.trace) | tltool monitor", 1, F7.format(1), ""),
+    ("(printf '\\xef\\xbb\\xbf'; cat beats.txt) | tltool decode", 1, F3.format(1), ""),
+    ("gzip -c two_caches.trace | tltool monitor", 1, F7.format(1), ""),
+    ("iconv -t UTF-16 two_caches.trace | tltool monitor", 1, F7.format(1), ""),
+    ("tltool monitor schedules/nothing_happens.schedule", 1, F7.format(1), ""),
+    ("tltool run two_caches.trace", 1, F7.format(1), ""),
+    ("tltool monitor beats.txt", 1, F7.format(1), ""),
+    ("tltool decode two_caches.trace", 1, F2.format(1), ""),
+    ("tltool decode schedules/nothing_happens.schedule", 1, F2.format(1), ""),
+    ("printf 'tltrace 1 C' | tltool monitor", 1, F7.format(1), ""),
+    ("printf 'tltrace 1 C\\n' | tltool monitor", 0, "clean 0\n", ""),
+    *((f"printf 'tltrace {it}\\n' | tltool monitor", 1, F7.format(1), "") for it in (
+        "1 c", "1 TL-C", "1 C,C", "1", "1 C ", "1  C", "01 C", "4 8 C", "2 C", "2 32 C", "2 08 C", "3 8 3 C", "1" + 17 * " C",
+    )),
+    ("printf 'TLTRACE 1 C\\n' | tltool monitor", 1, F7.format(1), ""),
+    *((f"printf 'tlsched {it}\\n' | tltool run", 1, F7.format(1), "") for it in (
+        "1 1 0 C:1", "1 0 1 C:1", "1 1025 1 C:1", "1 1 9 C:1", "1 1 1 C", "1 1 1 C:9", "1 1 1 C:0", "1 1 1", "1 1 1" + 17 * " C:1", "2 1 1 C:1",
+    )),
+    # lines
+    ("head -c 100000 /dev/zero | tr '\\0' a | tltool decode", 1, F1.format(1), ""),
+    ("(cat two_caches.trace; echo) | tltool monitor", 1, F1.format(31), ""),
+    ("(cat two_caches.trace; printf '00 E 00') | tltool monitor", 1, F1.format(31), ""),
+    ("(head -1 two_caches.trace; echo '# start') | tltool monitor", 1, F2.format(2), ""),
+    (f"({HEAD}; {HEAD} | sed 's/$/ # request/') | tltool decode", 1, "..", ""),
+    (f"{HEAD} | sed 's/$/ # request/' | tltool decode", 1, F1.format(1), ""),
+    (f"{HEAD} | sed 's/$/ /' | tltool decode", 1, F1.format(1), ""),
+    (f"{HEAD} | tr ' ' '\\t' | tltool decode", 1, F1.format(1), ""),
+    (f"{HEAD} | sed 's/ A / a /' | tltool decode", 1, F2.format(1), ""),
+    (f"{HEAD} | sed 's/^00/0/' | tltool decode", 1, F3.format(1), ""),
+    (f"{HEAD} | sed 's/ ff / FF /' | tltool decode", 1, F3.format(1), ""),
+    ("echo '00 A 8 0 3 00 00000040 ff - 0' | tltool decode", 1, "line 1 F4\n", ""),
+    ("echo '00 A 4 8 3 00 00000040 ff - 0' | tltool decode", 1, "line 1 F5\n", ""),
+    ("echo '00 A 4 0 3 00 00000040 ff 0000000000000000 0' | tltool decode", 1, "line 1 F6\n", ""),
+    ("(cat two_caches.trace; echo '02 E 00') | tltool monitor", 1, "line 31 L1\n", ""),
+    *((f"printf 'tlsched 1 1 1 C:1\\n{it}\\n' | tltool run", 1, F8.format(2), "") for it in ("Acquire", "Drain", "# x", "drain ")),
+]

@@ -28,6 +28,10 @@ import subprocess
 import sys
 import tempfile
 
+from traces.beats import COMMITS, commit_words
+from traces.charts import told_of
+from traces.command import of
+
 sys.path.insert(0, str(pathlib.Path(__file__).resolve().parent.parent / "bench"))
 from commits_bytes import bytes_told  # noqa: E402
 from commits_model import Beyond, judged  # noqa: E402
@@ -49,24 +53,12 @@ WORLDS = [
 ]
 
 
-def of(tool, *words, text=None):
-    """What a command writes, and its exit status."""
-    told = subprocess.run([tool, *words], input=text, capture_output=True, text=True, timeout=60)
-    return told.stdout, told.returncode
-
-
 def decoded(tool, width, lines):
     """The lines of a trace in words, by `decode` and by the form of stores and loads."""
     beats = [it for it in lines if it.split()[1] in "ABCDE"]
-    told = iter(of(tool, "decode", "--width", width, text="\n".join([*beats, ""]))[0].splitlines())
+    told = iter(of(tool, "decode", "--width", width, text="\n".join([*beats, ""]))[1].splitlines())
     for line in lines:
-        link, letter, size, *rest = line.split()
-        if letter in "ABCDE":
-            yield next(told)
-        else:
-            verb = {"S": "stores", "L": "loads", "I": "begins to load"}[letter]
-            count = 2 ** int(size)
-            yield f"link {link} {verb} {count} byte{'s' * (count > 1)} at {': '.join(rest)}"
+        yield commit_words(*line.split()) if line.split()[1] in COMMITS else next(told)
 
 
 def reached(line):
@@ -141,8 +133,8 @@ def story_slips(tool, trace, fault):
     header, *lines = trace.read_text().splitlines()
     width = header.split()[2]
     number, rule = fault.split()[1:]
-    told = of(tool, "explain", "--coherent", trace)[0].splitlines()
-    sentence = "  " + of(tool, "explain", rule)[0].splitlines()[0]
+    told = of(tool, "explain", "--coherent", trace)[1].splitlines()
+    sentence = "  " + of(tool, "explain", rule)[1].splitlines()[0]
     lines = lines[:int(number) - 1]
     words = list(decoded(tool, width, lines))
     if told[:3] != [fault, sentence, f"  {number}: {words[-1]}"]:
@@ -170,12 +162,12 @@ def story_slips(tool, trace, fault):
 def slips(tool, trace):
     """What is wrong with the verdicts on a trace, and with their reasons."""
     wanted = trace.with_suffix(".verdict").read_text()
-    told, _ = of(tool, "coherent", str(trace))
+    _, told = of(tool, "coherent", str(trace))
     if told != wanted:
         yield f"{trace.name}: coherent says {told.strip()}, the model {wanted.strip()}"
     elif told.startswith("line "):
         yield from story_slips(tool, trace, told.strip())
-    told, _ = of(tool, "monitor", str(trace))
+    _, told = of(tool, "monitor", str(trace))
     if trace.name.startswith("right_") and told != wanted.replace("coherent", "clean"):
         yield f"{trace.name}: monitor says {told.strip()}"
     count = trace.read_text().count("\n")
@@ -185,12 +177,9 @@ def slips(tool, trace):
 
 def rows_of(tool, text, *words):
     """What `chart` draws of a trace: its rows, with the numbers of their lines, and how many messages and commits follow."""
-    chart = of(tool, "chart", *words, text=text)[0]
-    told = re.search(r"<desc id='text'>(.*)</desc>", chart, re.DOTALL)[1]
-    rows = [(int(line), words) for line, words in re.findall(r"(?m)^Line (\d+): (.*)\.$", told)]
-    drawn = re.findall(r"<text class='n' x='60' y='\d+'>(\d+)</text><text x='70' y='\d+'>(.*)</text>", chart)
+    chart = of(tool, "chart", *words, text=text)[1]
+    rows, _ = told_of(chart)
     marks = len(re.findall(r"<rect class='[rw]' width='6' height='6'", chart))
-    assert sorted(rows) == sorted((int(line), words) for line, words in drawn), "a row is told otherwise than it is drawn"
     more = [re.search(f"{what} that follow: (\\d+)", chart) for what in ("messages", "stores and loads")]
     return rows, [int(it[1]) if it else 0 for it in more], marks, re.search(r"The monitor says: (.*)</desc>", chart)[1]
 
@@ -219,7 +208,7 @@ def chart_slips(tool, trace, lines=None):
     ought = sorted([*rows, *((it, words[it]) for it in commits if it <= last)])
     all_rows = [beats[line - 2] for line, _ in rows_of(tool, plain, "--lines", f"2-{len(beats) + 1}")[0]]
     follow = [sum(it > last for it in all_rows), sum(it > last for it in commits)]
-    verdict = of(tool, "monitor", str(trace))[0].strip()
+    verdict = of(tool, "monitor", str(trace))[1].strip()
     says = rows_of(tool, trace.read_text(), *(["--lines", f"{lines[0]}-{lines[1]}"] if lines else []))
     if says != (ought, follow, sum(it <= last for it in commits), verdict):
         yield f"{trace.name}: chart {lines} draws {says}, and ought to draw {ought}, then {follow}, {verdict}"
@@ -271,7 +260,7 @@ def reasons_slips(tool, name, trace, seed):
         text, numbers = with_begun(header, lines, rng)
         begun.write_text(text)
         for words in ["explain"], ["explain", "--coherent"], ["explain", "--allow", "standard"]:
-            wanted, told = (of(tool, *words, str(it))[0].splitlines() for it in (plain, begun))
+            wanted, told = (of(tool, *words, str(it))[1].splitlines() for it in (plain, begun))
             verdict = re.fullmatch(r"line (\d+) (\w+)", wanted[0])
             # its stores aren't in the trace, so a beat may break a rule of stores that it doesn't break in the other
             if re.fullmatch(r"line \d+ M[567]", told[0]):
@@ -332,7 +321,7 @@ def trace_of(schedule, outcomes):
 
 def world_slips(tool, name, schedule):
     """What is wrong with the trace of a schedule with stores and loads."""
-    (outcomes, _), (beats, status), (told, too) = (of(tool, "run", *it, text=schedule) for it in ([], ["--trace"], ["--trace", "--commits"]))
+    (_, outcomes), (status, beats), (too, told) = (of(tool, "run", *it, text=schedule) for it in ([], ["--trace"], ["--trace", "--commits"]))
     if outcomes.startswith("line 1 "):
         wanted = outcomes
     else:
@@ -345,7 +334,7 @@ def world_slips(tool, name, schedule):
     if lines != beats.splitlines()[1:]:
         yield f"{name}: the beats aren't those of the trace without stores and loads"
     trace = "".join(line for line in told.splitlines(keepends=True) if not line.startswith("line "))
-    verdict, _ = of(tool, "coherent", text=trace)
+    _, verdict = of(tool, "coherent", text=trace)
     if trace and verdict != f"coherent {trace.count(chr(10)) - 1}\n":
         yield f"{name}: coherent says {verdict.strip()}"
 
@@ -364,10 +353,10 @@ def main():
         traces += sorted(pathlib.Path(folder).glob("altered_*.trace"))
         found = list(pool.map(lambda it: list(slips(tool, it)), traces))
         schedules = [(it.name, it.read_text()) for it in sorted(SCHEDULES.glob("*.schedule"))]
-        schedules += [(f"random {' '.join(it)}", of(tool, "random", *it)[0]) for it in WORLDS]
+        schedules += [(f"random {' '.join(it)}", of(tool, "random", *it)[1]) for it in WORLDS]
         found += pool.map(lambda it: list(world_slips(tool, *it)), schedules)
         beats = [(it.stem, it.read_text()) for folder in ("rules", "pending") for it in sorted((DATA / folder).glob("*.trace"))]
-        whole = [(name, of(tool, "run", "--trace", text=schedule)[0]) for name, schedule in schedules]
+        whole = [(name, of(tool, "run", "--trace", text=schedule)[1]) for name, schedule in schedules]
         rng = random.Random(1)
         for name, text in whole:
             header, *lines = [it for it in text.splitlines() if not it.startswith("line ")] or [""]

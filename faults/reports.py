@@ -13,15 +13,9 @@ import sys
 import tempfile
 import xml.etree.ElementTree
 
-# The opcodes of channels A to D, as docs/FORMATS.md has them.
-NAMES = {
-    "A": ["PutFullData", "PutPartialData", "ArithmeticData", "LogicalData", "Get", "Intent", "AcquireBlock", "AcquirePerm"],
-    "B": ["PutFullData", "PutPartialData", "ArithmeticData", "LogicalData", "Get", "Intent", "ProbeBlock", "ProbePerm"],
-    "C": ["AccessAck", "AccessAckData", "HintAck", None, "ProbeAck", "ProbeAckData", "Release", "ReleaseData"],
-    "D": ["AccessAck", "AccessAckData", "HintAck", None, "Grant", "GrantData", "ReleaseAck", None],
-}
-# The letters of commits.
-KINDS = {"S": "Store", "L": "Load", "I": "LoadBegin"}
+from traces.beats import COMMITS, KINDS, OPCODES
+from traces.reports import CLEAN, LETTERS
+
 # How a trace is given: as a file or on standard input, and what is done to it before.
 TRACES = [
     ("two_caches.trace", "cat"),
@@ -56,13 +50,15 @@ def run(words, place, **given):
 def kind(line):
     """The link, channel and message of a beat's line, or the letter and kind of a commit's."""
     link, letter, third = line.split(" ")[:3]
-    return int(link, 16), letter, KINDS.get(letter) or ("GrantAck" if letter == "E" else NAMES[letter][int(third, 16)])
+    if letter in COMMITS:
+        return int(link, 16), letter, KINDS[COMMITS.index(letter)]
+    return int(link, 16), letter, "GrantAck" if letter == "E" else OPCODES[letter][int(third, 16)]
 
 
 def rank(kind):
     """The rank of an entry: by link, and then the beats by channel and opcode, and the commits."""
     link, letter, message = kind
-    return link, "ABCDESLI".index(letter), NAMES.get(letter, [message]).index(message)
+    return link, LETTERS.index(letter), OPCODES.get(letter, [message]).index(message)
 
 
 def judged(tool, command, most, trace, place):
@@ -114,7 +110,7 @@ def one(checks, tool, command, options, trace, piped, place, version, says):
         "faults": [{"line": number, "rule": code, "sentence": says(code)} for number, code in faults],
         "input": {"bytes": len(bytes_read), "header": header, "sha256": hashlib.sha256(bytes_read).hexdigest()},
         "tool": {"name": "tltool", "proved_with": version[1], "version": version[0]},
-        "verdict": "broken" if faults else {"monitor": "clean", "coherent": "coherent"}[command],
+        "verdict": "broken" if faults else CLEAN[command],
     })
     suite = xml.etree.ElementTree.parse(place / "r.xml").getroot()
     checks.want(f"{what}: the suite", (suite.tag, suite.attrib), ("testsuite", {"name": f"tltool {command}", "tests": str(max(1, len(faults))), "failures": str(len(faults))}))
@@ -125,7 +121,7 @@ def one(checks, tool, command, options, trace, piped, place, version, says):
     named = lambda name: {"classname": f"tltool.{command}", "name": name}
     checks.want(f"{what}: its test cases", cases, [
         (named(f"line {number}"), [("failure", {"type": code, "message": says(code)})]) for number, code in faults
-    ] or [(named({"monitor": "clean", "coherent": "coherent"}[command]), [])])
+    ] or [(named(CLEAN[command]), [])])
 
 
 def failing(checks, tool, place):
@@ -164,4 +160,5 @@ def main():
     return 1 if checks.failed else 0
 
 
-sys.exit(main())
+if __name__ == "__main__":
+    sys.exit(main())

@@ -5,40 +5,33 @@ trace of it is `clean` and `coherent`. Ends with 'seeds: N passed, M failed'."""
 import concurrent.futures
 import os
 import pathlib
-import subprocess
 import sys
+
+from traces.command import of, options_of
 
 CLIENTS = ["C:2,C:2,C:2,UH:1", "C:1,C:1", "C:8,C:1,UL:2", "C:2,UH:2,UL:2", "UL:1,UH:8", ",".join(16 * ["C:2"]), "C:3"]
 EVENTS = 200
 
 
 def words_of(seed):
-    """The options of a seed: each combination of few values comes with some seed."""
-    blocks = (1, 2, 5, 64)[seed % 4]
-    return ["--seed", str(seed), "--events", str(EVENTS), "--blocks", str(blocks), "--trackers", str((1, 2, 8)[seed % 3]),
-        "--clients", CLIENTS[seed % len(CLIENTS)], "--width", ("4", "8", "16")[seed // 4 % 3], "--profile",
-        str(1 + seed // 3 % 2), "--contend", str(1 + seed % blocks)]
-
-
-def of(tool, *words, text=None):
-    """The status of a command and what it writes."""
-    ran = subprocess.run([tool, *words], input=text, capture_output=True, timeout=60)
-    return ran.returncode, ran.stdout
+    """The options of a seed."""
+    width, profile = ("4", "8", "16")[seed // 4 % 3], str(1 + seed // 3 % 2)
+    return options_of(seed, EVENTS, CLIENTS[seed % len(CLIENTS)], width, "--profile", profile)
 
 
 def slips(tool, seed):
     """What is wrong with a seed."""
     status, schedule = of(tool, "random", *words_of(seed))
-    if status or schedule.count(b"\n") != EVENTS + 2 or not schedule.endswith(b"\ndrain\n"):
+    if status or schedule.count("\n") != EVENTS + 2 or not schedule.endswith("\ndrain\n"):
         yield f"random has status {status}, or other lines than it should"
     if of(tool, "random", *words_of(seed)) != (0, schedule):
         yield "the same words write another schedule"
     if of(tool, "run", text=schedule)[0]:
         yield "run has another status than 0"
     status, trace = of(tool, "run", "--trace", text=schedule)
-    beats = trace.count(b"\n") - 1
+    beats = trace.count("\n") - 1
     for command, verdict in ("monitor", "clean"), ("coherent", "coherent"):
-        if status or of(tool, command, text=trace) != (0, f"{verdict} {beats}\n".encode()):
+        if status or of(tool, command, text=trace) != (0, f"{verdict} {beats}\n"):
             yield f"the trace isn't {verdict}"
 
 
@@ -54,4 +47,5 @@ def main():
     return 1 if failed else 0
 
 
-sys.exit(main())
+if __name__ == "__main__":
+    sys.exit(main())

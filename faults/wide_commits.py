@@ -5,7 +5,7 @@ Traces of caches whose cores store and load, by the model bench/commits_trial.py
 a tenth as many of each wrong one), and traces of worlds, by `TOOL random` and `TOOL run --trace --commits`, are written wide: their
 beats joined to those of a bus of up to 64 bytes, their blocks named by addresses of 64 bits and their ids by numbers of 16, one to
 one; each once more with a line spoiled. `TOOL monitor` and `TOOL coherent` must say of each what they say of the narrow trace that
-faults/wide.py makes of it by the text of docs/FORMATS.md, at the line of the wide event whose part is at fault. Where no beats were
+faults/traces makes of it by the text of docs/FORMATS.md, at the line of the wide event whose part is at fault. Where no beats were
 joined they must say what they say of the trace that was written wide, which has the model's verdict. With `--all` and a report they
 must find what they find line by line in the trace without the lines found before, and count the beats and the commits of the others.
 `cover --json` must count what it counts of the narrow trace, with the lines of the wide one. `chart` must draw the rows of the chart
@@ -20,11 +20,19 @@ import subprocess
 import sys
 import tempfile
 
-import wide
-from wide import Beat, beat_of, joined, narrow_trace, of, renamed
+import traces.spoil
+from traces.beats import COMMITS, Beat, beat_of
+from traces.charts import mischarted
+from traces.command import of
+from traces.explanations import misexplained
+from traces.reports import misreported
+from traces.verdicts import miscounted, wanted, wanted_all
+from traces.widen import ANSWER, GET, WideTrace, widened
 
 ROOT = pathlib.Path(__file__).resolve().parent.parent
 MODEL = ROOT / "bench/commits_trial.py"
+# What is compared of explanations.
+FORMS = ["explain"], ["explain", "--coherent"]
 WORLDS = [
     ["--seed", str(seed), "--width", width, "--profile", profile, "--clients", clients, "--blocks", "3", "--events", "150"]
     for seed, (width, profile, clients) in enumerate(
@@ -41,13 +49,11 @@ class Commit(Beat):
         told = f"{self.link} {self.channel} {self.size:x} {self.address:0{address}x}"
         return f"{told} {self.opcode}" if self.channel in "SL" else told
 
-    def copy(self, **changed):
-        return Commit(**{**self.__dict__, **changed})
-
 
 def event_of(line):
+    """The beat or the commit of a line."""
     link, letter, *fields = line.split()
-    if letter not in wide.COMMITS:
+    if letter not in COMMITS:
         return beat_of(line)
     size, address, *digits = fields
     return Commit(link, letter, opcode="".join(digits), size=int(size, 16), address=int(address, 16))
@@ -58,10 +64,10 @@ def spoiled(events, width, rng):
     events = list(events)
     commits = [i for i, it in enumerate(events) if isinstance(it, Commit)]
     if not commits or rng.random() < 0.4:
-        return wide.spoiled(events, width, rng)
+        return traces.spoil.spoiled(events, width, rng)
     place = rng.choice(commits)
     commit, kind = events[place], rng.choice(["drop", "twice", "turn", "data", "address", "link", "letter"])
-    wide.rearrange(events, place, kind)
+    traces.spoil.rearrange(events, place, kind)
     if kind == "data" and commit.opcode:
         digit = rng.randrange(len(commit.opcode))
         events[place] = commit.copy(opcode=commit.opcode[:digit] + rng.choice("0123456789abcdef") + commit.opcode[digit + 1:])
@@ -75,10 +81,6 @@ def spoiled(events, width, rng):
     return events
 
 
-def wanted(tool, words, head, events, width):
-    return wide.wanted(tool, words, *head, events, width)
-
-
 def compared(told):
     """What is compared of an explanation: of a line that spells no event its fault."""
     status, text = told
@@ -86,43 +88,41 @@ def compared(told):
     return status, [first, *(lines[:1] if first.split()[-1].startswith("F") else lines)]
 
 
-def misexplained(tool, text, liberties, levels, events, width):
-    """What is wrong with the explanations of a wide trace."""
-    for commands in ["explain"], ["explain", "--coherent"]:
-        ought = wide.wanted_reasons(tool, commands, liberties, levels, events, width)
-        says = wide.file_of(tool, commands, text)
-        if ought and compared(says) != compared(ought):
-            yield f"{' '.join(commands)} says {says}, and ought to say {ought}"
+def misjudged(tool, trace, rng):
+    """What is wrong with the verdicts on a wide trace, and with its reports."""
+    for command in "monitor", "coherent":
+        says, ought = of(tool, command, text=trace.text()), wanted(tool, [command], trace)
+        if says != ought:
+            yield f"{command} of {trace.width} bytes says {says}, not {ought}"
+        most = rng.choice([1, 2, 3, 20])
+        yield from misreported(tool, [command, "--all", str(most)], trace.text(), *wanted_all(tool, [command], trace, most))
+    if miscounted(tool, trace):
+        yield f"cover of {trace.width} bytes counts other situations than those of the narrow trace"
+
+
+def otherwise_wide(tool, text, trace, verdict):
+    """What is said otherwise of a trace than of the same trace written wide. `verdict` is what `coherent` ought to say of it."""
+    for command, ought in ("monitor", None), ("coherent", verdict):
+        says = of(tool, command, text=trace.text())
+        if says != of(tool, command, text=text) or ought and says[1] != ought:
+            yield f"{command} says {says} of the same trace written wide"
 
 
 def slips(tool, name, text, seed, verdict=None):
-    """What is wrong with what is said of a trace that is written wide. `verdict` is what `coherent` ought to say of the trace."""
+    """What is wrong with what is said of a trace that is written wide."""
     rng = random.Random(seed)
     header, *lines = text.splitlines()
     _, _, narrow, liberties, levels = header.split(" ", 4)
     events, narrow = [event_of(it) for it in lines], int(narrow)
     for width in (narrow, rng.choice([it for it in (4, 8, 16, 32, 64) if it >= narrow])):
-        whole = list(renamed(joined(events, narrow, width), rng))
+        whole = widened(events, narrow, width, rng)
         for spoil in False, True:
-            written = spoiled(whole, width, rng) if spoil and whole else whole
-            told = "\n".join([f"tltrace 5 {width} {liberties} {levels}", *(it.line(width, 4, 16) for it in written)]) + "\n"
-            head = liberties, levels
-            for command in "monitor", "coherent":
-                ought = wanted(tool, [command], head, written, width)
-                if of(tool, command, text=told) != ought:
-                    yield f"{name}: {command} of {width} bytes says {of(tool, command, text=told)}, not {ought}"
-                most = rng.choice([1, 2, 3, 20])
-                found = wide.wanted_all(tool, [command], *head, written, width, most)
-                yield from (f"{name}: {it}" for it in wide.report(tool, [command, "--all", str(most)], told, *found))
-            if wide.miscounted(tool, told, *head, written, width):
-                yield f"{name}: cover of {width} bytes counts other situations than those of the narrow trace"
-            for check in misexplained, wide.mischarted:
-                yield from (f"{name} at {width} bytes: {it}" for it in check(tool, told, *head, written, width))
+            trace = WideTrace(liberties, levels, spoiled(whole, width, rng) if spoil and whole else whole, width)
+            yield from (f"{name}: {it}" for it in misjudged(tool, trace, rng))
+            wrong = [*misexplained(tool, trace, FORMS, compared), *mischarted(tool, trace)]
+            yield from (f"{name} at {width} bytes: {it}" for it in wrong)
             if not spoil and width == narrow:
-                for command, is_verdict in ("monitor", None), ("coherent", verdict):
-                    says = of(tool, command, text=told)
-                    if says != of(tool, command, text=text) or is_verdict and says[1] != is_verdict:
-                        yield f"{name}: {command} says {says} of the same trace written wide"
+                yield from (f"{name}: {it}" for it in otherwise_wide(tool, text, trace, verdict))
 
 
 # Lines of a trace `tltrace 5 8 none C+`, each with its fault, by the table of docs/FORMATS.md.
@@ -139,6 +139,7 @@ FAULTS = {
 
 
 def line_slips(tool):
+    """What is wrong with the verdicts on lines of no event, and of commits and requests with many names."""
     for line, fault in FAULTS.items():
         for width in 4, 8, 16, 32, 64:
             for command in "monitor", "coherent":
@@ -151,11 +152,11 @@ def line_slips(tool):
     for rest in ("C", "C +", "C+ ", "UL+", "C++", "C+ X"):
         if of(tool, "monitor", text=f"tltrace 5 8 none {rest}\n{SPELLED}\n")[1] not in ("line 1 F7\n", "line 2 F2\n"):
             yield f"monitor takes the header with {rest}"
-    many = [it.format(source) for source in range(1, 256) for it in (wide.GET, SPELLED, wide.ANSWER)]
+    many = [it.format(source) for source in range(1, 256) for it in (GET, SPELLED, ANSWER)]
     told = of(tool, "monitor", text="\n".join(["tltrace 5 16 none C+", *many]) + "\n")
     if told != (0, "clean 765\n"):
         yield f"monitor says {told} of 255 sources with commits between"
-    told = of(tool, "monitor", text="\n".join(["tltrace 5 16 none C+", *many, SPELLED, wide.GET.format(256)]) + "\n")
+    told = of(tool, "monitor", text="\n".join(["tltrace 5 16 none C+", *many, SPELLED, GET.format(256)]) + "\n")
     if told != (1, "line 768 F9\n"):
         yield f"monitor says {told} of 257 sources with commits between"
 

@@ -7,9 +7,8 @@ beyond the model."""
 import argparse
 import sys
 
-import commits_trial
-import early_trial
-from early_trial import BRANCH, NONE, TRUNK, Beat, Message
+from trial.commit_judge import CommitJudge
+from trial.messages import BRANCH, NONE, TRUNK, Beat, Message
 
 CAPS = {0: TRUNK, 1: BRANCH, 2: NONE}
 LEFT = {0: BRANCH, 1: NONE, 2: NONE, 3: TRUNK, 4: BRANCH, 5: NONE}
@@ -49,11 +48,11 @@ class Blocks:
     def __init__(self, lines):
         self.known = {}
         for line in lines:
-            f = line.split()
-            if f[1] in "ABC":
-                self.of(number(f[6]))
-            elif f[1] in "SLI":
-                self.of(number(f[3]))
+            fields = line.split()
+            if fields[1] in "ABC":
+                self.of(number(fields[6]))
+            elif fields[1] in "SLI":
+                self.of(number(fields[3]))
 
     def of(self, address):
         return self.known.setdefault(address // 64, len(self.known))
@@ -63,126 +62,125 @@ class Lane:
     """The trace as the judge of one lane of all beats has it."""
     def __init__(self, lane, header, blocks, alone):
         self.lane, self.width, self.blocks = lane, header.width, blocks
-        self.judge = commits_trial.CommitJudge(len(header.levels), len(blocks.known), set(), [it == "C+" for it in header.levels],
-            header.zero)
-        self.judge.alone = alone
+        complete = [it == "C+" for it in header.levels]
+        self.judge = CommitJudge(len(header.levels), len(blocks.known), set(), 64 // header.width, complete, header.zero, alone)
         self.bursts, self.requests, self.releases, self.grants = {}, {}, {}, {}
 
     # ---- beats
 
-    def beat(self, f):
+    def beat(self, fields):
         """The rule that a beat's line breaks."""
-        link, channel = number(f[0]), f[1]
-        m = self.bursts.pop((link, channel), None) or self.message(link, channel, f)
-        b = Beat(m, self.value(m, channel, f))
-        broken = self.judge.breach(b)
+        link, channel = number(fields[0]), fields[1]
+        message = self.bursts.pop((link, channel), None) or self.message(link, channel, fields)
+        beat = Beat(message, self.value(message, channel, fields))
+        broken = self.judge.breach(beat)
         if broken is None:
-            self.judge.take(b)
-            m.sent += 1
-            if m.sent < m.beats:
-                self.bursts[link, channel] = m
+            self.judge.take(beat)
+            message.sent += 1
+            if message.sent < message.beats:
+                self.bursts[link, channel] = message
         return broken
 
-    def message(self, link, channel, f):
-        if f[-1] != "0" and channel != "E" or channel == "D" and f[7] != "0":
+    def message(self, link, channel, fields):
+        if fields[-1] != "0" and channel != "E" or channel == "D" and fields[7] != "0":
             raise Beyond("a corrupt or denied beat")
-        return getattr(self, "on_" + channel)(link, f)
+        return getattr(self, "on_" + channel)(link, fields)
 
-    def data(self, f, at):
+    def data(self, fields, at):
         """As many places as the message has beats, if it has data."""
-        return [0] * max(1, 2 ** number(f[4]) // self.width) if f[at] != "-" else None
+        return [0] * max(1, 2 ** number(fields[4]) // self.width) if fields[at] != "-" else None
 
-    def on_A(self, link, f):
-        op, source, address, block = REQUESTS.get(number(f[2])), number(f[5]), number(f[6]), self.blocks.of(number(f[6]))
-        if op is None:
+    def on_A(self, link, fields):
+        opcode, source, address = REQUESTS.get(number(fields[2])), number(fields[5]), number(fields[6])
+        if opcode is None:
             raise Beyond("an atomic or an Intent")
-        m = Message("A", link, op, block, source=source, data=self.data(f, 8), answered=False)
-        if op == "Acquire":
-            m.was, m.unread = BRANCH if f[3] == "2" else NONE, f[2] == "7"
+        message = Message("A", link, opcode, self.blocks.of(address), source=source, data=self.data(fields, 8), answered=False)
+        if opcode == "Acquire":
+            message.was, message.unread = BRANCH if fields[3] == "2" else NONE, fields[2] == "7"
         else:
-            m.address, m.bytes = address, 2 ** number(f[4])
-            m.at, m.size = address % 64 // self.width, max(1, m.bytes // self.width)
-        self.requests[link, source] = m
-        return m
+            message.address, message.bytes = address, 2 ** number(fields[4])
+            message.at, message.size = address % 64 // self.width, max(1, message.bytes // self.width)
+        self.requests[link, source] = message
+        return message
 
-    def on_B(self, link, f):
-        return Message("B", link, "Probe", self.blocks.of(number(f[6])), param=CAPS[number(f[3])], perm_only=f[2] == "7")
+    def on_B(self, link, fields):
+        return Message("B", link, "Probe", self.blocks.of(number(fields[6])), param=CAPS[number(fields[3])], perm_only=fields[2] == "7")
 
-    def on_C(self, link, f):
-        op, source = REPORTS.get(number(f[2])), number(f[5])
-        if op is None:
+    def on_C(self, link, fields):
+        opcode, source = REPORTS.get(number(fields[2])), number(fields[5])
+        if opcode is None:
             raise Beyond("an answer to an access on B")
-        m = Message("C", link, op, self.blocks.of(number(f[6])), source=source, param=LEFT[number(f[3])], data=self.data(f, 7))
-        if op == "Release":
-            self.releases[link, source] = m
-        return m
+        block = self.blocks.of(number(fields[6]))
+        message = Message("C", link, opcode, block, source=source, param=LEFT[number(fields[3])], data=self.data(fields, 7))
+        if opcode == "Release":
+            self.releases[link, source] = message
+        return message
 
-    def on_D(self, link, f):
-        op, source = RESPONSES.get(number(f[2])), number(f[5])
-        asked = (self.releases if op == "ReleaseAck" else self.requests).get((link, source))
-        if op is None or asked is None:
+    def on_D(self, link, fields):
+        opcode, source = RESPONSES.get(number(fields[2])), number(fields[5])
+        asked = (self.releases if opcode == "ReleaseAck" else self.requests).get((link, source))
+        if opcode is None or asked is None:
             raise Beyond("an answer to nothing that the model has")
-        m = Message("D", link, op, asked.block, source=source, data=self.data(f, 8))
-        if op == "ReleaseAck":
-            m.release = asked
-        elif op.startswith("Grant"):
-            m.param, m.unread = CAPS[number(f[3])], asked.unread
-            self.grants[number(f[6])] = m
+        message = Message("D", link, opcode, asked.block, source=source, data=self.data(fields, 8))
+        if opcode == "ReleaseAck":
+            message.release = asked
+        elif opcode.startswith("Grant"):
+            message.param, message.unread = CAPS[number(fields[3])], asked.unread
+            self.grants[number(fields[6])] = message
         else:
-            m.request = asked
-        return m
+            message.request = asked
+        return message
 
-    def on_E(self, link, f):
-        grant = self.grants.get(number(f[2]))
+    def on_E(self, link, fields):
+        grant = self.grants.get(number(fields[2]))
         if grant is None:
             raise Beyond("a GrantAck of no Grant")
         return Message("E", link, "GrantAck", grant.block, grant=grant)
 
-    def value(self, m, channel, f):
+    def value(self, message, channel, fields):
         """The byte that the beat has in this lane; None: a Put doesn't write it."""
-        if channel == "E" or not m.data:
+        if channel == "E" or not message.data:
             return None
-        digits = f[7] if channel == "C" else f[8]
-        if channel == "A" and not number(f[7]) >> self.lane & 1:
+        digits = fields[7] if channel == "C" else fields[8]
+        if channel == "A" and not number(fields[7]) >> self.lane & 1:
             return None
-        if m.op == "AccessAckData" and not self.is_asked(m):
+        if message.opcode == "AccessAckData" and not self.is_asked(message):
             return Any()
         return number(digits) >> 8 * self.lane & 0xFF
 
-    def is_asked(self, m):
-        place = (m.request.at + m.sent) * self.width + self.lane
-        return m.request.address % 64 <= place < m.request.address % 64 + m.request.bytes
+    def is_asked(self, message):
+        place = (message.request.at + message.sent) * self.width + self.lane
+        return message.request.address % 64 <= place < message.request.address % 64 + message.request.bytes
 
     # ---- commits
 
-    def commit(self, f, address, v):
+    def commit(self, fields, address, value):
         """The rule that one byte of a commit breaks."""
-        link, block, i = number(f[0]), self.blocks.of(address), address % 64 // self.width
-        if f[1] == "I":
+        link, block, i = number(fields[0]), self.blocks.of(address), address % 64 // self.width
+        if fields[1] == "I":
             return self.judge.load_begins(link, block, i)
-        return (self.judge.store if f[1] == "S" else self.judge.load)(link, block, i, v)
+        return (self.judge.store if fields[1] == "S" else self.judge.load)(link, block, i, value)
 
 
 class Trace:
     def __init__(self, lines, alone):
         self.alone = alone
         header = Header(lines[0])
-        early_trial.BEATS = commits_trial.BEATS = 64 // header.width
         blocks = Blocks(lines[1:])
         self.width = header.width
         self.lanes = [Lane(lane, header, blocks, alone) for lane in range(header.width)]
 
-    def commit(self, f):
-        size, address, value = 2 ** number(f[2]), number(f[3]), number(f[4]) if f[1] != "I" else 0
-        rules = [self.lanes[(address + k) % self.width].commit(f, address + k, value >> 8 * k & 0xFF) for k in range(size)]
+    def commit(self, fields):
+        size, address, value = 2 ** number(fields[2]), number(fields[3]), number(fields[4]) if fields[1] != "I" else 0
+        rules = [self.lanes[(address + k) % self.width].commit(fields, address + k, value >> 8 * k & 0xFF) for k in range(size)]
         return min(filter(None, rules), default=None)
 
     def event(self, line):
         """The first rule that a line breaks."""
-        f = line.split()
-        if f[1] in "SLI":
-            return None if self.alone else self.commit(f)
-        return min(filter(None, [lane.beat(f) for lane in self.lanes]), default=None)
+        fields = line.split()
+        if fields[1] in "SLI":
+            return None if self.alone else self.commit(fields)
+        return min(filter(None, [lane.beat(fields) for lane in self.lanes]), default=None)
 
 
 def judged(lines, alone=False):

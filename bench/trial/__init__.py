@@ -1,0 +1,1 @@
+"""Small models of memories whose clients and managers answer early, with the rules between links that judge them."""

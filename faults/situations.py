@@ -2,13 +2,15 @@
 """situations.py TOOL DATA: of each trace in the folder situations/ of DATA, whose name is a situation's, its last message begins
 in that situation, and no message before it does: so TOOL's `cover` has to say, of the trace and of the trace without its last
 line. There is a trace for each situation that it tells. The counts of each trace and of all together, and the text of their tables,
-have to be those of bench/situations.py. With a load of a core before each beat the counts are the same, and the lines are those of
-the beats. Ends with 'situations: N passed, M failed'."""
-import importlib.util
+have to be those of bench/counting, which reads the lines. With a load of a core before each beat the counts are the same, and the
+lines are those of the beats. Ends with 'situations: N passed, M failed'."""
 import json
 import pathlib
 import subprocess
 import sys
+
+sys.path.insert(0, str(pathlib.Path(__file__).resolve().parent.parent / "bench"))
+from counting.comparison import Comparison  # noqa: E402
 
 
 def told(tool, trace):
@@ -56,18 +58,9 @@ def passes_over(tool, lines):
     return said == {**plain, "verdict": f"clean {2 * (len(lines) - 1)}"}
 
 
-def counting():
-    """The program in bench/situations.py, which counts by reading the lines."""
-    path = pathlib.Path(__file__).resolve().parent.parent / "bench/situations.py"
-    spec = importlib.util.spec_from_file_location("counting", path)
-    program = importlib.util.module_from_spec(spec)
-    spec.loader.exec_module(program)
-    return program
-
-
 def differing(tool, traces):
-    """How many of its counts and tables `cover` has otherwise than that program."""
-    comparison = counting().Comparison(tool)
+    """How many of its counts and tables `cover` has otherwise than bench/counting."""
+    comparison = Comparison(tool)
     for name, lines in traces.items():
         comparison.add(name, "".join(lines))
     comparison.all_together()

@@ -1,0 +1,1 @@
+"""The situations and the tables of a trace, counted by reading its lines."""

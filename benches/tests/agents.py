@@ -1,6 +1,7 @@
 """A cache and a device under the proved manager, and long runs."""
 
-from harness import BUGS, SV, beat_lines, checked, judged, over_library, path, proved, run, test, verilator, want
+from harness import SV, beat_lines, judged, over_library, path, run, test, verilator, want
+from simulations import BUGS, checked, proved
 
 
 def proved_manager_agrees(width):

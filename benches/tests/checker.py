@@ -4,10 +4,8 @@ import collections
 import re
 import subprocess
 
-from harness import (
-    CHECKERS, DPI, INCLUDES, SV, WATCH, HOME_BUGS, BUGS, test, want, run, path, files, verilator, icarus, checked, recorded,
-    together, covered, decoded, judged, beat_lines,
-)
+from harness import CHECKERS, DPI, INCLUDES, SV, WATCH, beat_lines, decoded, files, icarus, judged, path, run, test, verilator, want
+from simulations import BUGS, HOME_BUGS, checked, covered, recorded, together
 
 
 @test

@@ -1,10 +1,8 @@
 """The checker of what cores store and load beside the beats of all links: it stops at the line at which the command finds the fault
 of the recorded trace."""
 
-from harness import (
-    BUGS, COMMIT_CHECKER, COMMIT_RECORDER, COPY_BUGS, DPI, LIBERAL_BUGS, LIBERAL_COPY_BUGS, WATCH, beat_lines, commits_checked, decoded, judged,
-    path, recorded_commits, run, test, verilator, want,
-)
+from harness import COMMIT_CHECKER, COMMIT_RECORDER, DPI, WATCH, beat_lines, decoded, judged, path, run, test, verilator, want
+from simulations import BUGS, COPY_BUGS, LIBERAL_BUGS, LIBERAL_COPY_BUGS, commits_checked, recorded_commits
 
 RUN = ["+seed=1", "+cycles=20000"]
 TOP = "test_ports"

@@ -6,9 +6,10 @@ import subprocess
 import sys
 
 from harness import (
-    BUGS, COMMIT_CHECKER, COMMIT_RECORDER, COMMIT_WATCH, COPY_BUGS, EXAMPLE, INCLUDES, LIBERAL_BUGS, LIBERAL_COPY_BUGS, ROOT, SV, WATCH,
-    ScriptedBench, beat_lines, commits_checked, files, icarus, judged, path, recorded_commits, run, test, want,
+    COMMIT_CHECKER, COMMIT_RECORDER, COMMIT_WATCH, INCLUDES, ROOT, SV, WATCH, ScriptedBench, beat_lines, files, icarus,
+    judged, path, run, test, want,
 )
+from simulations import BUGS, COPY_BUGS, EXAMPLE, LIBERAL_BUGS, LIBERAL_COPY_BUGS, commits_checked, recorded_commits
 
 sys.path.insert(0, os.path.join(ROOT, "bench"))
 import commits_model

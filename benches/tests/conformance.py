@@ -11,8 +11,9 @@ import sys
 import xml.etree.ElementTree as ElementTree
 from pathlib import Path
 
-from harness import BUGS, HERE, HOME_BUGS, LIBERAL_BUGS, OUT, TLTOOL, path, run, runtime, shares, test, want
+from harness import HERE, OUT, TLTOOL, path, run, runtime, shares, test, want
 from shown import save, walk_page
+from simulations import BUGS, HOME_BUGS, LIBERAL_BUGS
 
 FOLDER = os.path.join(HERE, "conformance")
 sys.path.insert(0, FOLDER)

@@ -5,9 +5,10 @@ import os
 import re
 import sys
 
-from harness import HERE, HOME_BUGS, TLTOOL, liberal, path, test, want, run
+from harness import HERE, TLTOOL, path, run, test, want
 from liberal import NEEDED
 from shown import save, walk_page
+from simulations import HOME_BUGS, liberal
 
 FORMAL = os.path.join(HERE, "formal")
 PATIENCE = 1800  # seconds of wall time, on a machine that does much else

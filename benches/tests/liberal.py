@@ -3,10 +3,8 @@
 import os
 import subprocess
 
-from harness import (
-    HOME_BUGS, LIBERAL_BUGS, TLTOOL, beat_lines, judged, liberal, liberal_checked, liberal_in_icarus, liberal_late, liberal_proved,
-    path, run, test, want,
-)
+from harness import TLTOOL, beat_lines, judged, path, run, test, want
+from simulations import HOME_BUGS, LIBERAL_BUGS, liberal, liberal_checked, liberal_in_icarus, liberal_late, liberal_proved
 
 # The liberties of the example's links, in the order of a header, and the rule that the trace of a run breaks without each.
 NEEDED = {"ids": "L2", "sinks": "L2", "writer": "H6", "early": "H8", "drops": "H5"}

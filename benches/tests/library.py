@@ -2,7 +2,8 @@
 
 import os
 
-from harness import TLTOOL, measures, test, want, run, path, checked, recorded, together, compiled, least_times
+from harness import TLTOOL, compiled, least_times, measures, path, run, test, want
+from simulations import checked, recorded, together
 
 
 REFUSALS = ["-DREFUSALS", "-Wl,--wrap=malloc", "-Wl,--wrap=realloc"]

@@ -3,9 +3,8 @@
 import os
 import subprocess
 
-from harness import (
-    TLTOOL, SV, EXAMPLE, HOME_BUGS, BUGS, test, want, run, path, verilator, icarus, recorded, judged, beat_lines,
-)
+from harness import SV, TLTOOL, beat_lines, icarus, judged, path, run, test, verilator, want
+from simulations import BUGS, EXAMPLE, HOME_BUGS, recorded
 
 
 def traces_agree(width):

@@ -1,8 +1,7 @@
 """Two caches behind one port: what is recorded and judged on both sides of the crossbar that merges them."""
 
-from harness import (
-    BUGS, EXAMPLE, HOME_BUGS, SV, beat_lines, icarus, judged, path, run, shared, shared_checked, test, want, with_library,
-)
+from harness import SV, beat_lines, icarus, judged, path, run, test, want
+from simulations import BUGS, EXAMPLE, HOME_BUGS, shared, shared_checked, with_library
 
 SEED, CYCLES = "+seed=1", "+cycles=20000"
 RUN = [SEED, CYCLES]

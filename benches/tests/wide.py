@@ -1,8 +1,9 @@
 """The example on wide links: beats of 32 bytes behind addresses of more than 32 bits, its caches behind a port that they share."""
 
-from harness import (
-    BUGS, COPY_BUGS, HOME_BUGS, TLTOOL, beat_lines, judged, path, recorded_commits, run, test, want, wide, wide_checked, wide_commits,
-    wide_commits_checked, wide_commits_in_icarus, wide_in_icarus,
+from harness import TLTOOL, beat_lines, judged, path, run, test, want
+from simulations import (
+    BUGS, COPY_BUGS, HOME_BUGS, recorded_commits, wide, wide_checked, wide_commits, wide_commits_checked,
+    wide_commits_in_icarus, wide_in_icarus,
 )
 
 RUN = ["+seed=1", "+cycles=20000"]

@@ -11,7 +11,7 @@ room=packaging/out/wheel
 
 rm -rf "$room"
 mkdir -p "$room/hefrudyl" dist
-cp benches/python/hefrudyl.py "$room/hefrudyl/__init__.py"
+cp benches/python/hefrudyl/*.py "$room/hefrudyl"
 install -m755 "$library" "$room/hefrudyl/libhefrudyl.so"
 packaging/proved.py >"$room/hefrudyl/PROVED"
 cp packaging/wheel/setup.py packaging/wheel/README.md "$room"

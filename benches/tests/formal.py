@@ -25,6 +25,12 @@ def formal(map_file, *words, status=0):
     return run([os.path.join(FORMAL, "tl-formal"), os.path.join(FORMAL, map_file), "--tool", TLTOOL, *words], status=status, timeout=PATIENCE)
 
 
+def want_proved(count, map_file, *words):
+    """So many rules have to be proved of the design of a map file."""
+    told = formal(map_file, *words)
+    want(len(re.findall(r"^\w+ +proved ", told, re.M)) == count, told)
+
+
 def fault(told):
     """The rule that fails by the table, and the one that the command names on the trace of the design's own source."""
     failing = re.search(r"^(\w+) +fails at edge", told, re.M)
@@ -70,8 +76,7 @@ def bounded_search_finds_the_bugs_of_the_cache_that_takes_liberties():
 
 @test
 def the_cache_that_takes_liberties_is_proved():
-    told = formal("tl_liberal_cache.toml", "--search", "0", "--prove", "600", "--block-bits", "2")
-    want(len(re.findall(r"^\w+ +proved ", told, re.M)) == 16, told)
+    want_proved(16, "tl_liberal_cache.toml", "--search", "0", "--prove", "600", "--block-bits", "2")
 
 
 @test
@@ -90,8 +95,7 @@ def the_modules_judge_the_cache_that_takes_liberties_as_the_reference_does():
 
 @test
 def the_device_is_proved():
-    told = formal("tl_device.toml", "--search", "5", "--prove", "400")
-    want(len(re.findall(r"^\w+ +proved ", told, re.M)) == 16, told)
+    want_proved(16, "tl_device.toml", "--search", "5", "--prove", "400")
 
 
 @test
@@ -101,8 +105,7 @@ def the_page_searches_and_proves_the_cache_and_finds_the_store_that_it_loses():
 
 @test
 def the_manager_with_one_link_is_proved():
-    told = formal("tl_home_one.toml", "--search", "0", "--prove", "1200", "--block-bits", "1")
-    want(len(re.findall(r"^\w+ +proved ", told, re.M)) == 13, told)
+    want_proved(13, "tl_home_one.toml", "--search", "0", "--prove", "1200", "--block-bits", "1")
 
 
 @test

@@ -161,7 +161,7 @@ STANDARD, EVERY = 127, 255
 NAMED = [
     ("sv/tl_pkg.sv", "// What a link may do", "\n\n", r"\bLIBERTY_([A-Z]+) = (\d+);"),
     ("include/hefrudyl.h", "enum tl_liberty {", "};", r"\bTL_(?!NO_)([A-Z]+) = (\d+)"),
-    ("python/hefrudyl.py", "class Liberty(", "\n\n\n", r"^    ([A-Z]+) = (\d+)$"),
+    ("python/hefrudyl/values.py", "class Liberty(", "\n\n\n", r"^    ([A-Z]+) = (\d+)$"),
 ]
 
 

@@ -2,14 +2,13 @@
 
 import ctypes
 import dataclasses
-import functools
 import json
-import operator
 import os
 import re
 import sys
 
-from harness import HERE, ROOT, LIBRARY, SHARED_LIBRARY, TLTOOL, test, want, run, path, judged, enumerators, python_module
+from events import beat_of, commit_of, far, read_events, read_trace, renamed, traces_in
+from harness import HERE, LIBRARY, ROOT, SHARED_LIBRARY, TLTOOL, enumerators, judged, path, python_module, run, test, want
 
 
 @test
@@ -61,12 +60,20 @@ def a_client_from_python():
         want(client.offer(module.Beat(module.Channel.D, opcode=5, size=6, data=bytes(8))).rule == "H2", "an answer to nothing")
 
 
+# The structures of the header, and what Python calls them.
+STRUCTS = {
+    "tl_beat": "BeatStruct", "tl_wide_beat": "WideBeatStruct", "tl_commit": "CommitStruct", "tl_answer": "Answer", "tl_monitor": "MonitorHandle",
+    "tl_judge": "JudgeHandle", "tl_client": "ClientHandle", "tl_operation": "OperationStruct", "tl_outcome": "OutcomeStruct",
+    "tl_reception": "ReceptionStruct", "tl_manager": "ManagerHandle", "tl_link_config": "LinkConfig", "tl_cover": "CoverHandle",
+    "tl_tally": "TallyStruct", "tl_bin_tally": "BinTallyStruct",
+}
+
+
 @test
 def the_headers_structs_are_pythons():
-    module = python_module()
-    structs = [("tl_" + name.lower(), getattr(module, "_" + name))
-               for name in ("Beat", "Commit", "Answer", "Monitor", "Judge", "Client", "Operation", "Outcome", "Reception", "Manager", "Cover", "Tally")]
-    structs += [("tl_link_config", module._LinkConfig), ("tl_wide_beat", module._WideBeat), ("tl_bin_tally", module._BinTally)]
+    python_module()
+    from hefrudyl import _structs
+    structs = [(name, getattr(_structs, kind)) for name, kind in STRUCTS.items()]
     source = path("layout.c")
     with open(source, "w") as text:
         text.write('#include <hefrudyl.h>\n#include <stdio.h>\nint main(void) {\n')
@@ -84,66 +91,13 @@ def the_headers_structs_are_pythons():
             want(int(told[f"{name}.{field}"]) == getattr(kind, field).offset, f"{name}.{field}")
 
 
-def beat_of(module, line):
-    """The link and the beat that a line of a trace spells."""
-    words = line.split()
-    channel = module.Channel[words[1]]
-    if channel == module.Channel.E:
-        return int(words[0], 16), module.Beat(channel, sink=int(words[2], 16))
-    number = [int(word, 16) if word != "-" else 0 for word in words[2:]]
-    lanes = words[-2]
-    fields = dict(opcode=number[0], param=number[1], size=number[2], source=number[3], corrupt=number[-1],
-                  data=b"" if lanes == "-" else bytes.fromhex(lanes)[::-1])
-    if channel == module.Channel.D:
-        fields.update(sink=number[4], denied=number[5])
-    else:
-        fields.update(address=number[4])
-    if channel in (module.Channel.A, module.Channel.B):
-        fields.update(mask=number[5])
-    return int(words[0], 16), module.Beat(channel, **fields)
-
-
-def read_liberties(module, words):
-    named = [module.Liberty[word.upper()] for word in words.split(",") if word != "none"]
-    return functools.reduce(operator.or_, named, module.Liberty(0))
-
-
-def read_trace(module, name):
-    """What a trace's header names, as a judge or monitor is made, and the lines of its beats."""
-    with open(name) as trace:
-        lines = trace.read().splitlines()
-    header = lines[0].split()
-    version = int(header[1])
-    width = int(header[2]) if version > 1 else 8
-    profile = int(header[3]) if version == 3 else 1
-    liberties = read_liberties(module, header[3]) if version > 3 else None
-    return ([module.Level[level] for level in header[min(version, 3) + 1:]], width, profile, liberties), lines[1:]
-
-
-MARKS = ("zero", "commits")
-
-
-def read_events(module, name):
-    """What the header of a trace with stores and loads names, as a judge of these is made, and the lines of its events."""
-    with open(name) as trace:
-        header, *lines = trace.read().splitlines()
-    _, _, width, liberties, *words = header.split()
-    levels = [word for word in words if word not in MARKS]
-    return dict(levels=[module.Level[level.rstrip("+")] for level in levels], complete=[level.endswith("+") for level in levels],
-                width=int(width), liberties=read_liberties(module, liberties), zero="zero" in words), lines
-
-
-def traces_in(folder, with_commits):
-    """The example traces in a folder, those with stores and loads or with memory that was zero, or the others."""
-    folder = os.path.join(ROOT, "crates/tl_examples/data", folder)
-    heads = ((it.path, open(it.path).readline().split()) for it in sorted(os.scandir(folder), key=lambda it: it.name) if it.is_file())
-    return [path for path, head in heads if any(word in MARKS or word.endswith("+") for word in head) == with_commits]
-
-
-def renamed(beat):
-    """The beat behind an address of more than 32 bits, with long ids: 0 is kept, since L2 asks for it."""
-    return dataclasses.replace(beat, address=beat.address + 0x1_8000_0000 if beat.channel < 3 else 0,
-                               source=beat.source and 0x100 + beat.source, sink=beat.sink and 0x300 + beat.sink)
+def first_fault(lines, push):
+    """The first line whose event breaks a rule, by the verdict that `push` gives on a line: `line N X`, or nothing."""
+    for number, line in enumerate(lines, 2):
+        verdict = push(line)
+        if not verdict:
+            return f"line {number} {verdict.rule}"
+    return ""
 
 
 def told_of_wide(module, kind, name, changed):
@@ -152,12 +106,8 @@ def told_of_wide(module, kind, name, changed):
     if liberties is None:
         liberties = module.Liberty.WRITER if profile == 2 else module.Liberty(0)
     with kind(levels, width, liberties) as judge:
-        for number, line in enumerate(lines, 2):
-            link, beat = beat_of(module, line)
-            verdict = judge.push(link, changed(beat))
-            if not verdict:
-                return f"line {number} {verdict.rule}"
-    return ""
+        pushed = (beat_of(module, line) for line in lines)
+        return first_fault(pushed, lambda beat: judge.push(beat[0], changed(beat[1])))
 
 
 def told_of(module, kind, name):
@@ -176,11 +126,14 @@ def told_of_lines(module, name):
     """What the library says of a trace with stores and loads, line by line, in the command's words."""
     made, lines = read_events(module, name)
     with module.CommitJudge(**made) as judge:
-        for number, line in enumerate(lines, 2):
-            verdict = judge.push_line(line.encode() + b"\n")
-            if not verdict:
-                return f"line {number} {verdict.rule}"
-    return f"coherent {len(lines)}"
+        return first_fault(lines, lambda line: judge.push_line(line.encode() + b"\n")) or f"coherent {len(lines)}"
+
+
+def want_judged(name, by_monitor, by_judge):
+    """A monitor and a judge of all links have to find the fault in a trace that the command finds; nothing where it finds none."""
+    for told, command, right in ((by_monitor, "monitor", "clean"), (by_judge, "coherent", "coherent")):
+        wanted = judged(name, command)
+        want(wanted == told or wanted.startswith(right) and not told, f"{name}: {told}, and {command} says {wanted}")
 
 
 @test
@@ -190,9 +143,7 @@ def python_judges_traces_as_the_command_does():
     names = traces_in("rules", with_commits=False)
     want(len(names) >= 40, f"{len(names)} traces")
     for name in names:
-        for kind, command, right in ((module.Monitor, "monitor", "clean"), (module.Judge, "coherent", "coherent")):
-            told, wanted = told_of(module, kind, name), judged(name, command)
-            want(wanted == told or wanted.startswith(right) and not told, f"{name}: {told}, and {command} says {wanted}")
+        want_judged(name, told_of(module, module.Monitor, name), told_of(module, module.Judge, name))
 
 
 @test
@@ -214,34 +165,19 @@ def python_judges_wide_beats_as_the_command_does():
     want(len(names) >= 4, f"{len(names)} traces")
     names += [(it, renamed) for it in traces_in("rules", with_commits=False)]
     for name, changed in names:
-        for kind, command, right in ((module.WideMonitor, "monitor", "clean"), (module.WideJudge, "coherent", "coherent")):
-            told, wanted = told_of_wide(module, kind, name, changed), judged(name, command)
-            want(wanted == told or wanted.startswith(right) and not told, f"{name}: {told}, and {command} says {wanted}")
-
-
-def commit_of(module, line):
-    """The link and the commit of a line."""
-    link, letter, size, address, *value = line.split()
-    kind = {"S": module.CommitKind.STORE, "L": module.CommitKind.LOAD, "I": module.CommitKind.BEGIN}[letter]
-    return int(link, 16), module.Commit(kind, int(size, 16), int(address, 16), int(value[0], 16) if value else 0)
-
-
-def far(event):
-    """The beat or the commit behind an address of more than 32 bits; a beat has long ids."""
-    return renamed(event) if hasattr(event, "channel") else dataclasses.replace(event, address=event.address + 0x1_8000_0000)
+        want_judged(name, *(told_of_wide(module, kind, name, changed) for kind in (module.WideMonitor, module.WideJudge)))
 
 
 def told_of_wide_events(module, name, changed):
     """What the library says of a trace with stores and loads whose events are pushed on wide links, each changed so."""
     made, lines = read_events(module, name)
     with module.WideCommitJudge(**made) as judge:
-        for number, line in enumerate(lines, 2):
+        def push(line):
             is_commit = line[3] in "SLI"
             link, event = (commit_of if is_commit else beat_of)(module, line)
-            verdict = (judge.commit if is_commit else judge.push)(link, changed(event))
-            if not verdict:
-                return f"line {number} {verdict.rule}"
-    return f"coherent {len(lines)}"
+            return (judge.commit if is_commit else judge.push)(link, changed(event))
+
+        return first_fault(lines, push) or f"coherent {len(lines)}"
 
 
 @test

@@ -7,17 +7,17 @@ Three caches and a device contend for two blocks at 16 bytes a beat. The manager
 
 import argparse
 import collections
+import pathlib
 import random
 import subprocess
 import sys
 
+sys.path.insert(0, str(pathlib.Path(__file__).resolve().parent.parent / "bench"))
+from trial.messages import BRANCH, NONE, TRUNK  # noqa: E402
+from trial.traces import CAPS, GROWS, REPORTS  # noqa: E402
+
 WIDTH, BLOCK, BLOCKS, CACHES = 16, 64, 2, 3
 DEVICE = f"{CACHES:02x}"
-NONE, BRANCH, TRUNK = 0, 1, 2
-TO_TRUNK, TO_BRANCH, TO_NONE = 0, 1, 2  # caps of Grants and Probes
-CAP = {TRUNK: TO_TRUNK, BRANCH: TO_BRANCH, NONE: TO_NONE}
-GROWS = {(NONE, BRANCH): 0, (NONE, TRUNK): 1, (BRANCH, TRUNK): 2}
-REPORTS = {(TRUNK, BRANCH): 0, (TRUNK, NONE): 1, (BRANCH, NONE): 2, (TRUNK, TRUNK): 3, (BRANCH, BRANCH): 4, (NONE, NONE): 5}
 
 BUGS = {
     "grants Trunk beside a holder": "no_probes",
@@ -124,7 +124,7 @@ class World:
 
     def probe(self, link, block, left):
         """Probes a cache, and lets it answer some time later."""
-        self.beat(f"{link:02x}", "B", "6", str(CAP[left]), "6", "00", f"{BLOCK * block:08x}", "ffff", "-", "0")
+        self.beat(f"{link:02x}", "B", "6", str(CAPS[left]), "6", "00", f"{BLOCK * block:08x}", "ffff", "-", "0")
         while self.rng.random() < 0.6:
             yield True
         cache = self.caches[link][block]
@@ -147,7 +147,7 @@ class World:
         found = bytes(self.memory[block])
         if self.bug == "turned_grant":
             found = found[WIDTH:] + found[:WIDTH]
-        words = [f"{link:02x}", "D", "5", str(CAP[wants]), "6", f"{block:02x}", f"{block:02x}", "0"]
+        words = [f"{link:02x}", "D", "5", str(CAPS[wants]), "6", f"{block:02x}", f"{block:02x}", "0"]
         self.data("D", words, [], found)
         cache.held, cache.bytes, cache.dirty, cache.acquires = wants, bytearray(found), False, None
         while self.rng.random() < 0.5:

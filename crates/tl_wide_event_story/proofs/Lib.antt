@@ -1,2 +1,8 @@
+mod CopyFollowed
+mod Grounded
+mod Guided
+mod LinkRecorded
+mod PartsMet
+mod ResponsesGuided
 mod Retold
 mod Storied

@@ -81,7 +81,9 @@ told-explains {w} h together allow old new read text verdict reasons Broken cons
           named = subst (λ (l : Liberties). NamesWideMarked l it.header it.width it.may it.links) is it.named;
           bytes = w;
           of_width = it.of_width;
+          trace = it.trace;
           before = it.before;
+          are_spelled = it.are_spelled;
           line = it.line;
           more = it.more;
           stands = it.are_lines;
@@ -92,6 +94,7 @@ told-explains {w} h together allow old new read text verdict reasons Broken cons
           grounds = it.grounds;
           says_why = why ∙ subst (λ (n : ℕ). h.replay.reasons.items
               ≡ front_text h.replay.fault n it.link it.event ++ it.grounds) number it.says;
+          are = it.are;
         }
 
 -- ---- both readings

@@ -1,1 +1,2 @@
+pub mod Guiding
 pub mod Retelling

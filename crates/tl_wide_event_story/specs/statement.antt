@@ -1,1 +1,2 @@
 pub mod WideEventsExplained
+pub mod WideGrounds

@@ -1,14 +1,24 @@
 //! Follows a block in the cache of a link of a wide trace, for a breach of a rule of stores and loads.
 
+ghost use Rattle.std.specs.Prelude.{◌≡◌, ◌∷◌, [], true, IfOk, IfSome, IsTrue, length, OnOk};
+ghost use Rattle.tl_beat.specs.declared.channel.Channel.TheVariants as channel;
 ghost use Rattle.tl_beat.specs.statement.Width.{IsWidth};
+ghost use Rattle.tl_burst.specs.statement.Messages.{unfinished};
+ghost use Rattle.tl_burst.specs.statement.Part.{is_small};
+ghost use Rattle.tl_commits.specs.statement.Copies.{link_beats};
+ghost use Rattle.tl_commits.specs.statement.Events.{Events};
+ghost use Rattle.tl_events.specs.declared.commit.Event.TheVariants as event;
 ghost use Rattle.tl_events.specs.statement.CommitLine.{IsCommit};
 ghost use Rattle.tl_wide.specs.statement.Width.{IsWideWidth};
+ghost use Rattle.tl_wide_event_story.specs.code.Guiding.{FollowsCopy, KnowsCopyGuide, MeetsCopy, TellsCopy};
+ghost use Rattle.tl_wide_events.specs.statement.Narrowed.{address_of};
+ghost use Rattle.tl_wide_story.specs.statement.WideNaming as naming;
 
 use crate::names::first_byte;
 use crate::passing::{Met, Passing, append_passing};
-use crate::places::{Places, append_address, piece_of, places_of_commit, places_of_part};
+use crate::places::{Places, append_address, places_of_commit, places_of_part};
+use crate::stores::{StoreLine, Stores};
 use crate::transfer::Transfer;
-use crate::words::append_wide_commit;
 use std::alloc::{AllocError, Global};
 use tl_beat::beat::{Beat, Link};
 use tl_events::commit::{Commit, Event};
@@ -28,14 +38,6 @@ use tl_wide_story::numbering::Numbering;
 use tl_wide_story::places::WidePlaces;
 use tl_witness::text::append_hex;
 
-/// A store in the line of this number.
-#[derive(Clone, Copy)]
-struct StoreLine {
-    number: u64,
-    link: Link,
-    commit: WideCommit,
-}
-
 /// A block in the cache of a link: the permission held and the wide beat at which it changed, the data under way, and the
 /// last store to each byte.
 #[derive(Drop)]
@@ -53,7 +55,7 @@ pub struct CopyGuide<const P: usize> {
     granting: Transfer,
     /// That on channel C.
     giving: Transfer,
-    stores: [Option<StoreLine>; 64],
+    stores: Stores,
 }
 
 /// Appends the words of the first wide beat of an unfinished message, if there is one.
@@ -65,15 +67,35 @@ fn append_begun(label: &str, begun: &[u8], out: &mut Vec<u8>) -> Result<(), Allo
     out.extend_from_slice(begun)
 }
 
-/// Appends a store, unless it is that of line `told`. Returns the number of its line.
-fn append_store(store: Option<StoreLine>, told: u64, out: &mut Vec<u8>) -> Result<u64, AllocError> {
-    let Some(store) = store else {
-        return Ok(told);
-    };
-    if store.number != told && piece_of(store.commit).size <= 3 {
-        append_wide_commit(store.number, store.link, store.commit, out)?;
+/// Gives a part of a wide beat to a monitor. Returns true if it breaks no rule of its link.
+fn push<const P: usize>(
+    monitor: &mut Monitor<P>,
+    link: Link,
+    part: &Beat<P>,
+) -> Result<bool, AllocError>
+    requires { IsWidth P }
+{
+    match monitor.try_push(link, part) {
+        Ok(()) => Ok(true),
+        Err(MonitorFault::Memory) => Err(AllocError),
+        Err(_) => Ok(false),
     }
-    Ok(store.number)
+}
+
+/// Notes a wide beat, if with a part of it the permission held changed from `before` to `after`.
+fn note<const W: usize>(
+    since: &mut Vec<u8>,
+    before: Perm,
+    after: Perm,
+    passing: Passing<'_, W>,
+) -> Result<(), AllocError>
+    requires { IsWideWidth W }
+{
+    if after == before {
+        return Ok(());
+    }
+    since.clear();
+    append_passing(passing, since)
 }
 
 impl<const P: usize> CopyGuide<P> {
@@ -87,6 +109,8 @@ impl<const P: usize> CopyGuide<P> {
         zero: bool,
     ) -> Result<Option<Self>, AllocError>
         requires { IsWidth P }
+        ensures { IfOk result (λ kept. IfSome kept (λ g. KnowsCopyGuide g links.now.may links.now.levels.items
+            (record { stores = complete.now; zero = zero }) [])) }
     {
         let levels = links.levels.as_slice();
         let Ok(monitor) = Monitor::with_liberties(alloc, levels, links.may) else {
@@ -111,7 +135,7 @@ impl<const P: usize> CopyGuide<P> {
                 since: Vec::new(alloc),
                 granting: Transfer::new(alloc),
                 giving: Transfer::new(alloc),
-                stores: [None; 64],
+                stores: Stores::new(),
             })),
         }
     }
@@ -133,7 +157,7 @@ impl<const P: usize> CopyGuide<P> {
         }
     }
 
-    /// Takes a part of a wide beat of the link, as one of a message on its channel.
+    /// Takes a part of a wide beat, as one of a message on a channel of the link if it is of the link.
     fn follow<const W: usize>(
         &mut self,
         passing: Passing<'_, W>,
@@ -141,29 +165,25 @@ impl<const P: usize> CopyGuide<P> {
     ) -> Result<(), AllocError>
         requires wide { IsWideWidth W }
         requires width { IsWidth P }
+        requires small { IsTrue (is_small part.now) }
+        ensures record { self.new.record ≡ self.old.record }
+        ensures link { self.new.link ≡ self.old.link }
+        ensures counts { OnOk result ((e : Events P) →
+            self.old.giving.came ≡ length (unfinished channel.C (link_beats self.old.link.0 e)) →
+            self.new.giving.came ≡ length (unfinished channel.C
+            (link_beats self.old.link.0 ((passing.entry.link, event.Beat part.now) ∷ e)))) }
     {
+        if passing.link != self.link {
+            return Ok(());
+        }
         let mut words = Vec::new(self.alloc);
         if self.moves(part) {
             append_passing(passing, &mut words)?;
-        }
-        if !is_small(part) {
-            return Ok(());
         }
         match part {
             Beat::C(_) => self.giving.take(words.as_slice(), part),
             Beat::D(_) => self.granting.take(words.as_slice(), part),
             _ => Ok(()),
-        }
-    }
-
-    /// Gives a part of a wide beat to the monitor. Returns true if it breaks no rule of its link.
-    fn push(&mut self, link: Link, part: &Beat<P>) -> Result<bool, AllocError>
-        requires { IsWidth P }
-    {
-        match self.monitor.try_push(link, part) {
-            Ok(()) => Ok(true),
-            Err(MonitorFault::Memory) => Err(AllocError),
-            Err(_) => Ok(false),
         }
     }
 
@@ -176,29 +196,41 @@ impl<const P: usize> CopyGuide<P> {
     ) -> Result<bool, AllocError>
         requires wide { IsWideWidth W }
         requires width { IsWidth P }
+        ensures { IfOk result (λ on. on ≡ true →
+            FollowsCopy self.old self.new number passing.entry.link (event.Beat part.now)) }
     {
+        if !is_small(part) {
+            return Ok(false);
+        }
         let event = Event::Beat(*part);
         if !self.record.take(number, passing.link, &event)? {
             return Ok(false);
         }
-        if passing.link == self.link {
-            self.follow(passing, part)?;
-        }
+        self.follow(passing, part)?;
         let before = self.held();
-        if !self.push(passing.link, part)? {
+        if !push(&mut self.monitor, passing.link, part)? {
             return Ok(false);
         }
-        if self.held() != before {
-            self.since.clear();
-            append_passing(passing, &mut self.since)?;
-        }
+        let after = self.held();
+        note::<W>(&mut self.since, before, after, passing)?;
         Ok(true)
     }
 
-    /// Keeps a store to bytes of the block.
-    fn keep(&mut self, store: StoreLine, places: Places) {
-        for place in places.first..places.first + places.count {
-            self.stores[place] = Some(store);
+    /// Keeps the commit in this line, if it is a store to bytes of the block. It becomes this narrow one.
+    fn note_store(&mut self, number: u64, link: Link, commit: WideCommit, narrow: Commit)
+        ensures record { self.new.record ≡ self.old.record }
+        ensures link { self.new.link ≡ self.old.link }
+        ensures giving { self.new.giving ≡ self.old.giving }
+    {
+        if let (Commit::Store { .. }, Some(places)) = (narrow, places_of_commit(commit))
+            && block_at(first_byte(narrow)) == self.block
+        {
+            let store = StoreLine {
+                number,
+                link,
+                commit,
+            };
+            self.stores.keep(store, places);
         }
     }
 
@@ -214,22 +246,12 @@ impl<const P: usize> CopyGuide<P> {
     ) -> Result<bool, AllocError>
         requires width { IsWidth P }
         requires commit { IsCommit narrow }
+        ensures { IfOk result (λ on. on ≡ true → FollowsCopy self.old self.new number link (event.Commit narrow)) }
     {
         if !self.record.take(number, link, &Event::Commit(narrow))? {
             return Ok(false);
         }
-        if let (Commit::Store { .. }, Some(places)) = (narrow, places_of_commit(commit))
-            && block_at(first_byte(narrow)) == self.block
-        {
-            self.keep(
-                StoreLine {
-                    number: line,
-                    link,
-                    commit,
-                },
-                places,
-            );
-        }
+        self.note_store(line, link, commit, narrow);
         Ok(true)
     }
 
@@ -248,26 +270,6 @@ impl<const P: usize> CopyGuide<P> {
         out.extend_from_slice(&self.since)
     }
 
-    /// Appends the last stores to these bytes of the block, one that reached several in a row once.
-    fn append_stores(&self, places: Places, out: &mut Vec<u8>) -> Result<(), AllocError> {
-        let mut told = 0;
-        for place in places.first..places.first + places.count {
-            told = append_store(self.stores[place], told, out)?;
-        }
-        Ok(())
-    }
-
-    /// Appends the last stores to these bytes of the block, or that there is none.
-    fn tell_stores(&self, places: Places, out: &mut Vec<u8>) -> Result<(), AllocError> {
-        let mut lines = Vec::new(self.alloc);
-        self.append_stores(places, &mut lines)?;
-        if lines.is_empty() {
-            return out.extend_from_slice(b"  no store before it reached these bytes\n");
-        }
-        out.extend_from_slice(b"  the last stores to these bytes:\n")?;
-        out.extend_from_slice(&lines)
-    }
-
     /// Appends the permission held of the block at this address, data under way and the last stores, for an event that is
     /// about these bytes.
     fn tell_all(&self, address: u64, places: Places, out: &mut Vec<u8>) -> Result<(), AllocError> {
@@ -282,7 +284,7 @@ impl<const P: usize> CopyGuide<P> {
             &self.giving.begun,
             out,
         )?;
-        self.tell_stores(places, out)
+        self.stores.tell(self.alloc, places, out)
     }
 
     /// Appends the grounds for the breach of a rule of stores and loads by an event of the link that is about these bytes of the
@@ -297,6 +299,9 @@ impl<const P: usize> CopyGuide<P> {
         out: &mut Vec<u8>,
     ) -> Result<bool, AllocError>
         requires { IsWidth P }
+        ensures { IfOk result (λ told. told ≡ true →
+            TellsCopy self.now (naming.names_of numbering.now.later.items address) rule self.now.link event.now
+            out.old.items out.new.items) }
     {
         let mut held = Vec::new(self.alloc);
         self.tell_all(address, places, &mut held)?;
@@ -316,6 +321,9 @@ impl<const P: usize> CopyGuide<P> {
         out: &mut Vec<u8>,
     ) -> Result<bool, AllocError>
         requires { IsWidth P }
+        ensures { IfOk result (λ told. told ≡ true →
+            TellsCopy self.now (naming.names_of numbering.now.later.items (address_of commit)) rule link
+            (event.Commit narrow) out.old.items out.new.items) }
     {
         if link != self.link || block_at(first_byte(narrow)) != self.block {
             return Ok(false);
@@ -338,6 +346,9 @@ impl<const P: usize> CopyGuide<P> {
         out: &mut Vec<u8>,
     ) -> Result<bool, AllocError>
         requires { IsWidth P }
+        ensures { IfOk result (λ told. told ≡ true →
+            TellsCopy self.now (naming.names_of numbering.now.later.items address) rule link (event.Beat part.now)
+            out.old.items out.new.items) }
     {
         let block = match part {
             Beat::A(x) => block_at(x.address),
@@ -354,7 +365,7 @@ impl<const P: usize> CopyGuide<P> {
     }
 
     /// Meets a part of the wide beat at fault, which has this address: appends the grounds if the part is at fault, and takes
-    /// it if it isn't.
+    /// it if it isn't. Then the text is of no use.
     pub fn meet_part<const W: usize>(
         &mut self,
         numbering: &Numbering,
@@ -367,15 +378,15 @@ impl<const P: usize> CopyGuide<P> {
     ) -> Result<Met, AllocError>
         requires wide { IsWideWidth W }
         requires width { IsWidth P }
+        ensures { IfOk result (MeetsCopy self.old self.new number
+            (naming.names_of numbering.now.later.items address) rule passing.entry.link part.now out.old.items out.new.items) }
     {
-        let mut grounds = Vec::new(self.alloc);
-        if !self.tell_part(numbering, rule, passing.link, address, part, &mut grounds)? {
+        if !self.tell_part(numbering, rule, passing.link, address, part, out)? {
             return Ok(Met::Strange);
         }
         if self.take_part(number, passing, part)? {
             return Ok(Met::Taken);
         }
-        out.extend_from_slice(&grounds)?;
         Ok(Met::AtFault)
     }
 }

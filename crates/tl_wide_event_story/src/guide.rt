@@ -1,9 +1,17 @@
 //! Follows the events of a wide trace by the events that they become, for the grounds of its first fault.
 
-ghost use Rattle.std.specs.Prelude.{◌≡◌};
+ghost use Rattle.std.specs.Prelude.{◌≡◌, ◌+◌, [], ◌∷◌, ℕ, List, true, IfOk, IfSome, OnOk};
 ghost use Rattle.tl_beat.specs.statement.Width.{IsWidth};
+ghost use Rattle.tl_commit_lines.specs.statement.MarkedHeader.{levels_of, links_in};
+ghost use Rattle.tl_commits.specs.statement.Events.{Events};
+ghost use Rattle.tl_events.specs.declared.commit.Event.TheVariants as event;
 ghost use Rattle.tl_events.specs.statement.CommitLine.{IsCommit};
+ghost use Rattle.tl_wide.specs.statement.Pieces.{left_of};
 ghost use Rattle.tl_wide.specs.statement.Width.{IsWideWidth, part_width};
+ghost use Rattle.tl_wide_event_story.specs.code.Guiding.{FollowsEvent, KnowsGuide, KnowsKind, NotesBeat, TakesEvent};
+ghost use Rattle.tl_wide_event_story.specs.code.Guiding.{TakesEvents, TakesWide, with_later};
+ghost use Rattle.tl_wide_events.specs.declared.commit.WideEvent.TheVariants as wide_event;
+ghost use Rattle.tl_wide_events.specs.statement.Narrowed.{as_events};
 ghost use Rattle.tl_wide_event_lines.specs.code.EventJudging.{IsValid};
 ghost use Rattle.tl_wide_events.specs.statement.WideCommitLine.{IsWideCommit};
 
@@ -15,7 +23,7 @@ use arrayvec::ArrayVec;
 use std::alloc::{AllocError, Global};
 use tl_beat::beat::{Beat, Link};
 use tl_commit_lines::header::CommitHeader;
-use tl_commit_lines::judge::complete_of;
+use tl_commit_lines::judge::{complete_of, levels_of};
 use tl_events::commit::Commit;
 use tl_lines::fault::Fault;
 use tl_lines::links_header::LinksHeader;
@@ -46,7 +54,6 @@ pub enum Kind<const W: usize, const P: usize> {
 pub struct Guide<const W: usize, const P: usize> {
     pub alloc: Global,
     pub narrower: Narrower,
-    pub fault: Fault,
     pub kind: Kind<W, P>,
     /// The number with which the last event that a wide event became was recorded. That of the header is 1.
     pub recorded: u64,
@@ -54,16 +61,20 @@ pub struct Guide<const W: usize, const P: usize> {
 }
 
 /// The header without the marks of its links.
-pub fn plain_of(header: &CommitHeader) -> LinksHeader {
+pub fn plain_of(alloc: Global, header: &CommitHeader) -> Result<LinksHeader, AllocError>
+    ensures { IfOk result (λ plain. (plain.may ≡ header.now.may)
+        × (plain.levels.items ≡ levels_of (links_in header.now))) }
+{
+    let own = levels_of(alloc, header.links.as_slice())?;
     let mut levels = ArrayVec::new();
-    for link in header.links.as_slice() {
-        let _ = levels.try_push(link.level);
+    if levels.try_extend_from_slice(&own).is_err() {
+        return Err(AllocError);
     }
-    LinksHeader {
+    Ok(LinksHeader {
         width: header.width,
         may: header.may,
         levels,
-    }
+    })
 }
 
 /// Follows events for a fault, before any event of the links that a header names. None if the header has no such link.
@@ -76,8 +87,9 @@ fn kind_of<const W: usize, const P: usize>(
 ) -> Result<Option<Kind<W, P>>, AllocError>
     requires wide { IsWideWidth W }
     requires width { IsWidth P }
+    ensures { IfOk result (λ kind. IfSome kind (λ k. KnowsKind k header.now.may (links_in header.now) [] [])) }
 {
-    let links = plain_of(header);
+    let links = plain_of(alloc, header)?;
     match fault {
         Fault::Rule(_) => {
             let guide = LinkGuide::new(alloc, together, clue, &links)?;
@@ -106,11 +118,13 @@ fn kind_of<const W: usize, const P: usize>(
 
 impl<const W: usize, const P: usize> Kind<W, P> {
     /// Keeps the address of a wide beat, if the verdict may be about its block.
-    pub fn note_address(&mut self, at_fault: bool, link: Link, beat: &WideBeat<W>) {
+    pub fn note_address(&mut self, at_fault: bool, link: Link, beat: &WideBeat<W>)
+        ensures { NotesBeat self.old self.new link beat.now }
+    {
         match self {
             Kind::OfLink(guide) => guide.note_address(at_fault, link, beat),
             Kind::OfResponse(guide) => guide.note_address(link, beat),
-            _ => {}
+            Kind::OfCopy(_) | Kind::OfNothing => {}
         }
     }
 
@@ -123,6 +137,8 @@ impl<const W: usize, const P: usize> Kind<W, P> {
     ) -> Result<bool, AllocError>
         requires wide { IsWideWidth W }
         requires width { IsWidth P }
+        ensures { IfOk result (λ on. on ≡ true →
+            FollowsEvent self.old self.new number passing.entry.link (event.Beat part.now)) }
     {
         match self {
             Kind::OfNothing => Ok(true),
@@ -147,11 +163,13 @@ impl<const W: usize, const P: usize> Kind<W, P> {
     ) -> Result<bool, AllocError>
         requires width { IsWidth P }
         requires commit { IsCommit narrow }
+        ensures { IfOk result (λ on. on ≡ true → FollowsEvent self.old self.new number link (event.Commit narrow)) }
     {
         match self {
             Kind::OfCopy(guide) => guide.take_commit(line, number, link, commit, narrow),
             Kind::OfResponse(guide) => guide.take_commit(number, link, narrow),
-            _ => Ok(true),
+            Kind::OfLink(_) => Ok(true),
+            Kind::OfNothing => Ok(true),
         }
     }
 }
@@ -168,13 +186,14 @@ impl<const W: usize, const P: usize> Guide<W, P> {
     ) -> Result<Option<Self>, AllocError>
         requires wide { IsWideWidth W }
         requires width { IsWidth P }
+        ensures { IfOk result (λ guide. IfSome guide (λ g. KnowsGuide g header.now.may (links_in header.now) []
+            (λ q. []))) }
     {
         match kind_of(alloc, together, fault, clue, header)? {
             None => Ok(None),
             Some(kind) => Ok(Some(Guide {
                 alloc,
                 narrower: Narrower::new(alloc),
-                fault,
                 kind,
                 recorded: 1,
                 numbering: Numbering::new(alloc),
@@ -183,12 +202,19 @@ impl<const W: usize, const P: usize> Guide<W, P> {
     }
 
     /// The number with which the next event is recorded. The error is that there is none.
-    pub fn next_number(&self) -> Result<u64, AllocError> {
+    pub fn next_number(&self) -> Result<u64, AllocError>
+        ensures { IfOk result (λ number. number ≡ self.now.recorded + 1) }
+    {
         self.recorded.checked_add(1).ok_or(AllocError)
     }
 
     /// Notes that an event was recorded with this number, and whether it is a later part of its wide beat.
-    pub fn note_number(&mut self, number: u64, is_later: bool) -> Result<(), AllocError> {
+    pub fn note_number(&mut self, number: u64, is_later: bool) -> Result<(), AllocError>
+        ensures recorded { OnOk result (self.new.recorded ≡ number) }
+        ensures later { OnOk result (self.new.numbering.later.items
+            ≡ with_later is_later number self.old.numbering.later.items) }
+        ensures same { OnOk result ((self.new.kind ≡ self.old.kind) × (self.new.narrower ≡ self.old.narrower)) }
+    {
         if is_later {
             self.numbering.note_later(number)?;
         }
@@ -205,6 +231,8 @@ impl<const W: usize, const P: usize> Guide<W, P> {
     ) -> Result<bool, AllocError>
         requires wide { IsWideWidth W }
         requires width { IsWidth P }
+        ensures { IfOk result (λ on. on ≡ true →
+            TakesEvent self.old self.new passing.entry.link is_later (event.Beat part.now)) }
     {
         let number = self.next_number()?;
         if !self.kind.take_part(number, passing, part)? {
@@ -219,6 +247,8 @@ impl<const W: usize, const P: usize> Guide<W, P> {
         requires wide { IsWideWidth W }
         requires width { IsWidth P }
         requires part { P ≡ part_width W }
+        ensures { IfOk result (λ on. on ≡ true →
+            TakesEvents self.old self.new passing.entry.link (as_events (left_of passing.entry.beat.now parts))) }
     {
         let mut is_later = false;
         let mut left = parts;
@@ -236,6 +266,8 @@ impl<const W: usize, const P: usize> Guide<W, P> {
         requires wide { IsWideWidth W }
         requires width { IsWidth P }
         requires part { P ≡ part_width W }
+        ensures { IfOk result (λ on. on ≡ true →
+            TakesWide self.old self.new passing.entry.link (wide_event.Beat passing.entry.beat.now)) }
     {
         let narrowed = self.narrower.narrow::<W, P>(passing.link, passing.beat)?;
         let Some(parts) = narrowed else {
@@ -249,6 +281,8 @@ impl<const W: usize, const P: usize> Guide<W, P> {
     fn take_commit(&mut self, line: u64, link: Link, commit: WideCommit) -> Result<bool, AllocError>
         requires width { IsWidth P }
         requires commit { IsWideCommit commit }
+        requires part { P ≡ part_width W }
+        ensures { IfOk result (λ on. on ≡ true → TakesWide self.old self.new link (wide_event.Commit commit)) }
     {
         let Some(narrow) = narrow_commit(&mut self.narrower, link, commit)? else {
             return Ok(false);
@@ -273,6 +307,7 @@ impl<const W: usize, const P: usize> Guide<W, P> {
         requires width { IsWidth P }
         requires part { P ≡ part_width W }
         requires event { IsValid event.now }
+        ensures { IfOk result (λ on. on ≡ true → TakesWide self.old self.new link event.now) }
     {
         match event {
             WideEvent::Beat(beat) => {

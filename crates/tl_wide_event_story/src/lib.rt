@@ -14,6 +14,7 @@ mod places;
 mod replay;
 mod reread;
 mod response_guide;
+mod stores;
 mod story;
 mod transfer;
 mod words;

@@ -1,8 +1,15 @@
 //! Records the beats of a wide trace for a breach of a rule of a link.
 
-ghost use Rattle.std.specs.Prelude.{◌≡◌};
+ghost use Rattle.std.specs.Prelude.{◌≡◌, ◌++◌, [], true, List, ℕ, IfOk, OnOk, slice_get};
 ghost use Rattle.tl_beat.specs.statement.Width.{IsWidth};
+ghost use Rattle.tl_commit_story.specs.statement.Grounds.{no_cache_words};
+ghost use Rattle.tl_commits.specs.statement.Events.{Events};
+ghost use Rattle.tl_events.specs.declared.commit.Event.TheVariants as event;
+ghost use Rattle.tl_params.specs.declared.level.Level.{Level};
+ghost use Rattle.tl_params.specs.declared.liberties.Liberties.{Liberties};
 ghost use Rattle.tl_wide.specs.statement.Width.{IsWideWidth};
+ghost use Rattle.tl_wide_event_story.specs.code.Guiding.{ConvictsPart, FollowsLink, KeepsLink, KnowsLinkGuide};
+ghost use Rattle.tl_wide_event_story.specs.code.Guiding.{MeetsLink};
 
 use crate::passing::{Met, Passing};
 use std::alloc::{AllocError, Global};
@@ -59,6 +66,7 @@ impl<const W: usize, const P: usize> LinkGuide<W, P> {
     ) -> Result<Self, AllocError>
         requires wide { IsWideWidth W }
         requires width { IsWidth P }
+        ensures { IfOk result (λ g. KnowsLinkGuide g links.now.may links.now.levels.items []) }
     {
         let allowed = allowed_of(alloc, together, links)?;
         Ok(LinkGuide {
@@ -76,7 +84,9 @@ impl<const W: usize, const P: usize> LinkGuide<W, P> {
     }
 
     /// Keeps the address of the block that the verdict is about.
-    pub fn note_address(&mut self, at_fault: bool, link: Link, beat: &WideBeat<W>) {
+    pub fn note_address(&mut self, at_fault: bool, link: Link, beat: &WideBeat<W>)
+        ensures { KeepsLink self.old self.new }
+    {
         self.wording
             .note_address(at_fault, link == self.recorder.subject.link, beat);
     }
@@ -84,6 +94,7 @@ impl<const W: usize, const P: usize> LinkGuide<W, P> {
     /// Takes a part of a wide beat, for the liberties that would allow it.
     pub fn allow(&mut self, link: Link, part: &Beat<P>) -> Result<(), AllocError>
         requires { IsWidth P }
+        ensures { KeepsLink self.old self.new }
     {
         match &mut self.allowed {
             None => Ok(()),
@@ -94,6 +105,7 @@ impl<const W: usize, const P: usize> LinkGuide<W, P> {
     /// Records a part of a wide beat whose line is cited so. Returns true if it can be recorded.
     pub fn record(&mut self, cited: &[u8], link: Link, part: &Beat<P>) -> bool
         requires { IsWidth P }
+        ensures { result ≡ true → FollowsLink self.old self.new link (event.Beat part.now) }
     {
         let Some(number) = self.recorded.checked_add(1) else {
             return false;
@@ -114,6 +126,7 @@ impl<const W: usize, const P: usize> LinkGuide<W, P> {
         out: &mut Vec<u8>,
     ) -> Result<bool, AllocError>
         requires { IsWidth P }
+        ensures { IfOk result (λ told. told ≡ true → ConvictsPart self.now rule link part.now) }
     {
         let before = out.len();
         let told = tell_conviction(
@@ -131,6 +144,7 @@ impl<const W: usize, const P: usize> LinkGuide<W, P> {
     }
 
     /// Meets a part of the wide beat at fault: appends the evidence if the part breaks this rule, and records it if it doesn't.
+    /// Then the text is of no use.
     pub fn meet_part(
         &mut self,
         rule: Rule,
@@ -139,6 +153,7 @@ impl<const W: usize, const P: usize> LinkGuide<W, P> {
         out: &mut Vec<u8>,
     ) -> Result<Met, AllocError>
         requires { IsWidth P }
+        ensures { IfOk result (MeetsLink self.old self.new rule passing.entry.link part.now) }
     {
         self.allow(passing.link, part)?;
         if self.tell_part(rule, passing.link, part, out)? {
@@ -152,15 +167,25 @@ impl<const W: usize, const P: usize> LinkGuide<W, P> {
     }
 
     /// Appends the line that names the liberties of which each alone would allow every part that was taken.
-    pub fn tell_allowed(&self, alloc: Global, out: &mut Vec<u8>) -> Result<(), AllocError> {
+    pub fn tell_allowed(&self, alloc: Global, out: &mut Vec<u8>) -> Result<(), AllocError>
+        ensures { OnOk result ((more : List ℕ) × (out.new.items ≡ out.old.items ++ more)) }
+    {
         match &self.allowed {
             None => Ok(()),
-            Some(allowed) => allowed.tell(alloc, out),
+            Some(allowed) => {
+                let mut line = Vec::new(alloc);
+                allowed.tell(alloc, &mut line)?;
+                out.extend_from_slice(&line)
+            }
         }
     }
 
     /// Appends the grounds for a commit of a link without a cache. Returns true if it is of the recorded link.
-    pub fn tell_commit(&self, link: Link, out: &mut Vec<u8>) -> Result<bool, AllocError> {
+    pub fn tell_commit(&self, link: Link, out: &mut Vec<u8>) -> Result<bool, AllocError>
+        ensures { IfOk result (λ told. told ≡ true → (may : Liberties) (levels : List Level) (e : Events P) →
+            KnowsLinkGuide self.now may levels e →
+            out.new.items ≡ out.old.items ++ no_cache_words (slice_get levels link.0)) }
+    {
         if link != self.recorder.subject.link {
             return Ok(false);
         }

@@ -62,7 +62,7 @@ impl<const W: usize, const P: usize> PendingWideEvents<W, P> {
         let Some(header) = read_wide_marked_for(self.allow, line) else {
             return Ok(false);
         };
-        let beats = PendingBeats::new(self.alloc, &plain_of(&header.narrow))?;
+        let beats = PendingBeats::new(self.alloc, &plain_of(self.alloc, &header.narrow)?)?;
         self.beats = Some(beats);
         Ok(true)
     }

@@ -3,8 +3,8 @@
 ghost use Rattle.std.specs.Prelude.{◌≡◌, ◌++◌, ◌∷◌, [], IfOk, IfSome, List, ℕ, OnOk, true};
 ghost use Rattle.tl_beat.specs.statement.Width.{IsWidth};
 ghost use Rattle.tl_wide.specs.statement.Width.{IsWideWidth, part_width, wide_bytes_of};
-ghost use Rattle.tl_wide_event_story.specs.code.Retelling.{HasReasons, IsBegun, IsSmall, KeepsBegun, ReadsLast};
-ghost use Rattle.tl_wide_event_story.specs.code.Retelling.{ReadsLine, ReadsOn};
+ghost use Rattle.tl_wide_event_story.specs.code.Retelling.{Begins, FollowsOn, HasReasons, IsSmall, ReadsLast};
+ghost use Rattle.tl_wide_event_story.specs.code.Retelling.{ReadsLine, ReadsOn, TakesLine};
 ghost use Rattle.tl_wide_event_story.specs.statement.WideEventsExplained.{front_text};
 
 use crate::guide::Guide;
@@ -58,6 +58,7 @@ fn take_event<const W: usize, const P: usize>(
     requires wide { IsWideWidth W }
     requires width { IsWidth P }
     requires part { P ≡ part_width W }
+    ensures { IfOk result (λ on. on ≡ true → TakesLine guide.old guide.new line.now) }
 {
     match read_wide_event::<W>(line) {
         Err(_) => Ok(false),
@@ -77,13 +78,13 @@ fn append_reasons<const W: usize, const P: usize>(
     requires width { IsWidth P }
     requires part { P ≡ part_width W }
     requires empty { out.old.items ≡ [] }
-    ensures { IfOk result (λ told. told ≡ true → HasReasons W fault number line.now out.new.items) }
+    ensures { IfOk result (λ told. told ≡ true → HasReasons guide.old fault number line.now out.new.items) }
 {
     let Ok((link, event)) = read_wide_event::<W>(line) else {
         return Ok(false);
     };
     let mut grounds = Vec::new(guide.alloc);
-    if !guide.tell(number, line, link, &event, &mut grounds)? {
+    if !guide.tell(fault, number, line, link, &event, &mut grounds)? {
         return Ok(false);
     }
     append_front(fault, number, link, &event, out)?;
@@ -96,7 +97,7 @@ impl<const W: usize, const P: usize> WideEventReplay<W, P> {
     fn begin(&self, line: &[u8]) -> Result<Option<Guide<W, P>>, AllocError>
         requires wide { IsWideWidth W }
         requires width { IsWidth P }
-        ensures { IfOk result (λ guide. IfSome guide (λ _. IsBegun W self.now.allow (line.now ∷ []))) }
+        ensures { IfOk result (λ guide. IfSome guide (Begins self.now.allow line.now)) }
     {
         let Some(header) = read_wide_marked_for(self.allow, line) else {
             return Ok(None);
@@ -118,7 +119,7 @@ impl<const W: usize, const P: usize> WideEventReplay<W, P> {
         requires wide { IsWideWidth W }
         requires width { IsWidth P }
         requires part { P ≡ part_width W }
-        ensures { OnOk result (KeepsBegun self.old self.new) }
+        ensures { OnOk result (FollowsOn self.old self.new line.now) }
     {
         let Some(guide) = &mut self.guide else {
             return Ok(());

@@ -1,7 +1,8 @@
 //! An unfinished message on a channel of a link of a wide trace.
 
-ghost use Rattle.std.specs.Prelude.{IsTrue};
+ghost use Rattle.std.specs.Prelude.{◌≡◌, ◌+◌, ◌==◌, IsTrue, OnOk, if◌then◌else◌};
 ghost use Rattle.tl_beat.specs.statement.Width.{IsWidth};
+ghost use Rattle.tl_burst.specs.statement.Messages;
 ghost use Rattle.tl_burst.specs.statement.Part.{is_small};
 
 use std::alloc::{AllocError, Global};
@@ -18,7 +19,9 @@ pub struct Transfer {
 
 impl Transfer {
     /// No message has begun.
-    pub fn new(alloc: Global) -> Self {
+    pub fn new(alloc: Global) -> Self
+        ensures { result.came ≡ 0 }
+    {
         Transfer {
             came: 0,
             begun: Vec::new(alloc),
@@ -29,8 +32,10 @@ impl Transfer {
     pub fn take<const P: usize>(&mut self, words: &[u8], part: &Beat<P>) -> Result<(), AllocError>
         requires width { IsWidth P }
         requires small { IsTrue (is_small part.now) }
+        ensures { OnOk result (self.new.came
+            ≡ (if self.old.came + 1 == Messages.burst_length part.now then 0 else self.old.came + 1)) }
     {
-        let came = self.came.saturating_add(1);
+        let came = self.came.checked_add(1).ok_or(AllocError)?;
         if came == u64::from(burst_length(part)) {
             self.came = 0;
             self.begun.clear();

@@ -25,7 +25,9 @@ use Rattle.tl_wide_event_lines.specs.statement.WideMarkedHeader.{NamesWideMarked
 use Rattle.tl_wide_events.specs.declared.commit.WideCommit.{WideCommit}
 use Rattle.tl_wide_events.specs.declared.commit.WideEvent.{WideEvent}
 use Rattle.tl_wide_events.specs.declared.commit.WideEvent.TheVariants as wide
+use Rattle.tl_wide_events.specs.statement.Narrowed.{WideEvents}
 use Rattle.tl_wide_events.specs.statement.WideEventLine.{SpellsWideEvent}
+use Rattle.tl_wide_event_story.specs.statement.WideGrounds.{AreWideGrounds, AreWideSpelled}
 use Rattle.tl_wide_story.specs.statement.WideExplained.{wide_beat_line}
 
 -- ---- the text
@@ -47,8 +49,8 @@ front_text found n link x = codes "  " ++ (sentence_of found ++ wide_event_text 
 -- ---- the line at fault
 
 -- A line of the input that was read is at fault for the breach of a rule, by the verdict on all its lines. It spells an
--- event, in a trace whose header names links with these liberties and those that are allowed. The reasons begin with the
--- sentence of the rule, and that event, after the number of its line.
+-- event, and the lines before it are a header and those of events. The header names links with these liberties and those
+-- that are allowed. The reasons are the sentence of the rule, that event after the number of its line, and the grounds.
 pub record IsShown (together : Bool) (allow : Liberties) (old new : Option (List ℕ)) (verdict reasons : List ℕ)
     (found : Fault) : Type 0 where
   pub read : List ℕ
@@ -61,7 +63,9 @@ pub record IsShown (together : Bool) (allow : Liberties) (old new : Option (List
   pub named : NamesWideMarked allow header width may links
   pub bytes : ℕ
   pub of_width : wide_bytes_of width ≡ bytes
+  pub trace : WideEvents bytes
   pub before : List (List ℕ)
+  pub are_spelled : AreWideSpelled trace before
   pub line : List ℕ
   pub more : List (List ℕ)
   pub stands : lines_of read ≡ (header ∷ before) ++ line ∷ more
@@ -71,6 +75,7 @@ pub record IsShown (together : Bool) (allow : Liberties) (old new : Option (List
   pub says_line : verdict ≡ fault_text (length before + 2) found
   pub grounds : List ℕ
   pub says_why : reasons ≡ front_text found (length before + 2) link event ++ grounds
+  pub are : AreWideGrounds found may links trace link event grounds
 
 -- The reasons explain a verdict: a breach of a rule is shown, and another fault has its words. Those of a trace without a
 -- fault end with the limits of the verdict.

@@ -28,10 +28,15 @@ pub struct Picture {
     pub corrupt: u8,
 }
 
+/// Whether all bytes are 0. It looks at each of them, so that the compiler can look at many at once.
 fn are_zero(bytes: &[u8]) -> bool
     ensures { result ≡ all_zero bytes.now }
 {
-    bytes.iter().all(|byte| *byte == 0)
+    let mut zero = true;
+    for byte in bytes {
+        zero &= *byte == 0;
+    }
+    zero
 }
 
 fn zero_from(bytes: &[u8], from: usize) -> bool
